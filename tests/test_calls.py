@@ -1,7 +1,7 @@
 """The calls of the crates that take memory, each with each allocation refused in turn.
 
-The program of crates/trials makes each call, reports a refusal, and makes the call again: what it says besides must be
-what it says where nothing is refused. Its trials end with the whole journal and the whole machine."""
+The program of crates/tests_allocation makes each call, reports a refusal, and makes the call again: what it says
+besides must be what it says where nothing is refused. Its trials end with the whole journal and the whole machine."""
 import unittest
 from functools import cache, partial
 
@@ -154,7 +154,7 @@ def served_outcome(how):
     return end, "; ".join(wrong)
 
 
-@unittest.skipUnless(TRIALS.exists(), "crates/trials isn't built; ./check builds it")
+@unittest.skipUnless(TRIALS.exists(), "crates/tests_allocation isn't built; ./check builds it")
 class Calls(ProgramTest):
     """Each call with ample memory, and with each growth that it asks for refused once."""
 

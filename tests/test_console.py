@@ -220,7 +220,7 @@ class Bounds(ProgramTest):
         self.check("it has grown before", "" if 0 < grown < MOST_ENTRIES else f"by {grown} entries")
 
 
-@unittest.skipUnless(LONE.exists(), "crates/lone_console isn't built; ./check builds it")
+@unittest.skipUnless(LONE.exists(), "crates/console_program isn't built; ./check builds it")
 class ConsoleAlone(ProgramTest):
     """The console alone, which the launcher runs where the whole program isn't there: it does what the program does."""
 

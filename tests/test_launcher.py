@@ -197,7 +197,7 @@ class Building(ProgramTest):
 
     def test_a_console_alone(self):
         """Where nothing is built its crates are proved, and the others when another call needs them."""
-        names = needed_for("lone_console")
+        names = needed_for("console_program")
         first = self.launch("console")
         self.expect("the console", first, 0, "\n", "...")
         self.reports("what is reported", first.stderr.decode(), names, "some minutes")

@@ -31,7 +31,7 @@ class FreshClone(unittest.TestCase):
         folder = tempfile.TemporaryDirectory()
         self.addCleanup(folder.cleanup)
         self.room = Path(folder.name)
-        for name in ("ibm1401", "crates.txt", "tests/help.txt", "crates/arguments_1401/src/reading.rt"):
+        for name in ("ibm1401", "crates.txt", "tests/help.txt", "crates/program_arguments/src/reading.rt"):
             (self.room / name).parent.mkdir(parents=True, exist_ok=True)
             shutil.copy(TOP / name, self.room / name)
         (self.room / "bin").mkdir()

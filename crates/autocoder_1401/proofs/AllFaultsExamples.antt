@@ -2,12 +2,12 @@
 use Rattle.std.proofs.Common.{◌≡◌, ℕ, List, [], ◌∷◌, ◌++◌, refl}
 use Rattle.std.specs.Prelude.{codes}
 use Rattle.bcd_1401.specs.Graphic.{graphics}
-use Rattle.source_1401.specs.SourceLine.{columns_of}
-use Rattle.source_1401.specs.Mnemonic.{instructions, assembler_operations}
-use Rattle.source_1401.specs.declared.language.Language.TheVariants.{Plain}
-use Rattle.symbols_1401.specs.Reading.{lines_in}
-use Rattle.symbols_1401.specs.declared.fault.AsmFault.{AsmFault}
-use Rattle.symbols_1401.specs.declared.fault.AsmKind.TheVariants as kinds
+use Rattle.autocoder_statements.specs.SourceLine.{columns_of}
+use Rattle.autocoder_statements.specs.Mnemonic.{instructions, assembler_operations}
+use Rattle.autocoder_statements.specs.declared.language.Language.TheVariants.{Plain}
+use Rattle.autocoder_symbols.specs.Reading.{lines_in}
+use Rattle.autocoder_symbols.specs.declared.fault.AsmFault.{AsmFault}
+use Rattle.autocoder_symbols.specs.declared.fault.AsmKind.TheVariants as kinds
 use Rattle.autocoder_1401.specs.AllFaults.{all_faults}
 
 -- all faults of a source in 4,000 places, with all tables open

@@ -2,17 +2,17 @@
 use Rattle.std.proofs.Common.{◌≡◌, ℕ, List, [], ◌∷◌, ◌++◌, Option, None, Some, refl, sym, ap, ◌∙◌, arith, Ok, inl}
 use Rattle.std.proofs.Common.{inr, All}
 use Rattle.std.proofs.lemmas.List.Elements.{All-nil, All-cons, All-weaker}
-use Rattle.source_1401.specs.declared.language.Language.{Language}
-use Rattle.source_1401.specs.declared.statement.Line.{Line}
-use Rattle.symbols_1401.specs.Known.{declared_at}
-use Rattle.symbols_1401.specs.Symbols.{sites_anywhere}
-use Rattle.symbols_1401.specs.declared.fault.AsmFault.{AsmFault}
-use Rattle.explanations_1401.specs.ToldFaults.{line_faults, first_in, IsThere}
-use Rattle.explanations_1401.specs.OwnFault.{told, nothing_before}
-use Rattle.faults_1401.specs.FirstFault.{first_fault}
-use Rattle.explanations_1401.proofs.ToldFaultsLemmas.{first_of_lines, each_from}
-use Rattle.placing_1401.specs.Values.{first_outside}
-use Rattle.placing_1401.proofs.LawLemmas.{found_outside}
+use Rattle.autocoder_statements.specs.declared.language.Language.{Language}
+use Rattle.autocoder_statements.specs.declared.statement.Line.{Line}
+use Rattle.autocoder_symbols.specs.Known.{declared_at}
+use Rattle.autocoder_symbols.specs.Symbols.{sites_anywhere}
+use Rattle.autocoder_symbols.specs.declared.fault.AsmFault.{AsmFault}
+use Rattle.autocoder_diagnostics.specs.ToldFaults.{line_faults, first_in, IsThere}
+use Rattle.autocoder_diagnostics.specs.OwnFault.{told, nothing_before}
+use Rattle.autocoder_faults.specs.FirstFault.{first_fault}
+use Rattle.autocoder_diagnostics.proofs.ToldFaultsLemmas.{first_of_lines, each_from}
+use Rattle.autocoder_placing.specs.Values.{first_outside}
+use Rattle.autocoder_placing.proofs.LawLemmas.{found_outside}
 use Rattle.autocoder_1401.specs.AllFaults.{or_outside, all_faults, fault_in, IsTold}
 use Rattle.autocoder_1401.specs.Assembly.{fault_or, unless_fault}
 

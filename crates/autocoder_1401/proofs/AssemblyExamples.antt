@@ -4,15 +4,17 @@ use Rattle.std.specs.Prelude.{codes}
 use Rattle.std.specs.Fmt.{digits}
 use Rattle.bcd_1401.specs.Graphic.{graphics}
 use Rattle.bcd_1401.specs.declared.cell.Cell.{Cell}
-use Rattle.source_1401.specs.SourceLine.{columns_of}
-use Rattle.source_1401.specs.Mnemonic.{instructions, assembler_operations}
-use Rattle.source_1401.specs.declared.language.Language.TheVariants.{Plain}
-use Rattle.symbols_1401.specs.declared.fault.AsmFault.{AsmFault}
-use Rattle.symbols_1401.specs.declared.fault.AsmKind.TheVariants as kinds
-use Rattle.placing_1401.specs.Cells.{plain, marked}
-use Rattle.placing_1401.specs.Segments.{cut}
-use Rattle.listing_1401.specs.Listing.{number_text, address_text, characters_text, without_last_blanks, listing_line}
-use Rattle.listing_1401.specs.Listing.{spelling, literal_spelling, base_spelling, adjustment_spelling, index_spelling}
+use Rattle.autocoder_statements.specs.SourceLine.{columns_of}
+use Rattle.autocoder_statements.specs.Mnemonic.{instructions, assembler_operations}
+use Rattle.autocoder_statements.specs.declared.language.Language.TheVariants.{Plain}
+use Rattle.autocoder_symbols.specs.declared.fault.AsmFault.{AsmFault}
+use Rattle.autocoder_symbols.specs.declared.fault.AsmKind.TheVariants as kinds
+use Rattle.autocoder_placing.specs.Cells.{plain, marked}
+use Rattle.autocoder_placing.specs.Segments.{cut}
+use Rattle.autocoder_listing.specs.Listing.{number_text, address_text, characters_text, without_last_blanks}
+use Rattle.autocoder_listing.specs.Listing.{listing_line}
+use Rattle.autocoder_listing.specs.Listing.{spelling, literal_spelling, base_spelling, adjustment_spelling}
+use Rattle.autocoder_listing.specs.Listing.{index_spelling}
 use Rattle.autocoder_1401.specs.Assembly.{assembly_in}
 use Rattle.autocoder_1401.specs.declared.assembly.Assembly.{Assembly}
 

@@ -1,18 +1,18 @@
 -- The answer of the assembler, put together of what its passes answer.
 use Rattle.std.proofs.Common.{◌≡◌, ℕ, List, Option, None, Some, Ok, Err, sym, ap, ◌∙◌, ◌⊎◌, inl, inr}
-use Rattle.image_1401.specs.declared.image.Image.{Image}
-use Rattle.source_1401.specs.SourceLine.{lines_of}
-use Rattle.source_1401.specs.declared.language.Language.{Language}
-use Rattle.source_1401.specs.declared.statement.Line.{Line}
-use Rattle.symbols_1401.specs.Reading.{lines_in}
-use Rattle.symbols_1401.specs.Fault.{IsMemory}
-use Rattle.symbols_1401.specs.declared.fault.AsmFault.{AsmFault}
-use Rattle.faults_1401.specs.FirstFault.{first_fault}
-use Rattle.placing_1401.specs.PlacedImage.{image_of}
-use Rattle.placing_1401.specs.Values.{first_outside}
-use Rattle.placing_1401.specs.PlacementLaws.{IsPlacedInTurn}
-use Rattle.placing_1401.proofs.PlacementLawLemmas
-use Rattle.listing_1401.specs.Listing.{listing_with}
+use Rattle.machine_image.specs.declared.image.Image.{Image}
+use Rattle.autocoder_statements.specs.SourceLine.{lines_of}
+use Rattle.autocoder_statements.specs.declared.language.Language.{Language}
+use Rattle.autocoder_statements.specs.declared.statement.Line.{Line}
+use Rattle.autocoder_symbols.specs.Reading.{lines_in}
+use Rattle.autocoder_symbols.specs.Fault.{IsMemory}
+use Rattle.autocoder_symbols.specs.declared.fault.AsmFault.{AsmFault}
+use Rattle.autocoder_faults.specs.FirstFault.{first_fault}
+use Rattle.autocoder_placing.specs.PlacedImage.{image_of}
+use Rattle.autocoder_placing.specs.Values.{first_outside}
+use Rattle.autocoder_placing.specs.PlacementLaws.{IsPlacedInTurn}
+use Rattle.autocoder_placing.proofs.PlacementLawLemmas
+use Rattle.autocoder_listing.specs.Listing.{listing_with}
 use Rattle.autocoder_1401.specs.Assembly.{assembly_with, assembly_in, with_listing, fault_or, unless_fault}
 use Rattle.autocoder_1401.specs.declared.assembly.Assembly.{Assembly}
 

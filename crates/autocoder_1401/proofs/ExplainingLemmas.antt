@@ -1,14 +1,14 @@
 -- What is explained of a source is what is told.
 use Rattle.std.proofs.Common.{◌≡◌, ℕ, List, [], ◌∷◌, ◌++◌, Option, None, Some, refl, sym, ap, ◌∙◌}
-use Rattle.source_1401.specs.Context.{lines_said}
-use Rattle.source_1401.specs.declared.language.Language.{Language}
-use Rattle.symbols_1401.specs.declared.fault.AsmFault.{AsmFault}
-use Rattle.explanations_1401.specs.Explanation.{whole_line, explained_lines, faults_of}
-use Rattle.explanations_1401.specs.OwnFault.{told}
-use Rattle.explanations_1401.specs.declared.explanation.Cause.TheVariants as causes
-use Rattle.explanations_1401.specs.declared.explanation.Explanation.{Explanation}
-use Rattle.explanations_1401.proofs.ExplanationLemmas.{told_lines, none_told}
-use Rattle.placing_1401.specs.Values.{first_outside}
+use Rattle.autocoder_statements.specs.Context.{lines_said}
+use Rattle.autocoder_statements.specs.declared.language.Language.{Language}
+use Rattle.autocoder_symbols.specs.declared.fault.AsmFault.{AsmFault}
+use Rattle.autocoder_diagnostics.specs.Explanation.{whole_line, explained_lines, faults_of}
+use Rattle.autocoder_diagnostics.specs.OwnFault.{told}
+use Rattle.autocoder_diagnostics.specs.declared.explanation.Cause.TheVariants as causes
+use Rattle.autocoder_diagnostics.specs.declared.explanation.Explanation.{Explanation}
+use Rattle.autocoder_diagnostics.proofs.ExplanationLemmas.{told_lines, none_told}
+use Rattle.autocoder_placing.specs.Values.{first_outside}
 use Rattle.autocoder_1401.specs.AllFaults.{or_outside, all_faults, fault_in}
 use Rattle.autocoder_1401.specs.Assembly.{unless_fault}
 use Rattle.autocoder_1401.specs.Explaining.{or_outside_explained, all_explained}

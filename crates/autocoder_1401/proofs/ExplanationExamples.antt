@@ -2,15 +2,15 @@
 use Rattle.std.proofs.Common.{◌≡◌, ℕ, List, [], ◌∷◌, Some, refl}
 use Rattle.std.specs.Prelude.{codes}
 use Rattle.bcd_1401.specs.Graphic.{graphics}
-use Rattle.source_1401.specs.Flaw.{stretch}
-use Rattle.source_1401.specs.Mnemonic.{instructions, assembler_operations}
-use Rattle.source_1401.specs.SourceLine.{columns_of, lines_of}
-use Rattle.source_1401.specs.declared.language.Language.TheVariants.{Plain}
-use Rattle.symbols_1401.specs.declared.fault.AsmKind.{AsmKind}
-use Rattle.symbols_1401.specs.declared.fault.AsmKind.TheVariants as kinds
-use Rattle.explanations_1401.specs.declared.explanation.Cause.{Cause}
-use Rattle.explanations_1401.specs.declared.explanation.Cause.TheVariants as causes
-use Rattle.explanations_1401.specs.declared.explanation.Explanation.{Explanation}
+use Rattle.autocoder_statements.specs.Flaw.{stretch}
+use Rattle.autocoder_statements.specs.Mnemonic.{instructions, assembler_operations}
+use Rattle.autocoder_statements.specs.SourceLine.{columns_of, lines_of}
+use Rattle.autocoder_statements.specs.declared.language.Language.TheVariants.{Plain}
+use Rattle.autocoder_symbols.specs.declared.fault.AsmKind.{AsmKind}
+use Rattle.autocoder_symbols.specs.declared.fault.AsmKind.TheVariants as kinds
+use Rattle.autocoder_diagnostics.specs.declared.explanation.Cause.{Cause}
+use Rattle.autocoder_diagnostics.specs.declared.explanation.Cause.TheVariants as causes
+use Rattle.autocoder_diagnostics.specs.declared.explanation.Explanation.{Explanation}
 use Rattle.autocoder_1401.specs.Explaining.{all_explained}
 
 -- the faults of a source in 4,000 places, each with what is wrong, with all tables open

@@ -6,26 +6,27 @@ use Rattle.std.specs.List.{flat_map}
 use Rattle.std.specs.Str.{byte}
 use Rattle.bcd_1401.specs.Graphic.{graphics}
 use Rattle.bcd_1401.specs.declared.cell.Cell.{Cell}
-use Rattle.image_1401.specs.declared.image.Image.{Image}
-use Rattle.image_1401.specs.declared.image.Segment.{Segment}
-use Rattle.source_1401.specs.Flaw.{stretch}
-use Rattle.source_1401.specs.Heading.{system_cards}
-use Rattle.source_1401.specs.Language.{wider_line}
-use Rattle.source_1401.specs.LanguageFlaw.{wider_columns}
-use Rattle.source_1401.specs.Mnemonic.{instructions, assembler_operations}
-use Rattle.source_1401.specs.SourceLine.{columns_of, lines_of}
-use Rattle.source_1401.specs.WideMnemonic.{wide_instructions}
-use Rattle.source_1401.specs.WideOperation.{wide_operations}
-use Rattle.source_1401.specs.WideStatement.{wide_line_with}
-use Rattle.source_1401.specs.declared.language.Language.TheVariants.{Ibm}
-use Rattle.symbols_1401.specs.declared.fault.AsmFault.{AsmFault}
-use Rattle.symbols_1401.specs.declared.fault.AsmKind.TheVariants as kinds
-use Rattle.explanations_1401.specs.declared.explanation.Cause.TheVariants as causes
-use Rattle.explanations_1401.specs.declared.explanation.Explanation.{Explanation}
-use Rattle.placing_1401.specs.Placement.{next_hundred}
-use Rattle.listing_1401.specs.Listing.{graphic_of, number_text, address_text, characters_text, without_last_blanks}
-use Rattle.listing_1401.specs.Listing.{listing_line, spelling, literal_spelling, base_spelling, adjustment_spelling}
-use Rattle.listing_1401.specs.Listing.{index_spelling}
+use Rattle.machine_image.specs.declared.image.Image.{Image}
+use Rattle.machine_image.specs.declared.image.Segment.{Segment}
+use Rattle.autocoder_statements.specs.Flaw.{stretch}
+use Rattle.autocoder_statements.specs.Heading.{system_cards}
+use Rattle.autocoder_statements.specs.Language.{wider_line}
+use Rattle.autocoder_statements.specs.LanguageFlaw.{wider_columns}
+use Rattle.autocoder_statements.specs.Mnemonic.{instructions, assembler_operations}
+use Rattle.autocoder_statements.specs.SourceLine.{columns_of, lines_of}
+use Rattle.autocoder_statements.specs.WideMnemonic.{wide_instructions}
+use Rattle.autocoder_statements.specs.WideOperation.{wide_operations}
+use Rattle.autocoder_statements.specs.WideStatement.{wide_line_with}
+use Rattle.autocoder_statements.specs.declared.language.Language.TheVariants.{Ibm}
+use Rattle.autocoder_symbols.specs.declared.fault.AsmFault.{AsmFault}
+use Rattle.autocoder_symbols.specs.declared.fault.AsmKind.TheVariants as kinds
+use Rattle.autocoder_diagnostics.specs.declared.explanation.Cause.TheVariants as causes
+use Rattle.autocoder_diagnostics.specs.declared.explanation.Explanation.{Explanation}
+use Rattle.autocoder_placing.specs.Placement.{next_hundred}
+use Rattle.autocoder_listing.specs.Listing.{graphic_of, number_text, address_text, characters_text, without_last_blanks}
+use Rattle.autocoder_listing.specs.Listing.{listing_line, spelling, literal_spelling, base_spelling}
+use Rattle.autocoder_listing.specs.Listing.{adjustment_spelling}
+use Rattle.autocoder_listing.specs.Listing.{index_spelling}
 use Rattle.autocoder_1401.specs.Assembly.{assembly_in}
 use Rattle.autocoder_1401.specs.Explaining.{all_explained}
 use Rattle.autocoder_1401.specs.declared.assembly.Assembly.{Assembly}

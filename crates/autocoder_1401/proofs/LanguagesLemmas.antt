@@ -1,13 +1,13 @@
 -- A source that the plain language takes means the same in each language.
 use Rattle.std.proofs.Common.{◌≡◌, ℕ, List, Option, None, Some, Result, Ok, Err, IfOk, refl, sym, ap, ◌∙◌}
-use Rattle.source_1401.specs.declared.language.Language.{Language}
-use Rattle.source_1401.specs.declared.language.Language.TheVariants.{Plain}
-use Rattle.source_1401.specs.declared.statement.Line.{Line}
-use Rattle.symbols_1401.specs.Reading.{lines_in}
-use Rattle.symbols_1401.specs.declared.fault.AsmFault.{AsmFault}
-use Rattle.faults_1401.specs.FirstFault.{first_fault}
-use Rattle.faults_1401.proofs.SoundLemmas.{lines_alike, clean_in_each}
-use Rattle.placing_1401.specs.Values.{first_outside}
+use Rattle.autocoder_statements.specs.declared.language.Language.{Language}
+use Rattle.autocoder_statements.specs.declared.language.Language.TheVariants.{Plain}
+use Rattle.autocoder_statements.specs.declared.statement.Line.{Line}
+use Rattle.autocoder_symbols.specs.Reading.{lines_in}
+use Rattle.autocoder_symbols.specs.declared.fault.AsmFault.{AsmFault}
+use Rattle.autocoder_faults.specs.FirstFault.{first_fault}
+use Rattle.autocoder_faults.proofs.SoundLemmas.{lines_alike, clean_in_each}
+use Rattle.autocoder_placing.specs.Values.{first_outside}
 use Rattle.autocoder_1401.specs.Assembly.{assembly_with, assembly_in, fault_or, unless_fault}
 use Rattle.autocoder_1401.specs.Languages.{MeansTheSame, AgreesWithPlain}
 use Rattle.autocoder_1401.specs.declared.assembly.Assembly.{Assembly}

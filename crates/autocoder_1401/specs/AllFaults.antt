@@ -1,13 +1,13 @@
 -- All faults of a source, but for those that only follow from one told before (own).
 use Rattle.std.specs.Prelude.{◌≡◌, ℕ, ◌⊎◌, List, [], ◌∷◌, Option, Some, None, Result, Ok, Err}
-use Rattle.source_1401.specs.declared.language.Language.{Language}
-use Rattle.source_1401.specs.declared.statement.Line.{Line}
-use Rattle.symbols_1401.specs.Known.{declared_at}
-use Rattle.symbols_1401.specs.declared.fault.AsmFault.{AsmFault}
-use Rattle.faults_1401.specs.FirstFault.{first_fault}
-use Rattle.explanations_1401.specs.ToldFaults.{line_faults, IsThere}
-use Rattle.placing_1401.specs.Laws.{IsFirstOutside}
-use Rattle.placing_1401.specs.Values.{first_outside}
+use Rattle.autocoder_statements.specs.declared.language.Language.{Language}
+use Rattle.autocoder_statements.specs.declared.statement.Line.{Line}
+use Rattle.autocoder_symbols.specs.Known.{declared_at}
+use Rattle.autocoder_symbols.specs.declared.fault.AsmFault.{AsmFault}
+use Rattle.autocoder_faults.specs.FirstFault.{first_fault}
+use Rattle.autocoder_diagnostics.specs.ToldFaults.{line_faults, IsThere}
+use Rattle.autocoder_placing.specs.Laws.{IsFirstOutside}
+use Rattle.autocoder_placing.specs.Values.{first_outside}
 
 -- the faults of lines; of lines without any, the first of which something isn't in core
 abbrev pub or_outside : List AsmFault → Option AsmFault → List AsmFault

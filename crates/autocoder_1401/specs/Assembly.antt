@@ -1,17 +1,17 @@
 -- The answer of the assembler, memory aside (Autocoder, "Assembler Control").
 use Rattle.std.specs.Prelude.{◌⊎◌, ℕ, List, Option, None, Some, Result, Ok, Err}
-use Rattle.image_1401.specs.declared.image.Image.{Image}
-use Rattle.source_1401.specs.SourceLine.{lines_of}
-use Rattle.source_1401.specs.declared.language.Language.{Language}
-use Rattle.source_1401.specs.declared.statement.Line.{Line}
-use Rattle.symbols_1401.specs.Known.{declared_at}
-use Rattle.symbols_1401.specs.Reading.{lines_in}
-use Rattle.symbols_1401.specs.declared.fault.AsmFault.{AsmFault}
-use Rattle.faults_1401.specs.FirstFault.{first_fault, IsFaultless, IsFirstFault}
-use Rattle.placing_1401.specs.Laws.{IsFirstOutside}
-use Rattle.placing_1401.specs.Values.{first_outside}
-use Rattle.placing_1401.specs.PlacedImage.{image_of}
-use Rattle.listing_1401.specs.Listing.{listing_with, listing_of}
+use Rattle.machine_image.specs.declared.image.Image.{Image}
+use Rattle.autocoder_statements.specs.SourceLine.{lines_of}
+use Rattle.autocoder_statements.specs.declared.language.Language.{Language}
+use Rattle.autocoder_statements.specs.declared.statement.Line.{Line}
+use Rattle.autocoder_symbols.specs.Known.{declared_at}
+use Rattle.autocoder_symbols.specs.Reading.{lines_in}
+use Rattle.autocoder_symbols.specs.declared.fault.AsmFault.{AsmFault}
+use Rattle.autocoder_faults.specs.FirstFault.{first_fault, IsFaultless, IsFirstFault}
+use Rattle.autocoder_placing.specs.Laws.{IsFirstOutside}
+use Rattle.autocoder_placing.specs.Values.{first_outside}
+use Rattle.autocoder_placing.specs.PlacedImage.{image_of}
+use Rattle.autocoder_listing.specs.Listing.{listing_with, listing_of}
 use Rattle.autocoder_1401.specs.declared.assembly.Assembly.{Assembly}
 
 -- the image and the listing of lines without a fault, of which this is the source

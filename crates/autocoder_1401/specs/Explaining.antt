@@ -1,12 +1,12 @@
 -- All faults of a source, each with what is wrong (own).
 use Rattle.std.specs.Prelude.{ℕ, List, [], ◌∷◌, Option, None, Some}
-use Rattle.source_1401.specs.Context.{lines_said}
-use Rattle.source_1401.specs.declared.language.Language.{Language}
-use Rattle.symbols_1401.specs.declared.fault.AsmFault.{AsmFault}
-use Rattle.explanations_1401.specs.Explanation.{whole_line, explained_lines}
-use Rattle.explanations_1401.specs.declared.explanation.Cause.TheVariants as causes
-use Rattle.explanations_1401.specs.declared.explanation.Explanation.{Explanation}
-use Rattle.placing_1401.specs.Values.{first_outside}
+use Rattle.autocoder_statements.specs.Context.{lines_said}
+use Rattle.autocoder_statements.specs.declared.language.Language.{Language}
+use Rattle.autocoder_symbols.specs.declared.fault.AsmFault.{AsmFault}
+use Rattle.autocoder_diagnostics.specs.Explanation.{whole_line, explained_lines}
+use Rattle.autocoder_diagnostics.specs.declared.explanation.Cause.TheVariants as causes
+use Rattle.autocoder_diagnostics.specs.declared.explanation.Explanation.{Explanation}
+use Rattle.autocoder_placing.specs.Values.{first_outside}
 
 -- the faults of lines; of lines without any, the first of which something isn't in core
 abbrev pub or_outside_explained : List Explanation → Option AsmFault → List Explanation

@@ -1,9 +1,9 @@
 -- What a source means that the plain language takes (own).
 use Rattle.std.specs.Prelude.{◌≡◌, ℕ, true, List, Ok, IfOk}
-use Rattle.source_1401.specs.Language.{cuts_no_text}
-use Rattle.source_1401.specs.declared.language.Language.{Language}
-use Rattle.source_1401.specs.declared.language.Language.TheVariants.{Plain}
-use Rattle.symbols_1401.specs.Reading.{lines_in}
+use Rattle.autocoder_statements.specs.Language.{cuts_no_text}
+use Rattle.autocoder_statements.specs.declared.language.Language.{Language}
+use Rattle.autocoder_statements.specs.declared.language.Language.TheVariants.{Plain}
+use Rattle.autocoder_symbols.specs.Reading.{lines_in}
 use Rattle.autocoder_1401.specs.Assembly.{assembly_in}
 use Rattle.autocoder_1401.specs.declared.assembly.Assembly.{Assembly}
 

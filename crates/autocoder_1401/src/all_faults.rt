@@ -1,17 +1,17 @@
 //! All faults of a source, but for those that only follow from one told before.
 ghost use Rattle.std.specs.Prelude.{◌≡◌, ◌<◌, All, IfOk, IfErr, OnOk};
-ghost use Rattle.symbols_1401.specs.Reading.{lines_in};
-ghost use Rattle.symbols_1401.specs.Fault.{IsMemory};
-ghost use Rattle.explanations_1401.specs.ToldFaults.{line_faults, first_in};
+ghost use Rattle.autocoder_symbols.specs.Reading.{lines_in};
+ghost use Rattle.autocoder_symbols.specs.Fault.{IsMemory};
+ghost use Rattle.autocoder_diagnostics.specs.ToldFaults.{line_faults, first_in};
 ghost use Rattle.autocoder_1401.specs.AllFaults.{all_faults, fault_in, IsTold};
 ghost use Rattle.autocoder_1401.specs.Assembly.{assembly_in};
 ghost use Rattle.autocoder_1401.specs.Languages.{AgreesWithPlain};
 
 use crate::assembly::assemble_image;
-use explanations_1401::source_faults;
-use source_1401::Language;
+use autocoder_diagnostics::source_faults;
+use autocoder_statements::Language;
+use autocoder_symbols::{AsmFault, AsmKind};
 use std::alloc::Global;
-use symbols_1401::{AsmFault, AsmKind};
 
 /// The fault that the assembler tells.
 pub(crate) fn fault_of(

@@ -1,32 +1,32 @@
 //! The passes of the assembler, in their order.
 ghost use Rattle.std.specs.Prelude.{◌≡◌, ◌<◌, ◌^◌, ◌⊎◌, length, None, Some, true, IfOk, IfErr, OnOk};
 ghost use Rattle.core_1401.specs.Storage.{is_core_size};
-ghost use Rattle.image_1401.specs.Image.{IsInCore};
-ghost use Rattle.source_1401.specs.SourceLine.{lines_of};
-ghost use Rattle.symbols_1401.specs.Chains.{chains_of};
-ghost use Rattle.symbols_1401.specs.Fault.{IsMemory, Gives};
-ghost use Rattle.symbols_1401.specs.Known.{declared_at};
-ghost use Rattle.symbols_1401.specs.Reading.{lines_in};
-ghost use Rattle.symbols_1401.specs.Symbols.{sites_of};
-ghost use Rattle.symbols_1401.specs.View.{chains_view};
-ghost use Rattle.faults_1401.specs.FirstFault.{IsFaultless};
-ghost use Rattle.placing_1401.specs.Placement.{placed};
-ghost use Rattle.placing_1401.specs.Values.{first_outside};
-ghost use Rattle.placing_1401.specs.PlacedImage.{image_of, placed_cells};
-ghost use Rattle.placing_1401.specs.Laws.{IsFirstOutside, IsCutOf};
-ghost use Rattle.placing_1401.specs.PlacementLaws.{IsPlacedInTurn};
-ghost use Rattle.placing_1401.specs.View.{places_of};
+ghost use Rattle.machine_image.specs.Image.{IsInCore};
+ghost use Rattle.autocoder_statements.specs.SourceLine.{lines_of};
+ghost use Rattle.autocoder_symbols.specs.Chains.{chains_of};
+ghost use Rattle.autocoder_symbols.specs.Fault.{IsMemory, Gives};
+ghost use Rattle.autocoder_symbols.specs.Known.{declared_at};
+ghost use Rattle.autocoder_symbols.specs.Reading.{lines_in};
+ghost use Rattle.autocoder_symbols.specs.Symbols.{sites_of};
+ghost use Rattle.autocoder_symbols.specs.View.{chains_view};
+ghost use Rattle.autocoder_faults.specs.FirstFault.{IsFaultless};
+ghost use Rattle.autocoder_placing.specs.Placement.{placed};
+ghost use Rattle.autocoder_placing.specs.Values.{first_outside};
+ghost use Rattle.autocoder_placing.specs.PlacedImage.{image_of, placed_cells};
+ghost use Rattle.autocoder_placing.specs.Laws.{IsFirstOutside, IsCutOf};
+ghost use Rattle.autocoder_placing.specs.PlacementLaws.{IsPlacedInTurn};
+ghost use Rattle.autocoder_placing.specs.View.{places_of};
 ghost use Rattle.autocoder_1401.specs.Assembly.{assembly_with, assembly_in, with_listing, IsFaultOf};
 ghost use Rattle.autocoder_1401.specs.Languages.{AgreesWithPlain};
 
-use faults_1401::FaultlessLines;
-use image_1401::Image;
-use listing_1401::{Listing, make_listing};
-use placed_image_1401::make_image;
-use placing_1401::{Placing, place_all};
-use source_1401::Language;
+use autocoder_faults::FaultlessLines;
+use autocoder_image::make_image;
+use autocoder_listing::{Listing, make_listing};
+use autocoder_placing::{Placing, place_all};
+use autocoder_statements::Language;
+use autocoder_symbols::{AsmFault, Chains, Lines, SourceHashing};
+use machine_image::Image;
 use std::alloc::Global;
-use symbols_1401::{AsmFault, Chains, Lines, SourceHashing};
 
 /// The image and the listing of a source.
 #[derive(Debug, Drop)]

@@ -1,21 +1,21 @@
 //! All faults of a source, each with what is wrong and the columns in which it is.
 ghost use Rattle.std.specs.Prelude.{◌≡◌, ◌<◌, All, IfOk, IfErr, OnOk};
-ghost use Rattle.source_1401.specs.SourceLine.{lines_of};
-ghost use Rattle.symbols_1401.specs.Reading.{lines_in};
-ghost use Rattle.symbols_1401.specs.Fault.{IsMemory};
-ghost use Rattle.explanations_1401.specs.ToldFaults.{first_in};
-ghost use Rattle.explanations_1401.specs.Explanation.{explained_lines, faults_of};
-ghost use Rattle.explanations_1401.specs.declared.explanation.Cause.TheVariants.{OutOfCore};
+ghost use Rattle.autocoder_statements.specs.SourceLine.{lines_of};
+ghost use Rattle.autocoder_symbols.specs.Reading.{lines_in};
+ghost use Rattle.autocoder_symbols.specs.Fault.{IsMemory};
+ghost use Rattle.autocoder_diagnostics.specs.ToldFaults.{first_in};
+ghost use Rattle.autocoder_diagnostics.specs.Explanation.{explained_lines, faults_of};
+ghost use Rattle.autocoder_diagnostics.specs.declared.explanation.Cause.TheVariants.{OutOfCore};
 ghost use Rattle.autocoder_1401.specs.AllFaults.{all_faults, fault_in, IsTold};
 ghost use Rattle.autocoder_1401.specs.Assembly.{assembly_in};
 ghost use Rattle.autocoder_1401.specs.Explaining.{all_explained};
 ghost use Rattle.autocoder_1401.specs.Languages.{AgreesWithPlain};
 
 use crate::all_faults::fault_of;
-use explanations_1401::{Cause, Explanation, WHOLE_LINE, source_explanations};
-use source_1401::Language;
+use autocoder_diagnostics::{Cause, Explanation, WHOLE_LINE, source_explanations};
+use autocoder_statements::Language;
+use autocoder_symbols::AsmFault;
 use std::alloc::Global;
-use symbols_1401::AsmFault;
 
 /// Adds what isn't in core, if there is no other fault.
 fn add_outside_explained(

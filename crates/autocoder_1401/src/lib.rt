@@ -7,11 +7,11 @@
 //! assemble_in(alloc, Language::Ibm, source, 4_000)?       // the same of a source in the wider language
 //! ```
 //!
-//! The passes are in `assembly`. What they are made of is in crates of its own: `symbols_1401` reads the lines and
-//! follows the chains of EQUs, `faults_1401` looks for the first fault, `explanations_1401` for all of them,
-//! `placing_1401` places lines and makes their cells, `placed_image_1401` makes the image, `listing_1401` what is
-//! printed, and `warnings_1401` reports likely mistakes in a source that assembles. What a source is refused for, and
-//! what is wrong at a fault, is handed on from there; images and their texts from `image_1401`.
+//! The passes are in `assembly`. What they are made of is in crates of its own: `autocoder_symbols` reads the lines and
+//! follows the chains of EQUs, `autocoder_faults` looks for the first fault, `autocoder_diagnostics` for all of them,
+//! `autocoder_placing` places lines and makes their cells, `autocoder_image` makes the image, `autocoder_listing` what
+//! is printed, and `autocoder_warnings` reports likely mistakes in a source that assembles. What a source is refused
+//! for, and what is wrong at a fault, is handed on from there; images and their texts from `machine_image`.
 #![tactic(auto)]
 
 pub mod assembly; // the passes, in their order
@@ -26,14 +26,14 @@ pub mod messages; // faults and warnings as editors read them
 
 pub use all_faults::faults;
 pub use assembly::{Assembly, assemble, assemble_image, assemble_in};
+pub use autocoder_diagnostics::explanation::{Cause, Explanation};
+pub use autocoder_listing::listing::{Listing, ListingLine};
+pub use autocoder_listing::rows::{Row, Rows};
+pub use autocoder_symbols::fault::{AsmFault, AsmKind};
 pub use explaining::explained_faults;
-pub use explanations_1401::explanation::{Cause, Explanation};
-pub use image_1401::{Image, ImageFault, Segment, Segments, read_image, write_image};
 pub use listed::assemble_listing;
-pub use listing_1401::listing::{Listing, ListingLine};
-pub use listing_1401::rows::{Row, Rows};
+pub use machine_image::{Image, ImageFault, Segment, Segments, read_image, write_image};
 pub use messages::{fault_lines, warning_lines};
 pub use rows::{AssemblyRows, assemble_rows};
-pub use symbols_1401::fault::{AsmFault, AsmKind};
 pub use tables::{AssemblyTables, assemble_with_tables};
 pub use warning::{Warning, WarningKind, warnings};

@@ -1,25 +1,25 @@
 //! The text of a source's listing.
 ghost use Rattle.std.specs.Prelude.{◌≡◌, ◌<◌, ◌^◌, ◌⊎◌, length, None, Some, Ok, Err, IfOk, IfErr, OnOk};
-ghost use Rattle.source_1401.specs.SourceLine.{lines_of};
-ghost use Rattle.symbols_1401.specs.Chains.{chains_of};
-ghost use Rattle.symbols_1401.specs.Fault.{IsMemory};
-ghost use Rattle.symbols_1401.specs.Symbols.{sites_of};
-ghost use Rattle.symbols_1401.specs.View.{chains_view};
-ghost use Rattle.placing_1401.specs.Laws.{IsFirstOutside};
-ghost use Rattle.placing_1401.specs.Placement.{placed};
-ghost use Rattle.placing_1401.specs.Values.{first_outside};
-ghost use Rattle.placing_1401.specs.View.{places_of};
-ghost use Rattle.listing_1401.specs.Listing.{listing_of, listing_text, listing_with};
+ghost use Rattle.autocoder_statements.specs.SourceLine.{lines_of};
+ghost use Rattle.autocoder_symbols.specs.Chains.{chains_of};
+ghost use Rattle.autocoder_symbols.specs.Fault.{IsMemory};
+ghost use Rattle.autocoder_symbols.specs.Symbols.{sites_of};
+ghost use Rattle.autocoder_symbols.specs.View.{chains_view};
+ghost use Rattle.autocoder_placing.specs.Laws.{IsFirstOutside};
+ghost use Rattle.autocoder_placing.specs.Placement.{placed};
+ghost use Rattle.autocoder_placing.specs.Values.{first_outside};
+ghost use Rattle.autocoder_placing.specs.View.{places_of};
+ghost use Rattle.autocoder_listing.specs.Listing.{listing_of, listing_text, listing_with};
 ghost use Rattle.autocoder_1401.specs.Assembly.{assembly_in, assembly_of};
 ghost use Rattle.autocoder_1401.specs.Languages.{AgreesWithPlain};
 
-use faults_1401::FaultlessLines;
-use listing_1401::listing_text;
-use placed_image_1401::make_image;
-use placing_1401::{Placing, place_all};
-use source_1401::Language;
+use autocoder_faults::FaultlessLines;
+use autocoder_image::make_image;
+use autocoder_listing::listing_text;
+use autocoder_placing::{Placing, place_all};
+use autocoder_statements::Language;
+use autocoder_symbols::{AsmFault, Chains, Lines, SourceHashing};
 use std::alloc::Global;
-use symbols_1401::{AsmFault, Chains, Lines, SourceHashing};
 
 /// Looks whether all of lines is in core storage of this size, once all is placed.
 fn check_places(

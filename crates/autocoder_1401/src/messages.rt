@@ -1,12 +1,12 @@
 //! The faults and the warnings of a source, as editors read them.
 
 use crate::outside::{Outside, OutsidePart, outside_of};
-use explanations_1401::{Cause, Explanation};
-use source_1401::{LABEL_LENGTH, Language, OperandFlaw, Stretch, split_line};
+use autocoder_diagnostics::{Cause, Explanation};
+use autocoder_statements::{LABEL_LENGTH, Language, OperandFlaw, Stretch, split_line};
+use autocoder_symbols::AsmFault;
+use autocoder_warnings::{Loss, Overlap, Warning, WarningKind};
 use std::alloc::{AllocError, Global};
 use std::str;
-use symbols_1401::AsmFault;
-use warnings_1401::{Loss, Overlap, Warning, WarningKind};
 
 /// How many digits a number has at most that should be where something else is wrong, in this language: a constant has
 /// more in the wider one.

@@ -1,18 +1,18 @@
 //! What of a line isn't in core: which operand, or which of its places, and where that would be.
 ghost use Rattle.std.specs.Prelude.{◌≡◌, false, IfOk, IfErr, IfSome};
-ghost use Rattle.symbols_1401.specs.Chains.{chains_of};
-ghost use Rattle.symbols_1401.specs.Fault.{IsMemory};
-ghost use Rattle.symbols_1401.specs.Symbols.{sites_of};
-ghost use Rattle.symbols_1401.specs.View.{chains_view};
-ghost use Rattle.placing_1401.specs.Values.{is_in_core};
+ghost use Rattle.autocoder_symbols.specs.Chains.{chains_of};
+ghost use Rattle.autocoder_symbols.specs.Fault.{IsMemory};
+ghost use Rattle.autocoder_symbols.specs.Symbols.{sites_of};
+ghost use Rattle.autocoder_symbols.specs.View.{chains_view};
+ghost use Rattle.autocoder_placing.specs.Values.{is_in_core};
 
-use faults_1401::FaultlessLines;
-use placing_1401::{Placing, contents_length, may_name_unit, place_all};
-use source_1401::{
+use autocoder_faults::FaultlessLines;
+use autocoder_placing::{Placing, contents_length, may_name_unit, place_all};
+use autocoder_statements::{
     Address, Addressing, Base, Description, Language, Literal, Next, Operand, OperandField, Point,
 };
+use autocoder_symbols::{AsmFault, Chains, Lines, SourceHashing, checked_sum};
 use std::alloc::Global;
-use symbols_1401::{AsmFault, Chains, Lines, SourceHashing, checked_sum};
 
 /// What of a line isn't in core.
 #[derive(Clone, Copy, Debug, PartialEq, Eq)]

@@ -1,31 +1,31 @@
 //! The image of a source with its listing and its tables as texts.
 ghost use Rattle.std.specs.Prelude.{◌≡◌, ◌<◌, ◌^◌, ◌⊎◌, length, None, Some, IfOk, IfErr, OnOk};
-ghost use Rattle.source_1401.specs.SourceLine.{lines_of};
-ghost use Rattle.symbols_1401.specs.Chains.{chains_of};
-ghost use Rattle.symbols_1401.specs.Fault.{IsMemory, Gives};
-ghost use Rattle.symbols_1401.specs.Reading.{lines_in};
-ghost use Rattle.symbols_1401.specs.Symbols.{sites_of};
-ghost use Rattle.symbols_1401.specs.View.{chains_view};
-ghost use Rattle.placing_1401.specs.Laws.{IsFirstOutside};
-ghost use Rattle.placing_1401.specs.PlacedImage.{image_of};
-ghost use Rattle.placing_1401.specs.Placement.{placed};
-ghost use Rattle.placing_1401.specs.Values.{first_outside};
-ghost use Rattle.placing_1401.specs.View.{places_of};
-ghost use Rattle.listing_1401.specs.CrossReference.{references_text};
-ghost use Rattle.listing_1401.specs.Listing.{listing_of, listing_text, listing_with};
-ghost use Rattle.listing_1401.specs.SymbolTable.{symbols_text};
+ghost use Rattle.autocoder_statements.specs.SourceLine.{lines_of};
+ghost use Rattle.autocoder_symbols.specs.Chains.{chains_of};
+ghost use Rattle.autocoder_symbols.specs.Fault.{IsMemory, Gives};
+ghost use Rattle.autocoder_symbols.specs.Reading.{lines_in};
+ghost use Rattle.autocoder_symbols.specs.Symbols.{sites_of};
+ghost use Rattle.autocoder_symbols.specs.View.{chains_view};
+ghost use Rattle.autocoder_placing.specs.Laws.{IsFirstOutside};
+ghost use Rattle.autocoder_placing.specs.PlacedImage.{image_of};
+ghost use Rattle.autocoder_placing.specs.Placement.{placed};
+ghost use Rattle.autocoder_placing.specs.Values.{first_outside};
+ghost use Rattle.autocoder_placing.specs.View.{places_of};
+ghost use Rattle.autocoder_listing.specs.CrossReference.{references_text};
+ghost use Rattle.autocoder_listing.specs.Listing.{listing_of, listing_text, listing_with};
+ghost use Rattle.autocoder_listing.specs.SymbolTable.{symbols_text};
 ghost use Rattle.autocoder_1401.specs.Assembly.{assembly_in, with_listing};
 ghost use Rattle.autocoder_1401.specs.Languages.{AgreesWithPlain};
 ghost use Rattle.autocoder_1401.specs.declared.tables.AssemblyTables.{AssemblyTables as Made};
 
-use faults_1401::FaultlessLines;
-use image_1401::Image;
-use listing_1401::{Tables, listing_text, make_tables};
-use placed_image_1401::make_image;
-use placing_1401::{Placing, place_all};
-use source_1401::Language;
+use autocoder_faults::FaultlessLines;
+use autocoder_image::make_image;
+use autocoder_listing::{Tables, listing_text, make_tables};
+use autocoder_placing::{Placing, place_all};
+use autocoder_statements::Language;
+use autocoder_symbols::{AsmFault, Chains, Lines, SourceHashing};
+use machine_image::Image;
 use std::alloc::Global;
-use symbols_1401::{AsmFault, Chains, Lines, SourceHashing};
 
 /// The image of a source, with its listing, its symbol table and its cross-reference as texts.
 #[derive(Debug, Drop)]

@@ -1,15 +1,15 @@
 //! What a source without a fault says and hardly means.
 ghost use Rattle.std.specs.Prelude.{◌≡◌, IfOk, IfErr};
-ghost use Rattle.symbols_1401.specs.Reading.{lines_in};
-ghost use Rattle.symbols_1401.specs.Fault.{IsMemory};
-ghost use Rattle.warnings_1401.specs.Warnings.{all_warnings, PlainIsCarriedOut};
+ghost use Rattle.autocoder_symbols.specs.Reading.{lines_in};
+ghost use Rattle.autocoder_symbols.specs.Fault.{IsMemory};
+ghost use Rattle.autocoder_warnings.specs.Warnings.{all_warnings, PlainIsCarriedOut};
 ghost use Rattle.autocoder_1401.specs.Languages.{AgreesWithPlain};
 
-use source_1401::Language;
+use autocoder_statements::Language;
+use autocoder_symbols::AsmFault;
+use autocoder_warnings::source_warnings;
+pub use autocoder_warnings::{Warning, WarningKind};
 use std::alloc::Global;
-use symbols_1401::AsmFault;
-use warnings_1401::source_warnings;
-pub use warnings_1401::{Warning, WarningKind};
 
 /// The warnings of a source in this language for core storage of this size, in the order of its lines, and those of a
 /// line in the order of the kinds. They speak of a source that assembles: in one with a fault they may only follow from

@@ -6,24 +6,24 @@ use Rattle.std.proofs.lemmas.List.Concat.{flat_map-cons}
 use Rattle.std.specs.List.{zip}
 use Rattle.std.specs.Prelude.{Ok, Err}
 use mathlib.Core.List.{IsPrefix}
-use Rattle.operator_1401.specs.declared.answer.Answer.{Answer}
-use Rattle.operator_1401.specs.declared.command.Command.{Command}
-use Rattle.lone_room_1401.specs.declared.entry.SeatedCommand.{SeatedCommand}
-use Rattle.operator_1401.specs.declared.fault.RoomFault.TheVariants.{Memory, JournalFull, NoReading, Unkept}
-use Rattle.lone_room_1401.specs.Journal.{most_entries}
-use Rattle.lone_room_1401.specs.Replay.{pair}
+use Rattle.machine_commands.specs.declared.answer.Answer.{Answer}
+use Rattle.machine_commands.specs.declared.command.Command.{Command}
+use Rattle.room_alone.specs.declared.entry.SeatedCommand.{SeatedCommand}
+use Rattle.machine_commands.specs.declared.fault.RoomFault.TheVariants.{Memory, JournalFull, NoReading, Unkept}
+use Rattle.room_alone.specs.Journal.{most_entries}
+use Rattle.room_alone.specs.Replay.{pair}
 use Rattle.room_1401.specs.Seen.{SeatView}
-use Rattle.text_1401.specs.declared.line.Line.TheVariants as line
-use Rattle.answering_1401.specs.declared.reply.Reply.{Reply}
-use Rattle.answering_1401.specs.declared.reply.Reply.TheVariants as reply
-use Rattle.answering_1401.specs.declared.session_end.SessionEnd.{SessionEnd}
-use Rattle.answering_1401.specs.declared.session_end.SessionEnd.TheVariants as end
-use Rattle.answering_1401.specs.Answering.{AnsweredAll}
+use Rattle.console_text.specs.declared.line.Line.TheVariants as line
+use Rattle.console_lines.specs.declared.reply.Reply.{Reply}
+use Rattle.console_lines.specs.declared.reply.Reply.TheVariants as reply
+use Rattle.console_lines.specs.declared.session_end.SessionEnd.{SessionEnd}
+use Rattle.console_lines.specs.declared.session_end.SessionEnd.TheVariants as end
+use Rattle.console_lines.specs.Answering.{AnsweredAll}
 use Rattle.console_1401.specs.Attended.{Replied, Stand, Between, LineReplied, AllReplied, Attended, carried_in}
 use Rattle.console_1401.specs.Attended.{command_in, answer_in}
-use Rattle.text_1401.specs.ConsoleLine.{Said}
-use Rattle.answering_1401.specs.ReplyText.{bytes_of}
-use Rattle.answering_1401.specs.Session.{HasEnded, SessionDid}
+use Rattle.console_text.specs.ConsoleLine.{Said}
+use Rattle.console_lines.specs.ReplyText.{bytes_of}
+use Rattle.console_lines.specs.Session.{HasEnded, SessionDid}
 use Rattle.console_1401.specs.SeatTurns.{KeptResponds, SeatResponds, LineResponds}
 
 prefix_self : {A : Type 0} (xs : List A) → IsPrefix xs xs

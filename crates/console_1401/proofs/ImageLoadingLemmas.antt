@@ -5,16 +5,16 @@ use Rattle.std.proofs.lemmas.Bool.{and_parts}
 use Rattle.std.proofs.lemmas.List.{length-map}
 use Rattle.std.proofs.Math.Seq.{take-append_seam, take-append-add}
 use Rattle.std.specs.List.{list_all}
-use Rattle.command_1401.specs.CarryOut.{carry_out}
+use Rattle.machine_execution.specs.CarryOut.{carry_out}
 use Rattle.cpu_1401.specs.State.{State}
-use Rattle.image_1401.specs.declared.image.Segment.{Segment}
-use Rattle.image_1401.specs.Image.{is_inside}
-use Rattle.loading_1401.specs.Loading.{deposit_of}
-use Rattle.lone_room_1401.specs.declared.entry.Entry.{Entry}
-use Rattle.operator_1401.specs.declared.answer.Answer.TheVariants.{Done}
-use Rattle.operator_1401.specs.declared.command.Command.{Command}
-use Rattle.operator_1401.specs.declared.command.Command.TheVariants.{Deposit, Examine, Registers, SetI, Switch, Feed}
-use Rattle.operator_1401.specs.declared.command.Command.TheVariants.{LoadKey, Run, TakeLine, TakeCard}
+use Rattle.machine_image.specs.declared.image.Segment.{Segment}
+use Rattle.machine_image.specs.Image.{is_inside}
+use Rattle.machine_loading.specs.Loading.{deposit_of}
+use Rattle.room_alone.specs.declared.entry.Entry.{Entry}
+use Rattle.machine_commands.specs.declared.answer.Answer.TheVariants.{Done}
+use Rattle.machine_commands.specs.declared.command.Command.{Command}
+use Rattle.machine_commands.specs.declared.command.Command.TheVariants.{Deposit, Examine, Registers, SetI, Switch, Feed}
+use Rattle.machine_commands.specs.declared.command.Command.TheVariants.{LoadKey, Run, TakeLine, TakeCard}
 use Rattle.console_1401.specs.ImageLoading.{done_entry, is_within, WentOnByFewer}
 
 -- a command that lies in core storage is done

@@ -3,14 +3,14 @@ use Rattle.std.proofs.Common.{◌≡◌, ℕ, List, [], ◌∷◌, ◌++◌, Opt
 use Rattle.std.proofs.lemmas.List.{append-nil}
 use Rattle.std.specs.Prelude.{Ok, Err}
 use mathlib.Core.List.{IsPrefix}
-use Rattle.operator_1401.specs.declared.command.Command.{Command}
-use Rattle.lone_room_1401.specs.declared.entry.SeatedCommand.{SeatedCommand}
-use Rattle.lone_room_1401.specs.Replay.{pair}
+use Rattle.machine_commands.specs.declared.command.Command.{Command}
+use Rattle.room_alone.specs.declared.entry.SeatedCommand.{SeatedCommand}
+use Rattle.room_alone.specs.Replay.{pair}
 use Rattle.room_1401.specs.Seen.{SeatView}
-use Rattle.text_1401.specs.declared.line.Line.TheVariants as line
-use Rattle.text_1401.specs.ConsoleLine.{Said}
-use Rattle.answering_1401.specs.declared.reply.Reply.{Reply}
-use Rattle.answering_1401.specs.declared.reply.Reply.TheVariants as reply
+use Rattle.console_text.specs.declared.line.Line.TheVariants as line
+use Rattle.console_text.specs.ConsoleLine.{Said}
+use Rattle.console_lines.specs.declared.reply.Reply.{Reply}
+use Rattle.console_lines.specs.declared.reply.Reply.TheVariants as reply
 use Rattle.console_1401.specs.SeatTurns.{CommandResponds, GlanceResponds, KeptResponds, LineResponds, SeatResponds}
 
 same_list : (before after : SeatView) → after ≡ before → IsPrefix before.list after.list

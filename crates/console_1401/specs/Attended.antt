@@ -2,19 +2,19 @@
 use Rattle.std.specs.Prelude.{◌≡◌, ℕ, ◌+◌, ◌<◌, List, [], ◌∷◌, ◌++◌, length, map, Option, None, Some, Ok, Err}
 use Rattle.std.specs.List.{flat_map, zip}
 use mathlib.Core.List.{IsPrefix}
-use Rattle.operator_1401.specs.declared.answer.Answer.{Answer}
-use Rattle.operator_1401.specs.declared.command.Command.{Command}
-use Rattle.lone_room_1401.specs.declared.entry.SeatedCommand.{SeatedCommand}
-use Rattle.operator_1401.specs.declared.fault.RoomFault.{RoomFault}
-use Rattle.operator_1401.specs.declared.fault.RoomFault.TheVariants.{Memory, JournalFull, NoReading, Unkept}
-use Rattle.lone_room_1401.specs.Journal.{most_entries}
-use Rattle.lone_room_1401.specs.Replay.{pair, reply_to, cell_after}
+use Rattle.machine_commands.specs.declared.answer.Answer.{Answer}
+use Rattle.machine_commands.specs.declared.command.Command.{Command}
+use Rattle.room_alone.specs.declared.entry.SeatedCommand.{SeatedCommand}
+use Rattle.machine_commands.specs.declared.fault.RoomFault.{RoomFault}
+use Rattle.machine_commands.specs.declared.fault.RoomFault.TheVariants.{Memory, JournalFull, NoReading, Unkept}
+use Rattle.room_alone.specs.Journal.{most_entries}
+use Rattle.room_alone.specs.Replay.{pair, reply_to, cell_after}
 use Rattle.room_1401.specs.Seen.{SeatView}
-use Rattle.text_1401.specs.declared.line.Line.TheVariants as line
-use Rattle.answering_1401.specs.declared.reply.Reply.{Reply}
-use Rattle.answering_1401.specs.declared.reply.Reply.TheVariants as reply
-use Rattle.text_1401.specs.ConsoleLine.{Said}
-use Rattle.answering_1401.specs.ReplyText.{bytes_of}
+use Rattle.console_text.specs.declared.line.Line.TheVariants as line
+use Rattle.console_lines.specs.declared.reply.Reply.{Reply}
+use Rattle.console_lines.specs.declared.reply.Reply.TheVariants as reply
+use Rattle.console_text.specs.ConsoleLine.{Said}
+use Rattle.console_lines.specs.ReplyText.{bytes_of}
 use Rattle.console_1401.specs.SeatTurns.{GlanceRefused}
 
 -- a line with its reply, which an empty one hasn't

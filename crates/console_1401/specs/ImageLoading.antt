@@ -1,13 +1,13 @@
 -- How a console loads an image (own): it gives the commands that load it, as seat 0, and each is answered `Done`.
 use Rattle.std.specs.Prelude.{◌≡◌, ℕ, ◌+◌, ◌<◌, Bool, false, List, ◌++◌, length, map, take, nat_le, nat_lt}
-use Rattle.image_1401.specs.declared.image.Image.{Image}
-use Rattle.loading_1401.specs.Loading.{load_commands}
-use Rattle.operator_1401.specs.declared.answer.Answer.TheVariants.{Done}
-use Rattle.operator_1401.specs.declared.command.Command.{Command}
-use Rattle.operator_1401.specs.declared.command.Command.TheVariants.{Deposit, Examine, Registers, SetI, Switch, Feed}
-use Rattle.operator_1401.specs.declared.command.Command.TheVariants.{LoadKey, Run, TakeLine, TakeCard}
-use Rattle.lone_room_1401.specs.declared.entry.Entry.{Entry}
-use Rattle.lone_room_1401.specs.Journal.{entry}
+use Rattle.machine_image.specs.declared.image.Image.{Image}
+use Rattle.machine_loading.specs.Loading.{load_commands}
+use Rattle.machine_commands.specs.declared.answer.Answer.TheVariants.{Done}
+use Rattle.machine_commands.specs.declared.command.Command.{Command}
+use Rattle.machine_commands.specs.declared.command.Command.TheVariants.{Deposit, Examine, Registers, SetI, Switch, Feed}
+use Rattle.machine_commands.specs.declared.command.Command.TheVariants.{LoadKey, Run, TakeLine, TakeCard}
+use Rattle.room_alone.specs.declared.entry.Entry.{Entry}
+use Rattle.room_alone.specs.Journal.{entry}
 
 -- a command that the console has given
 abbrev pub done_entry : Command → Entry

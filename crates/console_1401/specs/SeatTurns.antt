@@ -1,20 +1,20 @@
 -- What a line is answered at a seat of a shared room, and what the seat has seen and made then (own).
 use Rattle.std.specs.Prelude.{◌≡◌, ℕ, ◌+◌, ◌<◌, ◌≤◌, List, length, Option, None, Some, Ok, Err}
 use mathlib.Core.List.{IsPrefix}
-use Rattle.operator_1401.specs.declared.command.Command.{Command}
-use Rattle.operator_1401.specs.declared.fault.GlanceFault.{GlanceFault}
-use Rattle.operator_1401.specs.declared.fault.GlanceFault.TheVariants.{Range, Gone}
-use Rattle.operator_1401.specs.declared.answer.Answer.{Answer}
-use Rattle.operator_1401.specs.declared.fault.RoomFault.TheVariants.{Memory, JournalFull, Unkept}
-use Rattle.lone_room_1401.specs.declared.entry.SeatedCommand.{SeatedCommand}
-use Rattle.lone_room_1401.specs.Journal.{most_entries}
-use Rattle.lone_room_1401.specs.Replay.{cell_after}
+use Rattle.machine_commands.specs.declared.command.Command.{Command}
+use Rattle.machine_commands.specs.declared.fault.GlanceFault.{GlanceFault}
+use Rattle.machine_commands.specs.declared.fault.GlanceFault.TheVariants.{Range, Gone}
+use Rattle.machine_commands.specs.declared.answer.Answer.{Answer}
+use Rattle.machine_commands.specs.declared.fault.RoomFault.TheVariants.{Memory, JournalFull, Unkept}
+use Rattle.room_alone.specs.declared.entry.SeatedCommand.{SeatedCommand}
+use Rattle.room_alone.specs.Journal.{most_entries}
+use Rattle.room_alone.specs.Replay.{cell_after}
 use Rattle.room_1401.specs.Seen.{SeatView, Carries}
-use Rattle.text_1401.specs.declared.line.Line.TheVariants as line
-use Rattle.answering_1401.specs.declared.reply.Reply.{Reply}
-use Rattle.answering_1401.specs.declared.reply.Reply.TheVariants as reply
-use Rattle.text_1401.specs.ConsoleLine.{Said}
-use Rattle.answering_1401.specs.ReplyText.{bytes_of}
+use Rattle.console_text.specs.declared.line.Line.TheVariants as line
+use Rattle.console_lines.specs.declared.reply.Reply.{Reply}
+use Rattle.console_lines.specs.declared.reply.Reply.TheVariants as reply
+use Rattle.console_text.specs.ConsoleLine.{Said}
+use Rattle.console_lines.specs.ReplyText.{bytes_of}
 
 -- a command is carried out for the seat, and answered as the sequential machine answers it; or the room takes none, and
 -- the seat has seen no less: a full journal, or one that isn't full if memory is the reason

@@ -1,21 +1,21 @@
 //! A console at a seat of a shared room.
 ghost use Rattle.std.specs.Prelude.{◌≡◌, ◌≢◌, true, false, IsTrue, IfOk, OnErr, None, Some};
 ghost use mathlib.Core.List.{IsPrefix};
-ghost use Rattle.text_1401.specs.ConsoleLine.{said_by};
-ghost use Rattle.answering_1401.specs.Answering.{AnsweredAll};
-ghost use Rattle.answering_1401.specs.Session.{SessionDid};
+ghost use Rattle.console_text.specs.ConsoleLine.{said_by};
+ghost use Rattle.console_lines.specs.Answering.{AnsweredAll};
+ghost use Rattle.console_lines.specs.Session.{SessionDid};
 ghost use Rattle.room_1401.specs.Keeping.{HasFailed, HasKept};
 ghost use Rattle.console_1401.specs.Attended.{Attended};
 ghost use Rattle.console_1401.specs.SeatTurns.{AnswersAtSeat, IsUnanswered, KeptResponds, unkept_reply};
 
 use crate::door::Door;
-use answering_1401::{Reply, Responder, SessionEnd, answer_lines, reply_bytes};
+use bytes_streams::{Sink, Source};
+use console_lines::{Reply, Responder, SessionEnd, answer_lines, reply_bytes};
+use console_text::{Line, LineFault, parse_line};
 use room_1401::{Carried, Keeper, RoomFault, RoomId, Seat, SharedRoom};
 use std::alloc::Global;
 use std::marker::Model;
 use std::sync::Wait;
-use streams_1401::{Sink, Source};
-use text_1401::{Line, LineFault, parse_line};
 use thiserror::Error;
 
 /// Why a line that was carried out has no reply.

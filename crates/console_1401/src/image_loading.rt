@@ -1,14 +1,14 @@
 //! Loading an image.
 ghost use Rattle.std.specs.Prelude.{◌≡◌, ◌++◌, ◌↔◌, ◌∷◌, [], true, map, nat_lt, IfErr, OnOk, OnErr};
 ghost use Rattle.std.specs.List.{list_all};
-ghost use Rattle.image_1401.specs.Image.{is_inside};
-ghost use Rattle.lone_room_1401.specs.Journal.{is_full, refusal_of};
+ghost use Rattle.machine_image.specs.Image.{is_inside};
+ghost use Rattle.room_alone.specs.Journal.{is_full, refusal_of};
 ghost use Rattle.console_1401.specs.ImageLoading.{done_entry, load_entries, is_within, WentOnByFewer};
 
-use image_1401::{Image, LentImage};
-use loading_1401::LoadCommands;
-use lone_room_1401::OWN_SEAT;
+use machine_image::{Image, LentImage};
+use machine_loading::LoadCommands;
 use room_1401::{Command, Room, RoomFault};
+use room_alone::OWN_SEAT;
 
 /// Loads an image: the console deposits each segment in order, and sets the I register to the entry. Each command is
 /// recorded as one of seat 0, answered `Done`.

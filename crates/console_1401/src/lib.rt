@@ -1,4 +1,4 @@
-//! The consoles of the IBM 1401: at a room that one has alone, as `lone_room_1401` has them, and at the seats of a room
+//! The consoles of the IBM 1401: at a room that one has alone, as `room_alone` has them, and at the seats of a room
 //! that operators share; and an image put into a room.
 //!
 //! ```text
@@ -18,11 +18,11 @@ pub mod door;
 pub mod serving;
 
 pub use ahead::ahead_of;
-pub use answering_1401::{
+pub use attending::{Unanswered, answer_line, attend};
+pub use console_lines::{
     Failed, FromReader, Line, LineFault, SessionEnd, Sink, Source, ToWriter, parse_line, reply_text,
 };
-pub use attending::{Unanswered, answer_line, attend};
 pub use door::{Door, OpenDoor};
 pub use image_loading::{put_image, put_lent_image};
-pub use lone_room_1401::session;
+pub use room_alone::session;
 pub use serving::{ServeFault, Served, serve};

@@ -1,20 +1,20 @@
 //! A shared room that listens for its consoles.
 ghost use Rattle.std.specs.Prelude.{◌≡◌, ◌<◌, ◌≤◌, ◌+◌, ◌^◌, length, vec_capacity, vec_len};
-ghost use Rattle.lone_room_1401.specs.Journal.{IsLegal};
+ghost use Rattle.room_alone.specs.Journal.{IsLegal};
 ghost use Rattle.console_1401.specs.Served.{AreAllSeats, CountsConsoles, serve_fault_number};
 
 use crate::ahead::ahead_of;
 use crate::attending::attend;
 use crate::door::Door;
+use bytes_sockets::{Pause, is_gone, linger, shut_down};
+use bytes_streams::{FromReader, ToWriter};
 use room_1401::{Room, RoomId, Seat, SharedRoom};
-use sockets_1401::{Pause, is_gone, linger, shut_down};
 use std::alloc::Global;
 use std::net::{TcpListener, TcpStream};
 use std::sync::Wait;
 use std::thread;
 use std::thread::{JoinHandle, Scope, Threads};
 use std::time::Clock;
-use streams_1401::{FromReader, ToWriter};
 use thiserror::Error;
 
 /// Why a room stopped listening before each of its seats had a console.

@@ -9,7 +9,7 @@ mod FetchedExamples
 pub mod FetchedLemmas
 mod FrameExamples
 pub mod FrameLemmas
-pub mod KeptLemmas
+pub mod DecodeCacheLemmas
 pub mod NeededPlacesLemmas
 mod RegisterExamples
 pub mod RunLemmas

@@ -20,7 +20,7 @@ use Rattle.cpu_1401.specs.Stepped.{stopped}
 use Rattle.cpu_1401.specs.declared.instruction.Instruction.{Instruction}
 use Rattle.machine_operations.specs.declared.operation.Operation.{Operation}
 use Rattle.machine_operations.specs.declared.operation.Operation.TheVariants as op
-use Rattle.panel_1401.specs.declared.stop.Stop.TheVariants as stop
+use Rattle.machine_panel.specs.declared.stop.Stop.TheVariants as stop
 
 -- one of two addresses isn't that of a place
 abbrev Outside : Storage → ℕ → ℕ → Type 0

@@ -5,7 +5,7 @@ pub mod Fetched
 pub mod FieldStep
 pub mod Frame
 pub mod Instruction
-pub mod Kept
+pub mod DecodeCache
 pub mod NeededPlaces
 pub mod RegisterStep
 pub mod Run

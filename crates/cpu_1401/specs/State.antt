@@ -5,7 +5,7 @@ use Rattle.core_1401.specs.Address.{addresses}
 use Rattle.core_1401.specs.Storage.{Storage, blanks}
 use Rattle.devices_1401.specs.Carriage.{form_of, line_of, forms, lines_of_form}
 use Rattle.devices_1401.specs.Devices.{Devices, no_cards, most_held}
-use Rattle.panel_1401.specs.declared.regs.Regs.{Regs}
+use Rattle.machine_panel.specs.declared.regs.Regs.{Regs}
 
 -- storage by address, the I, A and B registers, the indicators, the sense switches A to G, and the devices
 pub record State : Type 0 where

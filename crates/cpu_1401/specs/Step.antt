@@ -14,7 +14,7 @@ use Rattle.fields_1401.specs.Suppress.{suppress_at}
 use Rattle.cpu_1401.specs.declared.instruction.Instruction.{Instruction}
 use Rattle.machine_operations.specs.declared.operation.Operation.{Operation}
 use Rattle.machine_operations.specs.declared.operation.Operation.TheVariants as op
-use Rattle.panel_1401.specs.declared.stop.Stop.TheVariants as stop
+use Rattle.machine_panel.specs.declared.stop.Stop.TheVariants as stop
 use Rattle.cpu_1401.specs.Branch.{after_branch, branch_on_cell, go_on, passes}
 use Rattle.cpu_1401.specs.CardsAndPrinter.{after_write, after_control, after_work}
 use Rattle.cpu_1401.specs.CardsAndPrinter.{punching, reading, reading_and_punching}

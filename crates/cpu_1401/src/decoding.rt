@@ -10,7 +10,7 @@ use crate::decoded::{Address, Decoded, is_ready, source_of};
 use crate::machine::Machine;
 use bcd_1401::Char;
 use machine_operations::{Operation, is_unfitted};
-use panel_1401::Stop;
+use machine_panel::Stop;
 
 impl Machine {
     /// Decodes the instruction at the I register, or says why it can't be carried out.

@@ -11,7 +11,7 @@ use crate::instruction::Instruction;
 use crate::machine::Machine;
 use crate::marking::clear_down_there;
 use fields_1401::{Done, FieldStop, compare_within};
-use panel_1401::Stop;
+use machine_panel::Stop;
 
 impl Machine {
     /// Takes the registers that an operation on fields left, turns the overflow indicator on if a sum was too large,
@@ -87,7 +87,7 @@ impl Machine {
         ensures state { self.new ≡ (after_clear this self.old (clear_down_at self.old.storage this.b)).state }
         ensures size { length self.new.storage ≡ length self.old.storage }
     {
-        let done = match clear_down_there(&mut self.core, &mut self.kept, this.b) {
+        let done = match clear_down_there(&mut self.core, &mut self.cache, this.b) {
             Ok(done) => done,
             Err(stop) => return Some(Stop::from(stop)),
         };

@@ -12,14 +12,14 @@ mod areas;
 mod loading;
 pub mod machine;
 
-// an instruction: its cells, those that it is decoded from, and the decoded ones that are kept
+// an instruction: its cells, those that it is decoded from, and the decoded ones that are cached
 mod cache_entry;
 mod condition;
+mod decode_cache;
 mod decoded;
 mod decoding;
 pub mod fetched;
 mod instruction;
-mod kept;
 
 // a step, and a run of them
 pub mod frame;
@@ -37,5 +37,5 @@ mod register_steps;
 pub use fetched::{InstructionCells, instruction_cells};
 pub use frame::step_law;
 pub use machine::Machine;
-pub use panel_1401::{Regs, Stop, SwitchName};
+pub use machine_panel::{Regs, Stop, SwitchName};
 pub use running::Ran;

@@ -37,7 +37,7 @@ impl Machine {
         self.core.clear(80, 80);
         put_chars(&mut self.core, READ_AREA, &card.0);
         self.core.put_mark(READ_AREA, true);
-        self.kept.forget_down(BEHIND_READ_AREA - 1, READ_AREA - 1);
+        self.cache.forget_down(BEHIND_READ_AREA - 1, READ_AREA - 1);
         self.i = READ_AREA;
         Ok(())
     }

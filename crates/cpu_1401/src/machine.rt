@@ -4,11 +4,11 @@ ghost use Rattle.core_1401.specs.Storage.{is_core_size};
 ghost use Rattle.cpu_1401.specs.State.{IsInRange, power_on, regs_of, with_cell, with_switch};
 ghost use Rattle.devices_1401.specs.Movement.{pending_of};
 
-use crate::kept::DecodeCache;
+use crate::decode_cache::DecodeCache;
 use bcd_1401::Cell;
 use core_1401::{Core, CoreFault};
 use devices_1401::{Devices, Movement};
-use panel_1401::Regs;
+use machine_panel::Regs;
 use std::alloc::Global;
 use std::marker::Model;
 
@@ -16,7 +16,7 @@ use std::marker::Model;
 #[derive(Drop)]
 pub struct Machine {
     pub(crate) core: Core,
-    pub(crate) kept: DecodeCache,
+    pub(crate) cache: DecodeCache,
     // The I register is between the others: beside each other they would be computed as one pair, in more
     // instructions.
     pub(crate) a: u16,
@@ -33,7 +33,7 @@ pub struct Machine {
 impl Model for Machine {
     ghost use Rattle.std.specs.Prelude.{◌<◌, ◌≤◌, length};
     ghost use Rattle.core_1401.specs.Address.{addresses};
-    ghost use Rattle.cpu_1401.specs.Kept.{IsCurrent};
+    ghost use Rattle.cpu_1401.specs.DecodeCache.{IsCurrent};
     ghost use Rattle.cpu_1401.specs.State.{State};
     ghost use Rattle.fields_1401.specs.Places.{marks_of};
 
@@ -53,8 +53,8 @@ impl Model for Machine {
     } };
 
     ghost invariant = { λ m.
-        (m.i < addresses) × (m.a < addresses) × (m.b < addresses) × (m.kept.size ≤ length m.core)
-        × IsCurrent m.kept.entries (marks_of m.core) };
+        (m.i < addresses) × (m.a < addresses) × (m.b < addresses) × (m.cache.size ≤ length m.core)
+        × IsCurrent m.cache.entries (marks_of m.core) };
 }
 
 impl Machine {
@@ -71,12 +71,12 @@ impl Machine {
         let Ok(devices) = Devices::power_on(alloc) else {
             return Err(CoreFault::Memory);
         };
-        let Ok(kept) = DecodeCache::none(alloc, size) else {
+        let Ok(cache) = DecodeCache::none(alloc, size) else {
             return Err(CoreFault::Memory);
         };
         Ok(Machine {
             core,
-            kept,
+            cache,
             i: 0,
             a: 0,
             b: 0,
@@ -150,7 +150,7 @@ impl Machine {
         ensures size { length self.new.storage ≡ length self.old.storage }
     {
         prove!(at < self.core.size());
-        self.kept.forget_at(at);
+        self.cache.forget_at(at);
         self.core.put_char(at, cell.char);
         self.core.put_mark(at, cell.mark);
     }

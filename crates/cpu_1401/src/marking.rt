@@ -1,8 +1,8 @@
-//! Operations that change word marks: each forgets what is kept of the instructions there.
+//! Operations that change word marks: each forgets the cached instructions there.
 ghost use Rattle.std.specs.Prelude.{◌≡◌, ◌<◌, ◌≤◌, IfOk, IfSome, Ok, length};
 ghost use Rattle.core_1401.specs.Address.{addresses};
 ghost use Rattle.core_1401.specs.Field.{field_len_of};
-ghost use Rattle.cpu_1401.specs.Kept.{IsApart, IsCurrent, IsPart, lowest_written};
+ghost use Rattle.cpu_1401.specs.DecodeCache.{IsApart, IsCurrent, IsPart, lowest_written};
 ghost use Rattle.fields_1401.specs.Edit.{edit_at};
 ghost use Rattle.fields_1401.specs.Load.{load_at};
 ghost use Rattle.fields_1401.specs.Marks.{clear_down_at, clear_marks_at, set_marks_at};
@@ -10,7 +10,7 @@ ghost use Rattle.fields_1401.specs.Outcome.{CarriesOut};
 ghost use Rattle.fields_1401.specs.Places.{marks_of};
 ghost use Rattle.fields_1401.specs.Suppress.{suppress_at};
 
-use crate::kept::DecodeCache;
+use crate::decode_cache::DecodeCache;
 use core_1401::Core;
 use fields_1401::{
     Done, FieldStop, clear_down, clear_marks_within, edit, load_chars, set_marks_within, step_down,
@@ -19,33 +19,33 @@ use fields_1401::{
 
 /// Sets the word marks at both addresses.
 #[inline(always)]
-pub(crate) fn set_marks_there(core: &mut Core, kept: &mut DecodeCache, a: u16, b: u16) -> Done
+pub(crate) fn set_marks_there(core: &mut Core, cache: &mut DecodeCache, a: u16, b: u16) -> Done
     requires a { a < addresses }
     requires b { b < addresses }
     requires places { (a < length core.old) × (b < length core.old) }
-    requires current { IsCurrent kept.old.entries (marks_of core.old) }
+    requires current { IsCurrent cache.old.entries (marks_of core.old) }
     ensures outcome { CarriesOut (set_marks_at core.old a b) core.old core.new (Ok result) }
-    ensures current { IsCurrent kept.new.entries (marks_of core.new) }
-    ensures size { kept.new.size ≡ kept.old.size }
+    ensures current { IsCurrent cache.new.entries (marks_of core.new) }
+    ensures size { cache.new.size ≡ cache.old.size }
 {
-    kept.forget_at(a);
-    kept.forget_at(b);
+    cache.forget_at(a);
+    cache.forget_at(b);
     set_marks_within(core, a, b)
 }
 
 /// Clears the word marks at both addresses.
 #[inline(always)]
-pub(crate) fn clear_marks_there(core: &mut Core, kept: &mut DecodeCache, a: u16, b: u16) -> Done
+pub(crate) fn clear_marks_there(core: &mut Core, cache: &mut DecodeCache, a: u16, b: u16) -> Done
     requires a { a < addresses }
     requires b { b < addresses }
     requires places { (a < length core.old) × (b < length core.old) }
-    requires current { IsCurrent kept.old.entries (marks_of core.old) }
+    requires current { IsCurrent cache.old.entries (marks_of core.old) }
     ensures outcome { CarriesOut (clear_marks_at core.old a b) core.old core.new (Ok result) }
-    ensures current { IsCurrent kept.new.entries (marks_of core.new) }
-    ensures size { kept.new.size ≡ kept.old.size }
+    ensures current { IsCurrent cache.new.entries (marks_of core.new) }
+    ensures size { cache.new.size ≡ cache.old.size }
 {
-    kept.forget_at(a);
-    kept.forget_at(b);
+    cache.forget_at(a);
+    cache.forget_at(b);
     clear_marks_within(core, a, b)
 }
 
@@ -53,19 +53,19 @@ pub(crate) fn clear_marks_there(core: &mut Core, kept: &mut DecodeCache, a: u16,
 #[inline(always)]
 pub(crate) fn load_there(
     core: &mut Core,
-    kept: &mut DecodeCache,
+    cache: &mut DecodeCache,
     a: u16,
     b: u16,
 ) -> Result<Done, FieldStop>
     requires a { a < addresses }
     requires b { b < addresses }
-    requires current { IsCurrent kept.old.entries (marks_of core.old) }
+    requires current { IsCurrent cache.old.entries (marks_of core.old) }
     ensures outcome { CarriesOut (load_at core.old a b) core.old core.new result }
-    ensures current { IsCurrent kept.new.entries (marks_of core.new) }
-    ensures size { kept.new.size ≡ kept.old.size }
+    ensures current { IsCurrent cache.new.entries (marks_of core.new) }
+    ensures size { cache.new.size ≡ cache.old.size }
 {
     let outcome = load_chars(core, a, b);
-    forget_written(kept, b, &outcome);
+    forget_written(cache, b, &outcome);
     outcome
 }
 
@@ -73,19 +73,19 @@ pub(crate) fn load_there(
 #[inline(always)]
 pub(crate) fn edit_there(
     core: &mut Core,
-    kept: &mut DecodeCache,
+    cache: &mut DecodeCache,
     a: u16,
     b: u16,
 ) -> Result<Done, FieldStop>
     requires a { a < addresses }
     requires b { b < addresses }
-    requires current { IsCurrent kept.old.entries (marks_of core.old) }
+    requires current { IsCurrent cache.old.entries (marks_of core.old) }
     ensures outcome { CarriesOut (edit_at core.old a b) core.old core.new result }
-    ensures current { IsCurrent kept.new.entries (marks_of core.new) }
-    ensures size { kept.new.size ≡ kept.old.size }
+    ensures current { IsCurrent cache.new.entries (marks_of core.new) }
+    ensures size { cache.new.size ≡ cache.old.size }
 {
     let outcome = edit(core, a, b);
-    forget_written(kept, b, &outcome);
+    forget_written(cache, b, &outcome);
     outcome
 }
 
@@ -93,17 +93,17 @@ pub(crate) fn edit_there(
 #[inline(always)]
 pub(crate) fn clear_down_there(
     core: &mut Core,
-    kept: &mut DecodeCache,
+    cache: &mut DecodeCache,
     b: u16,
 ) -> Result<Done, FieldStop>
     requires b { b < addresses }
-    requires current { IsCurrent kept.old.entries (marks_of core.old) }
+    requires current { IsCurrent cache.old.entries (marks_of core.old) }
     ensures outcome { CarriesOut (clear_down_at core.old b) core.old core.new result }
-    ensures current { IsCurrent kept.new.entries (marks_of core.new) }
-    ensures size { kept.new.size ≡ kept.old.size }
+    ensures current { IsCurrent cache.new.entries (marks_of core.new) }
+    ensures size { cache.new.size ≡ cache.old.size }
 {
     let outcome = clear_down(core, b);
-    forget_written(kept, b, &outcome);
+    forget_written(cache, b, &outcome);
     outcome
 }
 
@@ -112,19 +112,19 @@ pub(crate) fn clear_down_there(
 #[inline(always)]
 pub(crate) fn suppress_there(
     core: &mut Core,
-    kept: &mut DecodeCache,
+    cache: &mut DecodeCache,
     a: u16,
     b: u16,
 ) -> Result<Done, FieldStop>
     requires a { a < addresses }
     requires b { b < addresses }
-    requires current { IsCurrent kept.old.entries (marks_of core.old) }
+    requires current { IsCurrent cache.old.entries (marks_of core.old) }
     ensures outcome { CarriesOut (suppress_at core.old a b) core.old core.new result }
-    ensures current { IsCurrent kept.new.entries (marks_of core.new) }
-    ensures size { kept.new.size ≡ kept.old.size }
+    ensures current { IsCurrent cache.new.entries (marks_of core.new) }
+    ensures size { cache.new.size ≡ cache.old.size }
 {
     match field_len(core, a) {
-        Some(n) => kept.forget_down(b, step_down(b, n)),
+        Some(n) => cache.forget_down(b, step_down(b, n)),
         None => {}
     }
     suppress(core, a, b)
@@ -143,15 +143,15 @@ fn field_len(core: &Core, at: u16) -> Option<u16>
     core.field_len(at)
 }
 
-/// Forgets what is kept of the places that an operation wrote from its units down, unless it was refused.
+/// Forgets what is cached of the places that an operation wrote from its units down, unless it was refused.
 #[inline(always)]
-fn forget_written(kept: &mut DecodeCache, units: u16, outcome: &Result<Done, FieldStop>)
+fn forget_written(cache: &mut DecodeCache, units: u16, outcome: &Result<Done, FieldStop>)
     requires { units < addresses }
-    ensures part { IsPart kept.old.entries kept.new.entries }
-    ensures apart { IfOk outcome.now (λ done. IsApart kept.new.entries (lowest_written units done.b) units) }
-    ensures size { kept.new.size ≡ kept.old.size }
+    ensures part { IsPart cache.old.entries cache.new.entries }
+    ensures apart { IfOk outcome.now (λ done. IsApart cache.new.entries (lowest_written units done.b) units) }
+    ensures size { cache.new.size ≡ cache.old.size }
 {
     if let Ok(done) = outcome {
-        kept.forget_down(units, done.b);
+        cache.forget_down(units, done.b);
     }
 }

@@ -1,4 +1,4 @@
-//! One step of the machine: the instruction, kept or decoded, then what the operation does.
+//! One step of the machine: the instruction, cached or decoded, then what the operation does.
 ghost use Rattle.std.specs.Prelude.{◌≡◌, ◌≢◌, ◌+◌, ◌%◌, ◌<◌, ◌&&◌, true, length, Some, IfSome, IfOk, IfErr};
 ghost use Rattle.core_1401.specs.Storage.{is_in_core};
 ghost use Rattle.core_1401.specs.Address.{addresses};
@@ -19,7 +19,7 @@ use fields_1401::{
     zero_add_within, zero_subtract_within,
 };
 use machine_operations::Operation;
-use panel_1401::Stop;
+use machine_panel::Stop;
 
 impl Machine {
     /// Carries out the instruction at the I register, or says why it can't. A halt is carried out; any other stop
@@ -38,7 +38,7 @@ impl Machine {
         ensures size { length self.new.storage ≡ length self.old.storage }
     {
         let machine = &*self;
-        let fetched = match machine.kept.find_ready(&machine.core, machine.i) {
+        let fetched = match machine.cache.find_ready(&machine.core, machine.i) {
             Some(said) => {
                 let next = machine.i + said.len;
                 (said.operation, machine.ready_instruction(said, next))
@@ -51,7 +51,7 @@ impl Machine {
         self.perform_fetched(fetched)
     }
 
-    /// The operation and the instruction at the I register, kept or decoded anew, or why it can't be carried out: what
+    /// The operation and the instruction at the I register, cached or decoded, or why it can't be carried out: what
     /// is asked if no addresses are ready.
     #[inline(always)]
     #[tactic(auto, using(crate::proofs::DecodedLemmas::says_step))]
@@ -68,7 +68,7 @@ impl Machine {
         ensures same { self.new ≡ self.old }
     {
         let machine = &*self;
-        match machine.kept.find(&machine.core, machine.i) {
+        match machine.cache.find(&machine.core, machine.i) {
             Some(said) => {
                 let next = machine.i + said.len;
                 machine.with_places(said.operation, machine.instruction(said, next))
@@ -131,7 +131,7 @@ impl Machine {
         ensures same { self.new ≡ self.old }
     {
         let said = self.decode()?;
-        self.kept.keep(&self.core, self.i, &said);
+        self.cache.keep(&self.core, self.i, &said);
         Ok(said)
     }
 
@@ -333,7 +333,7 @@ impl Machine {
                 self.after_field(this, outcome)
             }
             Operation::Load => {
-                let outcome = load_there(&mut self.core, &mut self.kept, a, b);
+                let outcome = load_there(&mut self.core, &mut self.cache, a, b);
                 self.after_field(this, outcome)
             }
             Operation::MoveDigit => {
@@ -345,19 +345,19 @@ impl Machine {
                 self.after_field(this, Ok(done))
             }
             Operation::SetWordMark => {
-                let done = set_marks_there(&mut self.core, &mut self.kept, a, b);
+                let done = set_marks_there(&mut self.core, &mut self.cache, a, b);
                 self.after_field(this, Ok(done))
             }
             Operation::ClearWordMark => {
-                let done = clear_marks_there(&mut self.core, &mut self.kept, a, b);
+                let done = clear_marks_there(&mut self.core, &mut self.cache, a, b);
                 self.after_field(this, Ok(done))
             }
             Operation::ZeroSuppress => {
-                let outcome = suppress_there(&mut self.core, &mut self.kept, a, b);
+                let outcome = suppress_there(&mut self.core, &mut self.cache, a, b);
                 self.after_field(this, outcome)
             }
             Operation::Edit => {
-                let outcome = edit_there(&mut self.core, &mut self.kept, a, b);
+                let outcome = edit_there(&mut self.core, &mut self.cache, a, b);
                 self.after_field(this, outcome)
             }
             Operation::ClearStorage => self.clear_storage(this),

@@ -1,9 +1,9 @@
 -- How a run of the program ends (own).
 use Rattle.std.specs.Prelude.{ℕ, ⊤, Result, Ok, Err}
-use Rattle.assembling_1401.specs.declared.fault.AssembleFault.{AssembleFault}
-use Rattle.assembling_1401.specs.declared.fault.AssembleFault.TheVariants as assemble
-use Rattle.running_1401.specs.declared.fault.RunFault.{RunFault}
-use Rattle.running_1401.specs.declared.fault.RunFault.TheVariants as job
+use Rattle.program_assemble.specs.declared.fault.AssembleFault.{AssembleFault}
+use Rattle.program_assemble.specs.declared.fault.AssembleFault.TheVariants as assemble
+use Rattle.program_run.specs.declared.fault.RunFault.{RunFault}
+use Rattle.program_run.specs.declared.fault.RunFault.TheVariants as job
 use Rattle.ibm1401.specs.declared.fault.Fault.{Fault}
 use Rattle.ibm1401.specs.declared.fault.Fault.TheVariants as fault
 

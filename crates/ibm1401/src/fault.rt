@@ -2,11 +2,11 @@
 ghost use Rattle.std.specs.Prelude.{◌≡◌};
 ghost use Rattle.ibm1401.specs.Status.{run_status, status_of};
 
-use assembling_1401::AssembleFault;
 use clap::Error as Refusal;
-use holding_1401::HoldFault;
-use opening_1401::OpenFault;
-use running_1401::RunFault;
+use program_assemble::AssembleFault;
+use program_rooms::OpenFault;
+use program_run::RunFault;
+use program_sessions::HoldFault;
 use thiserror::Error;
 
 /// The status of a command line that can't be read, or that names one file twice.

@@ -2,9 +2,9 @@
 
 use crate::fault::Fault;
 use devices_1401::{Card, MOST_HELD};
-use job_1401::{CardList, Cards, Deck};
+use job_runner::{CardList, Cards, Deck};
 use machine_graphics::Graphics;
-use running_1401::read_cards;
+use program_run::read_cards;
 use std::alloc::Global;
 use std::rt::Files;
 

@@ -2,8 +2,8 @@
 ghost use Rattle.std.specs.Prelude.{◌≡◌, ◌⊎◌, OnErr};
 
 use crate::fault::Fault;
+use bytes_files::{FileFault, read_whole};
 use clap::Error;
-use files_1401::{FileFault, read_whole};
 use std::rt::Files;
 use std::str;
 

@@ -2,12 +2,12 @@
 use Rattle.std.proofs.Common.{◌≡◌, ◌≢◌, ℕ, zero, suc, ◌+◌, ◌≤◌, ◌<◌, ◌==◌, ◌||◌, Bool, true, false}
 use Rattle.std.proofs.Common.{List, [], ◌∷◌, ◌++◌, length, refl, ap, sym, ◌∙◌, arith, true≢false}
 use Rattle.std.proofs.lemmas.Bool.Decides.{nat_tests}
-use Rattle.lone_room_1401.specs.declared.entry.Entry.{Entry}
-use Rattle.lone_room_1401.specs.declared.entry.SeatedCommand.{SeatedCommand}
+use Rattle.room_alone.specs.declared.entry.Entry.{Entry}
+use Rattle.room_alone.specs.declared.entry.SeatedCommand.{SeatedCommand}
 use Rattle.room_1401.specs.Closing.{has_seat, back_of, made_of, AllFit, AllExact, AllSeated, IsSettled}
-use Rattle.lone_room_1401.specs.Journal.{pairs_of}
+use Rattle.room_alone.specs.Journal.{pairs_of}
 use Rattle.room_1401.specs.Seen.{SeatView, own}
-use Rattle.lone_room_1401.proofs.ReplayLemmas.{length-pairs_of}
+use Rattle.room_alone.proofs.ReplayLemmas.{length-pairs_of}
 use Rattle.room_1401.proofs.SeenLemmas.{at_most_one, one_if}
 
 is_true : (test : Bool) → one_if test ≡ 1 → test ≡ true

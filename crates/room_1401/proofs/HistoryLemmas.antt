@@ -6,7 +6,7 @@ use Rattle.std.proofs.lemmas.Bool.Decides.{nat_tests}
 use mathlib.Core.List.{IsPrefix}
 use prog.Atomic.{either}
 use Rattle.logbook.specs.Pages.{Cell, cell, keeps, no_nib, step, Moves, Goes}
-use Rattle.lone_room_1401.specs.declared.entry.SeatedCommand.{SeatedCommand}
+use Rattle.room_alone.specs.declared.entry.SeatedCommand.{SeatedCommand}
 use Rattle.room_1401.specs.History.{IsKept, Adds}
 use Rattle.room_1401.proofs.PrefixLemmas.{prefix_whole}
 

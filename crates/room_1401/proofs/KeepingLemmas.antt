@@ -4,15 +4,15 @@ use Rattle.std.proofs.Common.{refl, ap, sym, ◌∙◌, subst, arith, true≢fal
 use Rattle.std.specs.Prelude.{Result, Ok, Err, OnOk, is_ok}
 use Rattle.std.proofs.lemmas.List.{length_push, take_all, take-append-le}
 use mathlib.Core.List.{IsPrefix}
-use Rattle.operator_1401.specs.declared.answer.Answer.{Answer}
-use Rattle.operator_1401.specs.declared.command.Command.{Command}
-use Rattle.lone_room_1401.specs.declared.entry.Entry.{Entry}
-use Rattle.lone_room_1401.specs.declared.entry.SeatedCommand.{SeatedCommand}
-use Rattle.lone_room_1401.specs.Journal.{entry, pairs_of}
-use Rattle.lone_room_1401.specs.Kept.{Form, KeptAccount}
-use Rattle.lone_room_1401.specs.Replay.{pair}
+use Rattle.machine_commands.specs.declared.answer.Answer.{Answer}
+use Rattle.machine_commands.specs.declared.command.Command.{Command}
+use Rattle.room_alone.specs.declared.entry.Entry.{Entry}
+use Rattle.room_alone.specs.declared.entry.SeatedCommand.{SeatedCommand}
+use Rattle.room_alone.specs.Journal.{entry, pairs_of}
+use Rattle.room_alone.specs.Kept.{Form, KeptAccount}
+use Rattle.room_alone.specs.Replay.{pair}
 use Rattle.room_1401.specs.Keeping.{AreShown, HasFailed, IsBeyond, SeesMore, shown_by, shown_in}
-use Rattle.lone_room_1401.proofs.ReplayLemmas.{length-pairs_of, pairs_of-append}
+use Rattle.room_alone.proofs.ReplayLemmas.{length-pairs_of, pairs_of-append}
 
 -- while no write has failed, all of it
 pub all_shown : (failed : Bool) (journal : List Entry) → failed ≡ false → shown_by failed journal ≡ pairs_of journal

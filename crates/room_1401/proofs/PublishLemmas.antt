@@ -5,16 +5,16 @@ use Rattle.std.specs.Prelude.{Some, Option}
 use mathlib.Core.List.{IsPrefix}
 use Rattle.logbook.specs.Pages.{Book}
 use Rattle.cpu_1401.specs.State.{State, power_on}
-use Rattle.operator_1401.specs.declared.command.Command.{Command}
-use Rattle.lone_room_1401.specs.declared.entry.SeatedCommand.{SeatedCommand}
+use Rattle.machine_commands.specs.declared.command.Command.{Command}
+use Rattle.room_alone.specs.declared.entry.SeatedCommand.{SeatedCommand}
 use Rattle.room_1401.specs.declared.published.Shown.{Shown}
 use Rattle.room_1401.specs.declared.published.Change.{Change}
-use Rattle.command_1401.specs.CarryOut.{carry_out}
-use Rattle.lone_room_1401.specs.Journal.{most_entries}
-use Rattle.lone_room_1401.specs.Replay.{pair, replay}
+use Rattle.machine_execution.specs.CarryOut.{carry_out}
+use Rattle.room_alone.specs.Journal.{most_entries}
+use Rattle.room_alone.specs.Replay.{pair, replay}
 use Rattle.room_1401.specs.Rule.{IsReplay, Publishes, changed, machine_after}
 use Rattle.room_1401.proofs.PrefixLemmas.{prefix_self, prefix_trans}
-use Rattle.lone_room_1401.proofs.ReplayLemmas.{state_after-append}
+use Rattle.room_alone.proofs.ReplayLemmas.{state_after-append}
 
 fold-append : {A B : Type 0} (f : B → A → B) (first : B) (xs ys : List A)
     → fold f first (xs ++ ys) ≡ fold f (fold f first xs) ys

@@ -2,16 +2,16 @@
 use Rattle.std.proofs.Common.{◌≡◌, true, List, [], ◌∷◌, refl, arith}
 use Rattle.bcd_1401.specs.declared.cell.Cell.{Cell}
 use Rattle.core_1401.specs.Storage.{blank}
-use Rattle.operator_1401.specs.declared.answer.Answer.TheVariants.{Done, Cells, Refused}
-use Rattle.operator_1401.specs.declared.answer.Refusal.TheVariants.{Address}
-use Rattle.operator_1401.specs.declared.command.Command.TheVariants.{Deposit, Examine, SetI}
-use Rattle.lone_room_1401.specs.declared.entry.Entry.{Entry}
-use Rattle.lone_room_1401.specs.declared.entry.SeatedCommand.{SeatedCommand}
+use Rattle.machine_commands.specs.declared.answer.Answer.TheVariants.{Done, Cells, Refused}
+use Rattle.machine_commands.specs.declared.answer.Refusal.TheVariants.{Address}
+use Rattle.machine_commands.specs.declared.command.Command.TheVariants.{Deposit, Examine, SetI}
+use Rattle.room_alone.specs.declared.entry.Entry.{Entry}
+use Rattle.room_alone.specs.declared.entry.SeatedCommand.{SeatedCommand}
 use Rattle.room_1401.specs.declared.fault.CloseFault.TheVariants.{Unreturned}
-use Rattle.command_1401.specs.CarryOut.{carry_out}
+use Rattle.machine_execution.specs.CarryOut.{carry_out}
 use Rattle.room_1401.specs.Closing.{ClosesBy, IsSettled, back_of}
-use Rattle.lone_room_1401.specs.Journal.{entry}
-use Rattle.lone_room_1401.specs.Replay.{cell_after, pair}
+use Rattle.room_alone.specs.Journal.{entry}
+use Rattle.room_alone.specs.Replay.{cell_after, pair}
 use Rattle.room_1401.specs.Seen.{Carries, SeatView, newcomer, newcomers, own}
 
 -- K with a word mark

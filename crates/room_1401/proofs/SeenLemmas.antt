@@ -4,9 +4,9 @@ use Rattle.std.proofs.Common.{refl, ap, sym, arith}
 use Rattle.std.specs.Prelude.{if◌then◌else◌}
 use Rattle.std.proofs.lemmas.Bool.Decides.{nat_tests}
 use mathlib.Core.List.{IsPrefix}
-use Rattle.operator_1401.specs.declared.command.Command.{Command}
-use Rattle.lone_room_1401.specs.declared.entry.SeatedCommand.{SeatedCommand}
-use Rattle.lone_room_1401.specs.Replay.{pair}
+use Rattle.machine_commands.specs.declared.command.Command.{Command}
+use Rattle.room_alone.specs.declared.entry.SeatedCommand.{SeatedCommand}
+use Rattle.room_alone.specs.Replay.{pair}
 use Rattle.room_1401.specs.Seen.{own}
 use Rattle.room_1401.proofs.PrefixLemmas.{prefix_whole, prefix_shorter}
 

@@ -2,11 +2,11 @@
 use Rattle.std.specs.Prelude.{◌≡◌, ℕ, zero, suc, ◌+◌, ◌≤◌, ◌<◌, ◌==◌, ◌||◌, ◌⊎◌, Bool, true, false, cond}
 use Rattle.std.specs.Prelude.{List, [], ◌∷◌, length}
 use mathlib.Core.List.{IsPrefix}
-use Rattle.lone_room_1401.specs.declared.entry.SeatedCommand.{SeatedCommand}
-use Rattle.lone_room_1401.specs.declared.entry.Entry.{Entry}
+use Rattle.room_alone.specs.declared.entry.SeatedCommand.{SeatedCommand}
+use Rattle.room_alone.specs.declared.entry.Entry.{Entry}
 use Rattle.room_1401.specs.declared.fault.CloseFault.{CloseFault}
 use Rattle.room_1401.specs.declared.fault.CloseFault.TheVariants.{Unreturned, NoReading}
-use Rattle.lone_room_1401.specs.Journal.{pairs_of}
+use Rattle.room_alone.specs.Journal.{pairs_of}
 use Rattle.room_1401.specs.Seen.{SeatView, own}
 
 -- whether a seat of this number is there

@@ -1,7 +1,7 @@
 -- The history of a shared room's commands (own). It exists in proofs alone: what threads share is a word, its length.
 use Rattle.std.specs.Prelude.{ℕ, ◌≡◌, ◌==◌, true, List, [], ◌∷◌, ◌++◌, length, MatchBool}
 use Rattle.logbook.specs.Pages.{Cell, Step, View, Book, Named}
-use Rattle.lone_room_1401.specs.declared.entry.SeatedCommand.{SeatedCommand}
+use Rattle.room_alone.specs.declared.entry.SeatedCommand.{SeatedCommand}
 
 -- The first word is the length of the history. A book has two words, of which this one leaves the second at 0.
 abbrev pub IsKept : List Cell → List SeatedCommand → Type 0

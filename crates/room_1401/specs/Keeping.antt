@@ -1,10 +1,10 @@
 -- What a keeper has of a shared room's journal, and what of it seats and readers are shown (own).
 use Rattle.std.specs.Prelude.{◌≡◌, ℕ, ◌-◌, ◌<◌, Bool, true, false, List, length, take, Option}
 use mathlib.Core.List.{IsPrefix}
-use Rattle.lone_room_1401.specs.declared.entry.Entry.{Entry}
-use Rattle.lone_room_1401.specs.declared.entry.SeatedCommand.{SeatedCommand}
-use Rattle.lone_room_1401.specs.Journal.{IsLegal, pairs_of}
-use Rattle.lone_room_1401.specs.Kept.{Form, IsKeptAs, KeptAccount}
+use Rattle.room_alone.specs.declared.entry.Entry.{Entry}
+use Rattle.room_alone.specs.declared.entry.SeatedCommand.{SeatedCommand}
+use Rattle.room_alone.specs.Journal.{IsLegal, pairs_of}
+use Rattle.room_alone.specs.Kept.{Form, IsKeptAs, KeptAccount}
 
 -- the entries that are kept: all of them; once a write has failed (true), all but the last
 abbrev pub kept_part : Bool → List Entry → List Entry

@@ -4,12 +4,12 @@ use Rattle.devices_1401.specs.Devices.{last_punched, next_card}
 use Rattle.cpu_1401.specs.CardsAndPrinter.{card_at, read_area}
 use Rattle.cpu_1401.specs.Fetched.{next_instruction}
 use Rattle.cpu_1401.specs.State.{State, regs_of}
-use Rattle.command_1401.specs.CarryOut.{examined}
-use Rattle.lone_room_1401.specs.declared.entry.SeatedCommand.{SeatedCommand}
+use Rattle.machine_execution.specs.CarryOut.{examined}
+use Rattle.room_alone.specs.declared.entry.SeatedCommand.{SeatedCommand}
 use Rattle.room_1401.specs.declared.picture.Picture.{Picture}
 use Rattle.room_1401.specs.declared.picture.Window.{Window}
 use Rattle.room_1401.specs.Paper.{lines_from}
-use Rattle.lone_room_1401.specs.Replay.{replay}
+use Rattle.room_alone.specs.Replay.{replay}
 
 -- how many places of core storage a picture shows
 abbrev pub window_cells : ℕ

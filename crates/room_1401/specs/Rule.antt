@@ -5,13 +5,13 @@ use mathlib.Core.List.{IsPrefix}
 use mathlib.Core.Option.{some}
 use lib.ListN.{get_elem?}
 use Rattle.logbook.specs.Pages.{Book}
-use Rattle.lone_room_1401.specs.declared.entry.SeatedCommand.{SeatedCommand}
+use Rattle.room_alone.specs.declared.entry.SeatedCommand.{SeatedCommand}
 use Rattle.room_1401.specs.declared.published.Shown.{Shown}
 use Rattle.room_1401.specs.declared.published.Change.{Change}
-use Rattle.operator_1401.specs.declared.command.Command.{Command}
-use Rattle.command_1401.specs.CarryOut.{carry_out}
-use Rattle.lone_room_1401.specs.Journal.{most_entries}
-use Rattle.lone_room_1401.specs.Replay.{replay}
+use Rattle.machine_commands.specs.declared.command.Command.{Command}
+use Rattle.machine_execution.specs.CarryOut.{carry_out}
+use Rattle.room_alone.specs.Journal.{most_entries}
+use Rattle.room_alone.specs.Replay.{replay}
 
 -- the machine after a command, if there is one
 abbrev pub machine_after : State → Option Command → State

@@ -4,11 +4,11 @@ ghost use Rattle.std.specs.Prelude.{◌≡◌, ◌+◌, ◌==◌, ◌<◌, ◌�
 ghost use Rattle.std.specs.Prelude.{length, ltb, MatchBool, if◌then◌else◌};
 ghost use mathlib.Core.List.{IsPrefix};
 ghost use Rattle.room_1401.specs.History.{head_of};
-ghost use Rattle.lone_room_1401.specs.Journal.{most_entries};
+ghost use Rattle.room_alone.specs.Journal.{most_entries};
 
 use crate::naming::RoomId;
 use logbook::{Gain, Offer, Plain, Play, Rule, Seen, Start, Word};
-use lone_room_1401::SeatedCommand;
+use room_alone::SeatedCommand;
 use std::marker::{Model, PhantomData};
 use std::sync::ledger::{Blank, Book, Share};
 
@@ -141,8 +141,8 @@ pub struct SeenPrefix<J: RoomId> {
 
 impl<J: RoomId> Model for SeenPrefix<J> {
     ghost use Rattle.std.specs.Prelude.{◌≡◌, ◌≤◌, List, length};
-    ghost use Rattle.lone_room_1401.specs.Journal.{most_entries};
-    ghost use Rattle.lone_room_1401.specs.declared.entry.SeatedCommand.{SeatedCommand};
+    ghost use Rattle.room_alone.specs.Journal.{most_entries};
+    ghost use Rattle.room_alone.specs.declared.entry.SeatedCommand.{SeatedCommand};
 
     ghost Value = { List SeatedCommand };
 

@@ -33,15 +33,15 @@ pub mod picture;
 pub mod seat;
 pub mod shared_room;
 
-pub use command_1401::{Answer, Command, Refusal, carry_out};
 pub use cpu_1401::SwitchName;
 pub use fault::{CloseFault, StartFault};
 pub use history::Opened;
-pub use lone_room_1401::{
-    Carried, Entry, Glance, GlanceFault, Keeper, NoKeeper, Room, RoomFault, Unkept,
-};
+pub use machine_execution::{Answer, Command, Refusal, carry_out};
 pub use naming::RoomId;
 pub use paper::{PaperLines, WINDOW_LINES};
 pub use picture::{Picture, WINDOW_CELLS, Window};
+pub use room_alone::{
+    Carried, Entry, Glance, GlanceFault, Keeper, NoKeeper, Room, RoomFault, Unkept,
+};
 pub use seat::{Seat, Told};
 pub use shared_room::SharedRoom;

@@ -3,9 +3,9 @@ ghost use Rattle.std.specs.Prelude.{◌≡◌, ◌≢◌, ◌+◌, ◌<◌, ◌�
 ghost use Rattle.std.specs.Prelude.{IfOk, IfErr, OnOk, OnErr};
 ghost use mathlib.Core.List.{IsPrefix};
 ghost use Rattle.room_1401.specs.Closing.{AllFit, IsSettled, OneBeyond, back_of};
-ghost use Rattle.lone_room_1401.specs.Journal.{IsLegal, entry, most_entries, refusal_of};
-ghost use Rattle.lone_room_1401.specs.Kept.{IsKeptAs};
-ghost use Rattle.lone_room_1401.specs.Replay.{reply_to};
+ghost use Rattle.room_alone.specs.Journal.{IsLegal, entry, most_entries, refusal_of};
+ghost use Rattle.room_alone.specs.Kept.{IsKeptAs};
+ghost use Rattle.room_alone.specs.Replay.{reply_to};
 ghost use Rattle.room_1401.specs.Keeping.{AreShown, HasFailed, HasKept, SeesMore, kept_part, shown_in};
 ghost use Rattle.room_1401.specs.Seen.{Carries, own};
 
@@ -14,8 +14,8 @@ use crate::history::SeenPrefix;
 use crate::naming::RoomId;
 use crate::recording::Recorder;
 use crate::seat::{Seat, Told};
-use command_1401::Command;
-use lone_room_1401::{Carried, Keeper, Room, RoomFault};
+use machine_execution::Command;
+use room_alone::{Carried, Keeper, Room, RoomFault};
 use std::marker::Model;
 use std::sync::Wait;
 use std::sync::ledger::{Book, Share};
@@ -34,7 +34,7 @@ pub struct LockedRoom<J: RoomId, R: Wait + Drop, K: Keeper + Drop> {
 
 impl<J: RoomId, R: Wait + Drop, K: Keeper + Drop> Model for LockedRoom<J, R, K> {
     ghost use Rattle.std.specs.Prelude.{◌≡◌, length};
-    ghost use Rattle.lone_room_1401.specs.Kept.{KeptAccount};
+    ghost use Rattle.room_alone.specs.Kept.{KeptAccount};
     ghost use Rattle.room_1401.specs.Keeping.{shown_in};
 
     ghost Value = { KeptAccount };

@@ -1,8 +1,8 @@
 //! What a shared room shows to its readers: a machine of its own and a count, with a token that says after which
 //! commands.
 use crate::history::Reached;
-use command_1401::Command;
 use cpu_1401::Machine;
+use machine_execution::Command;
 
 /// What readers are shown.
 #[derive(Drop)]

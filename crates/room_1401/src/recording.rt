@@ -2,8 +2,8 @@
 ghost use Rattle.std.specs.Prelude.{◌≡◌, ◌+◌, ◌<◌, ◌≤◌, ◌↔◌, [], ◌∷◌, ◌++◌, true, false, length, drop, Some};
 ghost use Rattle.std.specs.Prelude.{IfOk, IfErr, OnOk, OnErr};
 ghost use Rattle.std.specs.Io.KnownBytes.{Appends};
-ghost use Rattle.lone_room_1401.specs.Journal.{IsLegal, answer_to, entry, is_full, most_entries, pairs_of, refusal_of};
-ghost use Rattle.lone_room_1401.specs.Kept.{IsKeptAs, kept_text};
+ghost use Rattle.room_alone.specs.Journal.{IsLegal, answer_to, entry, is_full, most_entries, pairs_of, refusal_of};
+ghost use Rattle.room_alone.specs.Kept.{IsKeptAs, kept_text};
 ghost use Rattle.room_1401.specs.Keeping.{AreShown, shown_in};
 ghost use Rattle.room_1401.specs.Rule.{Publishes};
 
@@ -11,8 +11,8 @@ use crate::history::{Head, SeenPrefix};
 use crate::naming::RoomId;
 use crate::published::Change;
 use crate::publisher::Publisher;
-use command_1401::Command;
-use lone_room_1401::{Carried, Entry, Keeper, Room, RoomFault, SeatedCommand};
+use machine_execution::Command;
+use room_alone::{Carried, Entry, Keeper, Room, RoomFault, SeatedCommand};
 use std::marker::Model;
 use std::sync::Wait;
 
@@ -31,7 +31,7 @@ pub struct Recorder<J: RoomId, R: Wait + Drop, K: Keeper + Drop> {
 
 impl<J: RoomId, R: Wait + Drop, K: Keeper + Drop> Model for Recorder<J, R, K> {
     ghost use Rattle.std.specs.Prelude.{◌≡◌, false, drop};
-    ghost use Rattle.lone_room_1401.specs.Kept.{IsKeptAs, KeptAccount};
+    ghost use Rattle.room_alone.specs.Kept.{IsKeptAs, KeptAccount};
     ghost use Rattle.room_1401.specs.Keeping.{shown_by};
     ghost use Rattle.room_1401.specs.Rule.{Publishes};
 

@@ -2,12 +2,12 @@
 
 use crate::naming::RoomId;
 use crate::published::{Change, Shown};
-use command_1401::carry_out;
 use crossbeam_utils::rule::{Outcome, Protocol};
 use left_right::Absorb;
 use left_right::reader::Reader;
 use left_right::writer::Writer;
-use lone_room_1401::SeatedCommand;
+use machine_execution::carry_out;
+use room_alone::SeatedCommand;
 use std::alloc::AllocError;
 use std::collections::LinkedList;
 use std::marker::PhantomData;

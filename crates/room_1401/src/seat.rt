@@ -2,9 +2,9 @@
 ghost use Rattle.std.specs.Prelude.{◌≡◌, ◌+◌, ◌<◌, ◌≤◌, ◌↔◌, true, false, ltb, length, IfOk, IfSome, OnOk, OnErr};
 ghost use Rattle.std.specs.Prelude.{if◌then◌else◌};
 ghost use mathlib.Core.List.{IsPrefix};
-ghost use Rattle.lone_room_1401.specs.Journal.{most_entries};
+ghost use Rattle.room_alone.specs.Journal.{most_entries};
 ghost use Rattle.room_1401.specs.Picture.{picture_after, window_cells};
-ghost use Rattle.lone_room_1401.specs.Replay.{cell_after};
+ghost use Rattle.room_alone.specs.Replay.{cell_after};
 ghost use Rattle.room_1401.specs.Seen.{own};
 
 use crate::history::{Reached, SeenPrefix};
@@ -13,7 +13,7 @@ use crate::picture::{Picture, WINDOW_CELLS, Window, picture_of};
 use crate::rule::{RoomReader, Sees};
 use bcd_1401::Cell;
 use core::mem::replace_with;
-use lone_room_1401::{Glance, GlanceFault};
+use room_alone::{Glance, GlanceFault};
 use std::marker::Model;
 use std::sync::ledger::{Book, Share};
 
@@ -93,7 +93,7 @@ pub struct Told<J: RoomId> {
 
 impl<J: RoomId> Model for Told<J> {
     ghost use Rattle.std.specs.Prelude.{List};
-    ghost use Rattle.lone_room_1401.specs.declared.entry.SeatedCommand.{SeatedCommand};
+    ghost use Rattle.room_alone.specs.declared.entry.SeatedCommand.{SeatedCommand};
 
     ghost Value = { List SeatedCommand };
 

@@ -2,7 +2,7 @@
 use Rattle.std.proofs.Common.{◌∙◌, sym}
 use Rattle.std.proofs.lemmas.Bool.{eqb-true}
 use Rattle.std.proofs.lemmas.List.{nil_from_length}
-use Rattle.symbols_1401.specs.Reading.{lines_in}
+use Rattle.autocoder_symbols.specs.Reading.{lines_in}
 use Rattle.autocoder_1401.specs.Assembly.{assembly_of}
 use Rattle.autocoder_1401.proofs.AllFaultsLemmas.{one_outside}
 use Rattle.autocoder_1401.proofs.all_faults.add_outside.Goals as goal

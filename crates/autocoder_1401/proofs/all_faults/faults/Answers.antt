@@ -1,8 +1,8 @@
 -- What is told is all faults: the first is the assembler's, and each is there.
 use Rattle.std.proofs.Common.{ap, sym, subst, ◌∙◌, List, All}
-use Rattle.symbols_1401.specs.Reading.{lines_in}
-use Rattle.symbols_1401.specs.declared.fault.AsmFault.{AsmFault}
-use Rattle.explanations_1401.specs.ToldFaults.{first_in}
+use Rattle.autocoder_symbols.specs.Reading.{lines_in}
+use Rattle.autocoder_symbols.specs.declared.fault.AsmFault.{AsmFault}
+use Rattle.autocoder_diagnostics.specs.ToldFaults.{first_in}
 use Rattle.autocoder_1401.specs.AllFaults.{IsTold}
 use Rattle.autocoder_1401.specs.Assembly.{assembly_of}
 use Rattle.autocoder_1401.proofs.AllFaultsLemmas.{first_of_all, each_of_all}

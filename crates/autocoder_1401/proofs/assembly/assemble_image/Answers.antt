@@ -1,16 +1,16 @@
 -- The answer is that of the passes; nothing of any line is outside core storage, so the image lies in it.
 use Rattle.std.proofs.Common.{List, ◌∙◌, sym, ap, subst}
 use Rattle.std.proofs.lemmas.Result.{err_from_is_err_and}
-use Rattle.image_1401.specs.Image.{IsInCore}
-use Rattle.image_1401.specs.declared.image.Image.{Image}
-use Rattle.source_1401.specs.declared.statement.Line.{Line}
-use Rattle.symbols_1401.specs.Chains.{chains_of}
-use Rattle.symbols_1401.specs.Symbols.{sites_of}
-use Rattle.faults_1401.specs.FirstFault.{first_fault}
-use Rattle.placing_1401.specs.PlacedImage.{placed_cells}
-use Rattle.placing_1401.specs.Laws.{IsCutOf}
-use Rattle.placing_1401.proofs.CoreLemmas.{image_inside}
-use Rattle.placing_1401.proofs.LawLemmas.{image_cut}
+use Rattle.machine_image.specs.Image.{IsInCore}
+use Rattle.machine_image.specs.declared.image.Image.{Image}
+use Rattle.autocoder_statements.specs.declared.statement.Line.{Line}
+use Rattle.autocoder_symbols.specs.Chains.{chains_of}
+use Rattle.autocoder_symbols.specs.Symbols.{sites_of}
+use Rattle.autocoder_faults.specs.FirstFault.{first_fault}
+use Rattle.autocoder_placing.specs.PlacedImage.{placed_cells}
+use Rattle.autocoder_placing.specs.Laws.{IsCutOf}
+use Rattle.autocoder_placing.proofs.CoreLemmas.{image_inside}
+use Rattle.autocoder_placing.proofs.LawLemmas.{image_cut}
 use Rattle.autocoder_1401.proofs.AssemblyLemmas.{assembled_alone, not_assembled}
 use Rattle.autocoder_1401.proofs.assembly.assemble_image.Goals as goal
 

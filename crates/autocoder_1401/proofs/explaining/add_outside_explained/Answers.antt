@@ -2,7 +2,7 @@
 use Rattle.std.proofs.Common.{◌∙◌, sym}
 use Rattle.std.proofs.lemmas.Bool.{eqb-true}
 use Rattle.std.proofs.lemmas.List.{nil_from_length}
-use Rattle.source_1401.specs.SourceLine.{lines_of}
+use Rattle.autocoder_statements.specs.SourceLine.{lines_of}
 use Rattle.autocoder_1401.specs.Assembly.{assembly_of}
 use Rattle.autocoder_1401.proofs.ExplainingLemmas.{outside_explained}
 use Rattle.autocoder_1401.proofs.explaining.add_outside_explained.Goals as goal

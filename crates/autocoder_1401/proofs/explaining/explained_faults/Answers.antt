@@ -1,10 +1,10 @@
 -- What is explained is what is told: the first is the assembler's, and each is there.
 use Rattle.std.proofs.Common.{ap, sym, subst, ◌∙◌, List, All}
-use Rattle.source_1401.specs.SourceLine.{lines_of}
-use Rattle.symbols_1401.specs.Reading.{lines_in}
-use Rattle.symbols_1401.specs.declared.fault.AsmFault.{AsmFault}
-use Rattle.explanations_1401.specs.ToldFaults.{first_in}
-use Rattle.explanations_1401.specs.Explanation.{faults_of}
+use Rattle.autocoder_statements.specs.SourceLine.{lines_of}
+use Rattle.autocoder_symbols.specs.Reading.{lines_in}
+use Rattle.autocoder_symbols.specs.declared.fault.AsmFault.{AsmFault}
+use Rattle.autocoder_diagnostics.specs.ToldFaults.{first_in}
+use Rattle.autocoder_diagnostics.specs.Explanation.{faults_of}
 use Rattle.autocoder_1401.specs.AllFaults.{IsTold}
 use Rattle.autocoder_1401.specs.Assembly.{assembly_of}
 use Rattle.autocoder_1401.proofs.AllFaultsLemmas.{first_of_all, each_of_all}

@@ -1,13 +1,13 @@
 -- The text is that of the lines, and the fault that of the passes.
 use Rattle.std.proofs.Common.{List, Result, Ok, ◌∙◌, refl, sym, ap}
 use Rattle.std.proofs.lemmas.Result.{err_from_is_err_and}
-use Rattle.source_1401.specs.SourceLine.{lines_of}
-use Rattle.source_1401.specs.declared.statement.Line.{Line}
-use Rattle.symbols_1401.specs.Chains.{chains_of}
-use Rattle.symbols_1401.specs.Symbols.{sites_of}
-use Rattle.symbols_1401.specs.declared.fault.AsmFault.{AsmFault}
-use Rattle.faults_1401.specs.FirstFault.{first_fault}
-use Rattle.listing_1401.specs.Listing.{listing_text, listing_with}
+use Rattle.autocoder_statements.specs.SourceLine.{lines_of}
+use Rattle.autocoder_statements.specs.declared.statement.Line.{Line}
+use Rattle.autocoder_symbols.specs.Chains.{chains_of}
+use Rattle.autocoder_symbols.specs.Symbols.{sites_of}
+use Rattle.autocoder_symbols.specs.declared.fault.AsmFault.{AsmFault}
+use Rattle.autocoder_faults.specs.FirstFault.{first_fault}
+use Rattle.autocoder_listing.specs.Listing.{listing_text, listing_with}
 use Rattle.autocoder_1401.specs.Assembly.{assembly_with}
 use Rattle.autocoder_1401.specs.declared.assembly.Assembly.{Assembly}
 use Rattle.autocoder_1401.proofs.AssemblyLemmas.{assembled, not_assembled}

@@ -1,8 +1,8 @@
 -- The lines are those whose chains of EQUs were read.
 use Rattle.std.proofs.Common.{List, sym, ap, ◌∙◌}
-use Rattle.source_1401.specs.declared.statement.Line.{Line}
-use Rattle.symbols_1401.specs.Chains.{chains_of}
-use Rattle.symbols_1401.specs.Symbols.{sites_of}
+use Rattle.autocoder_statements.specs.declared.statement.Line.{Line}
+use Rattle.autocoder_symbols.specs.Chains.{chains_of}
+use Rattle.autocoder_symbols.specs.Symbols.{sites_of}
 use Rattle.autocoder_1401.proofs.outside.outside_of.Goals as goal
 
 pub outside_in-requires : goal.outside_in-requires

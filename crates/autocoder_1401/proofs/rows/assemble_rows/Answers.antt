@@ -1,13 +1,13 @@
 -- The answer is that of the passes, and the rows are those of the lines.
 use Rattle.std.proofs.Common.{List, ◌∙◌, sym, ap, subst}
 use Rattle.std.proofs.lemmas.Result.{err_from_is_err_and}
-use Rattle.image_1401.specs.Image.{IsInCore}
-use Rattle.source_1401.specs.declared.statement.Line.{Line}
-use Rattle.symbols_1401.specs.Chains.{chains_of}
-use Rattle.symbols_1401.specs.Symbols.{sites_of}
-use Rattle.faults_1401.specs.FirstFault.{first_fault}
-use Rattle.placing_1401.proofs.CoreLemmas.{image_inside}
-use Rattle.listing_1401.specs.Rows.{rows_of}
+use Rattle.machine_image.specs.Image.{IsInCore}
+use Rattle.autocoder_statements.specs.declared.statement.Line.{Line}
+use Rattle.autocoder_symbols.specs.Chains.{chains_of}
+use Rattle.autocoder_symbols.specs.Symbols.{sites_of}
+use Rattle.autocoder_faults.specs.FirstFault.{first_fault}
+use Rattle.autocoder_placing.proofs.CoreLemmas.{image_inside}
+use Rattle.autocoder_listing.specs.Rows.{rows_of}
 use Rattle.autocoder_1401.proofs.AssemblyLemmas.{assembled_alone, not_assembled}
 use Rattle.autocoder_1401.proofs.rows.assemble_rows.Goals as goal
 

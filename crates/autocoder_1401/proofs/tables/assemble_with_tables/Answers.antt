@@ -1,14 +1,14 @@
 -- The answer is that of the passes, and the tables are those of the lines.
 use Rattle.std.proofs.Common.{List, ◌∙◌, sym, ap}
 use Rattle.std.proofs.lemmas.Result.{err_from_is_err_and}
-use Rattle.source_1401.specs.SourceLine.{lines_of}
-use Rattle.source_1401.specs.declared.statement.Line.{Line}
-use Rattle.symbols_1401.specs.Chains.{chains_of}
-use Rattle.symbols_1401.specs.Symbols.{sites_of}
-use Rattle.faults_1401.specs.FirstFault.{first_fault}
-use Rattle.listing_1401.specs.CrossReference.{references_text}
-use Rattle.listing_1401.specs.Listing.{listing_text, listing_with}
-use Rattle.listing_1401.specs.SymbolTable.{symbols_text}
+use Rattle.autocoder_statements.specs.SourceLine.{lines_of}
+use Rattle.autocoder_statements.specs.declared.statement.Line.{Line}
+use Rattle.autocoder_symbols.specs.Chains.{chains_of}
+use Rattle.autocoder_symbols.specs.Symbols.{sites_of}
+use Rattle.autocoder_faults.specs.FirstFault.{first_fault}
+use Rattle.autocoder_listing.specs.CrossReference.{references_text}
+use Rattle.autocoder_listing.specs.Listing.{listing_text, listing_with}
+use Rattle.autocoder_listing.specs.SymbolTable.{symbols_text}
 use Rattle.autocoder_1401.proofs.AssemblyLemmas.{assembled_alone, not_assembled}
 use Rattle.autocoder_1401.proofs.tables.assemble_with_tables.Goals as goal
 

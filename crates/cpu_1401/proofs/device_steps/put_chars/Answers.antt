@@ -2,7 +2,7 @@
 use Rattle.std.proofs.Common.{◌+◌, ◌∙◌, ap, arith}
 use Rattle.core_1401.specs.Storage.{Storage, cell_at}
 use Rattle.cpu_1401.proofs.AreaLemmas.{all_put, below_stays, char_put, marks_stay}
-use Rattle.cpu_1401.proofs.KeptLemmas.{same_marks}
+use Rattle.cpu_1401.proofs.DecodeCacheLemmas.{same_marks}
 use Rattle.cpu_1401.proofs.device_steps.put_chars.Goals as goal
 
 pub returns-clause-each : goal.returns-clause-each

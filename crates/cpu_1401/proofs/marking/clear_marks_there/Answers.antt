@@ -1,9 +1,9 @@
--- Nothing is kept of the two places.
-use Rattle.cpu_1401.proofs.KeptLemmas.{current_two}
+-- Nothing is cached of the two places.
+use Rattle.cpu_1401.proofs.DecodeCacheLemmas.{current_two}
 use Rattle.cpu_1401.proofs.marking.clear_marks_there.Goals as goal
 
 pub returns-clause-current : goal.returns-clause-current
 returns-clause-current c =
-    current_two c.args.kept.now.entries c.forget_at.new.self.entries c.forget_at-2.new.self.entries c.args.core.now c.clear_marks_within.new.core
+    current_two c.args.cache.now.entries c.forget_at.new.self.entries c.forget_at-2.new.self.entries c.args.core.now c.clear_marks_within.new.core
     c.args.a c.args.b c.requires.current c.forget_at.ensures.part c.forget_at.ensures.apart c.forget_at-2.ensures.part
     c.forget_at-2.ensures.apart c.clear_marks_within.ensures.beside

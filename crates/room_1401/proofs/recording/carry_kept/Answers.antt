@@ -1,8 +1,8 @@
 -- The text that is kept has the entry's line, or breaks off in it.
 use Rattle.std.proofs.Common.{◌≡◌, false, ap, sym, ◌∙◌, subst, arith, List, [], ◌∷◌, ◌++◌, length, length-append}
-use Rattle.lone_room_1401.specs.Kept.{IsKeptAs}
-use Rattle.lone_room_1401.specs.declared.entry.Entry.{Entry}
-use Rattle.lone_room_1401.proofs.KeptLemmas.{OneMore, kept_or_broken}
+use Rattle.room_alone.specs.Kept.{IsKeptAs}
+use Rattle.room_alone.specs.declared.entry.Entry.{Entry}
+use Rattle.room_alone.proofs.KeptLemmas.{OneMore, kept_or_broken}
 use Rattle.room_1401.proofs.KeepingLemmas.{if_ok}
 use Rattle.room_1401.proofs.recording.carry_kept.Goals as goal
 

@@ -1,11 +1,11 @@
 -- Once it is shown, the change leads to the replay of one command more.
 use Rattle.std.proofs.Common.{◌≡◌, ap, sym, ◌∙◌, subst, arith, List, [], ◌∷◌, ◌++◌, length, drop, length-append}
-use Rattle.lone_room_1401.specs.Journal.{pairs_of}
-use Rattle.lone_room_1401.specs.declared.entry.SeatedCommand.{SeatedCommand}
+use Rattle.room_alone.specs.Journal.{pairs_of}
+use Rattle.room_alone.specs.declared.entry.SeatedCommand.{SeatedCommand}
 use Rattle.room_1401.specs.Rule.{Publishes}
 use Rattle.room_1401.specs.declared.published.Change.{Change}
 use Rattle.room_1401.proofs.PublishLemmas.{IsNext, follows, storage_of}
-use Rattle.lone_room_1401.proofs.ReplayLemmas.{length-pairs_of, pairs_of-append}
+use Rattle.room_alone.proofs.ReplayLemmas.{length-pairs_of, pairs_of-append}
 use Rattle.room_1401.proofs.recording.record.Goals as goal
 
 pub carry_kept-carried-requires-clause-number : goal.carry_kept-carried-requires-clause-number

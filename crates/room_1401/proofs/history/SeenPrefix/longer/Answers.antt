@@ -1,7 +1,7 @@
 -- Both fronts are beginnings of one list, so the shorter begins the longer.
 use Rattle.std.proofs.Common.{◌≤◌, ap, subst, arith, length, List}
 use mathlib.Core.List.{IsPrefix}
-use Rattle.lone_room_1401.specs.declared.entry.SeatedCommand.{SeatedCommand}
+use Rattle.room_alone.specs.declared.entry.SeatedCommand.{SeatedCommand}
 use Rattle.room_1401.proofs.PrefixLemmas.{prefix_shorter}
 use Rattle.room_1401.proofs.history.SeenPrefix.longer.Goals as goal
 

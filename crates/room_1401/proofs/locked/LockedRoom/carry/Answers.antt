@@ -2,13 +2,13 @@
 use Rattle.std.proofs.Common.{◌≡◌, ◌+◌, ◌≤◌, ℕ, Bool, true, false, not, List, [], ◌∷◌, ◌++◌, length, length-append}
 use Rattle.std.proofs.Common.{refl, ap, sym, ◌∙◌, subst, arith, true≢false}
 use mathlib.Core.List.{IsPrefix}
-use Rattle.operator_1401.specs.declared.answer.Answer.{Answer}
-use Rattle.operator_1401.specs.declared.command.Command.{Command}
-use Rattle.lone_room_1401.specs.Kept.{KeptAccount}
-use Rattle.lone_room_1401.specs.Journal.{entry, pairs_of}
-use Rattle.lone_room_1401.specs.Replay.{pair, reply_to}
-use Rattle.lone_room_1401.specs.declared.entry.Entry.{Entry}
-use Rattle.lone_room_1401.specs.declared.entry.SeatedCommand.{SeatedCommand}
+use Rattle.machine_commands.specs.declared.answer.Answer.{Answer}
+use Rattle.machine_commands.specs.declared.command.Command.{Command}
+use Rattle.room_alone.specs.Kept.{KeptAccount}
+use Rattle.room_alone.specs.Journal.{entry, pairs_of}
+use Rattle.room_alone.specs.Replay.{pair, reply_to}
+use Rattle.room_alone.specs.declared.entry.Entry.{Entry}
+use Rattle.room_alone.specs.declared.entry.SeatedCommand.{SeatedCommand}
 use Rattle.room_1401.specs.Keeping.{shown_in}
 use Rattle.room_1401.specs.Seen.{Carries, own}
 use Rattle.room_1401.proofs.KeepingLemmas.{all_shown, more_shown, shown_as, still_shown}

@@ -1,8 +1,8 @@
 -- All parts of the ledger are back, so what the seats made together is the total, which is how many commands are shown.
 use Rattle.std.proofs.Common.{◌≡◌, ◌≤◌, ap, sym, ◌∙◌, arith, List, length}
-use Rattle.lone_room_1401.specs.Kept.{KeptAccount}
-use Rattle.lone_room_1401.specs.declared.entry.Entry.{Entry}
-use Rattle.lone_room_1401.proofs.ReplayLemmas.{length-pairs_of}
+use Rattle.room_alone.specs.Kept.{KeptAccount}
+use Rattle.room_alone.specs.declared.entry.Entry.{Entry}
+use Rattle.room_alone.proofs.ReplayLemmas.{length-pairs_of}
 use Rattle.room_1401.specs.Closing.{made_of}
 use Rattle.room_1401.specs.Keeping.{kept_part, shown_in}
 use Rattle.room_1401.proofs.ClosingLemmas.{all_once, settled}

@@ -1,12 +1,12 @@
 -- One command more: what is published, and what is kept.
 use Rattle.std.proofs.Common.{◌≡◌, ap, sym, ◌∙◌, subst, false, List, [], ◌∷◌, ◌++◌, drop}
 use Rattle.std.specs.Io.KnownBytes.{Appends}
-use Rattle.lone_room_1401.specs.Journal.{is_full, pairs_of}
-use Rattle.lone_room_1401.specs.Kept.{kept_text}
-use Rattle.lone_room_1401.specs.declared.entry.Entry.{Entry}
-use Rattle.lone_room_1401.specs.declared.entry.SeatedCommand.{SeatedCommand}
+use Rattle.room_alone.specs.Journal.{is_full, pairs_of}
+use Rattle.room_alone.specs.Kept.{kept_text}
+use Rattle.room_alone.specs.declared.entry.Entry.{Entry}
+use Rattle.room_alone.specs.declared.entry.SeatedCommand.{SeatedCommand}
 use Rattle.room_1401.specs.Rule.{Publishes}
-use Rattle.lone_room_1401.proofs.KeptLemmas.{kept_before}
+use Rattle.room_alone.proofs.KeptLemmas.{kept_before}
 use Rattle.room_1401.proofs.KeepingLemmas.{all_shown}
 use Rattle.room_1401.proofs.recording.Recorder.carry.Goals as goal
 

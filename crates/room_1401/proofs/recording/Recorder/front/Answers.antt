@@ -1,6 +1,6 @@
 -- What the invariant says of the kept text holds of the shown commands.
 use Rattle.std.proofs.Common.{◌≡◌, ℕ, refl, subst}
-use Rattle.lone_room_1401.specs.Kept.{KeptAccount}
+use Rattle.room_alone.specs.Kept.{KeptAccount}
 use Rattle.room_1401.specs.Keeping.{AreShown, shown_in}
 use Rattle.room_1401.proofs.recording.Recorder.front.Goals as goal
 

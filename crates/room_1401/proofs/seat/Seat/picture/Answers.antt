@@ -1,7 +1,7 @@
 -- The seat has then seen what the picture was taken after, and still has what it made among its own commands.
 use Rattle.std.proofs.Common.{◌≡◌, ◌≤◌, List, length, ap, sym, ◌∙◌, subst, arith}
 use mathlib.Core.List.{IsPrefix}
-use Rattle.lone_room_1401.specs.declared.entry.SeatedCommand.{SeatedCommand}
+use Rattle.room_alone.specs.declared.entry.SeatedCommand.{SeatedCommand}
 use Rattle.room_1401.specs.declared.picture.Picture.{Picture}
 use Rattle.room_1401.specs.Picture.{picture_after}
 use Rattle.room_1401.specs.Seen.{SeatView}

@@ -1,0 +1,23 @@
+//! All faults of a source but those that only follow from others, what is wrong at each, and what the lines say of
+//! labels.
+//!
+//! ```text
+//! source_faults(alloc, language, source)?                     // all that don't only follow from one told before
+//! source_explanations(alloc, language, source)?               // each with what is wrong, and in which columns
+//! ```
+//!
+//! The lowest kind of fault on a line: see `autocoder_faults`. `notes` collects what the lines say of labels, for
+//! warnings of sources without a fault.
+#![tactic(auto)]
+
+mod declarations; // what is declared, by the lines up to END and by all
+pub mod own_fault; // which faults only follow from one told before
+pub mod told_faults; // all faults of lines but those
+pub mod explanation; // what is wrong at a fault, and in which columns
+pub mod explained_lines; // the same faults, each with what is wrong
+pub mod notes; // what lines say of labels, and which indicators they can set
+
+pub use explained_lines::source_explanations;
+pub use explanation::{Cause, Explanation, WHOLE_LINE};
+pub use notes::{LabelSet, Notes};
+pub use told_faults::source_faults;

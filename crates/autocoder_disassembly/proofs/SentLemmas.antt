@@ -1,0 +1,51 @@
+-- What was written of a text, part by part.
+use Rattle.std.proofs.Common.{ℕ, List, [], ◌++◌, Option, refl, sym, ap, ◌∙◌, append_assoc}
+use Rattle.std.proofs.Common.{append-nil, subst}
+use Rattle.std.proofs.KnownBytes.{Appends-nil, Appends-trans}
+use Rattle.std.specs.Io.KnownBytes.{Appends}
+use Rattle.bytes_streams.specs.Sink.{AppendsPart}
+use Rattle.autocoder_disassembly.specs.Writing.{Sent}
+
+-- nothing was written, and all is left
+pub sent_none : (old : Option (List ℕ)) (text : List ℕ) → Sent old old text text
+sent_none old text = ([], refl, Appends-nil old)
+
+-- all was written
+pub sent_all : (old new : Option (List ℕ)) (text : List ℕ) → Appends old new text → Sent old new text []
+sent_all old new text all = (text, sym (append-nil text), all)
+
+-- more was written of what was left
+pub sent_more : (old between new : Option (List ℕ)) (text left less : List ℕ) → Sent old between text left
+    → Sent between new left less → Sent old new text less
+sent_more old between new text left less first more = (
+  first.0 ++ more.0,
+  first.1 ∙ ap (λ rest. first.0 ++ rest) more.1 ∙ sym (append_assoc first.0 more.0 less),
+  Appends-trans old between new first.0 more.0 first.2 more.2,
+)
+
+-- what was left has bytes after it
+pub sent_before : (old new : Option (List ℕ)) (text left behind : List ℕ) → Sent old new text left
+    → Sent old new (text ++ behind) (left ++ behind)
+sent_before old new text left behind sent =
+    (sent.0, ap (λ all. all ++ behind) sent.1 ∙ append_assoc sent.0 left behind, sent.2)
+
+-- all that was left was written
+pub sent_rest : (old between new : Option (List ℕ)) (text left : List ℕ) → Sent old between text left
+    → Appends between new left → Appends old new text
+sent_rest old between new text left first rest =
+    subst (λ all. Appends old new all) (sym first.1) (Appends-trans old between new first.0 left first.2 rest)
+
+-- a part of what was left was written
+pub sent_part : (old between new : Option (List ℕ)) (text left : List ℕ) → Sent old between text left
+    → AppendsPart between new left → AppendsPart old new text
+sent_part old between new text left first part = (
+  first.0 ++ part.0,
+  (part.1.0, first.1 ∙ ap (λ rest. first.0 ++ rest) part.1.1 ∙ sym (append_assoc first.0 part.0 part.1.0)),
+  Appends-trans old between new first.0 part.0 first.2 part.2,
+)
+
+-- a part of a text is one of any text that begins with it
+pub part_before : (old new : Option (List ℕ)) (text behind : List ℕ) → AppendsPart old new text
+    → AppendsPart old new (text ++ behind)
+part_before old new text behind part =
+    (part.0, (part.1.0 ++ behind, ap (λ all. all ++ behind) part.1.1 ∙ append_assoc part.0 part.1.0 behind), part.2)

@@ -1,0 +1,10 @@
+-- The lines so far, with those of the literals that are left, are those of all.
+use Rattle.std.proofs.Common.{◌≡◌, ◌++◌, drop}
+use Rattle.autocoder_placing.specs.View.{places_of}
+use Rattle.autocoder_listing.specs.Listing.{literal_lines}
+use Rattle.autocoder_listing.proofs.listing.put_literal_lines.Given as goal
+
+abbrev pub invariant-loop-literal : goal.invariant-loop-literal
+invariant-loop-literal l =
+    l.lines.items ++ literal_lines (places_of l.all) l.next (drop l.literal-index l.literals)
+    ≡ l.initial.lines.items ++ literal_lines (places_of l.all) l.from l.literals

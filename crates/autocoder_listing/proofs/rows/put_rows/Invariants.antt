@@ -1,0 +1,10 @@
+-- The rows so far, with those of the lines that are left, are those of all lines.
+use Rattle.std.proofs.Common.{◌≡◌, ◌+◌, ◌++◌, drop}
+use Rattle.autocoder_placing.specs.View.{places_of}
+use Rattle.autocoder_listing.specs.Rows.{rows_from}
+use Rattle.autocoder_listing.proofs.rows.put_rows.Given as goal
+
+abbrev pub invariant-loop-i : goal.invariant-loop-i
+invariant-loop-i l =
+    l.rows.items ++ rows_from (places_of l.all) (places_of l.so_far) (l.i + 1) (drop l.i l.lines)
+    ≡ l.initial.rows.items ++ rows_from (places_of l.all) (places_of l.initial.so_far) 1 l.lines

@@ -1,0 +1,16 @@
+-- What is listed, with what the lines that are left stand for, is the whole.
+use Rattle.std.proofs.Common.{◌≡◌, ◌+◌, ◌++◌, length, drop}
+use Rattle.std.specs.List.{flat_map}
+use Rattle.autocoder_statements.specs.SourceLine.{lines_of}
+use Rattle.autocoder_placing.specs.View.{places_of}
+use Rattle.autocoder_listing.specs.Listing.{line_text, listing_from}
+use Rattle.autocoder_listing.proofs.whole_text.TextSoFar.put_lines.Given as goal
+
+abbrev pub invariant-loop-i : goal.invariant-loop-i
+invariant-loop-i l = record {
+  listed : l.self.text.items ++ flat_map line_text
+      (listing_from (places_of l.all) (places_of l.self.so_far) (l.i + 1) (drop l.i l.lines) (lines_of l.sources))
+      ≡ l.initial.self.text.items ++ flat_map line_text
+      (listing_from (places_of l.all) (places_of l.initial.self.so_far) 1 l.lines (lines_of l.source));
+  left : length (drop l.i l.lines) ≡ length (lines_of l.sources);
+}

@@ -1,0 +1,27 @@
+//! What is printed of a source whose lines have no fault, once all of it is placed: its listing, its symbol table and
+//! its cross-reference.
+//!
+//! ```text
+//! let all = place_all(alloc, hashing, &chains, lines)?;       // by `autocoder_placing`
+//! make_listing(alloc, &all, source, lines)?                   // the lines with their addresses and cells
+//! make_rows(alloc, &all, lines)?.line_of(alloc, at, &cells)?  // the line that placed cells
+//! make_tables(alloc, hashing, &all, lines)?.symbols           // a line for each label
+//! ```
+//!
+//! The image of the same lines is made by `autocoder_image`.
+#![tactic(auto)]
+
+mod printing; // the parts of a line of the listing
+pub mod listing; // the source with its addresses and cells
+pub mod source_listing; // the same, line by line
+pub mod whole_text; // the same as one text
+pub mod rows; // what has an address in it
+mod symbol_table; // each label with its address, its length and its line
+mod cross_reference; // the lines that name each label
+pub mod tables; // both as texts
+
+pub use listing::{Listing, ListingLine};
+pub use rows::{Row, Rows, make_rows};
+pub use source_listing::make_listing;
+pub use tables::{Tables, make_tables};
+pub use whole_text::listing_text;

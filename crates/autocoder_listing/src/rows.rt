@@ -1,0 +1,229 @@
+//! The rows of a listing that have an address: the number of the line, the address, and what is placed there.
+ghost use Rattle.std.specs.Prelude.{◌≡◌, ◌++◌, ◌<◌, ◌^◌, List, length, None, Some, IfOk, IfErr, IfSome, OnOk};
+ghost use Rattle.autocoder_statements.specs.declared.statement.Line.{Line as ALine};
+ghost use Rattle.autocoder_symbols.specs.Fault.{IsMemory};
+ghost use Rattle.autocoder_placing.specs.Placement.{placed};
+ghost use Rattle.autocoder_placing.specs.View.{places_of};
+ghost use Rattle.autocoder_listing.specs.Listing.{characters_text};
+ghost use Rattle.autocoder_listing.specs.Rows.{row_of, listed, rows_from, rows_of, is_at, last_at, line_of};
+ghost use Rattle.autocoder_listing.specs.Rows.{IsLastAt};
+
+use crate::listing::{address_shown, cells_at};
+use crate::printing::{SHOWN_CELLS, put_characters};
+use autocoder_placing::Placing;
+use autocoder_statements::{Line, Statement};
+use autocoder_symbols::{AsmFault, Lines};
+use bcd_1401::Cell;
+use std::alloc::Global;
+use std::marker::Model;
+
+/// What the line of a statement shows.
+#[derive(Clone, Copy, Debug, PartialEq, Eq)]
+pub struct Row {
+    /// The number of the line, counted from 1.
+    pub number: u64,
+    /// The address.
+    pub address: i64,
+    /// The graphics of the first eight cells that the statement places, with blanks after them if there are fewer.
+    pub characters: [u8; 8],
+}
+
+/// The rows of a listing that have an address, in the order of the lines of the source. Contracts see the list of them.
+#[derive(Debug, Drop)]
+pub struct Rows {
+    rows: Vec<Row>,
+}
+
+impl Model for Rows {
+    ghost use Rattle.std.specs.Prelude.{List};
+    ghost use Rattle.autocoder_listing.specs.declared.rows.Row.{Row};
+
+    ghost Value = { List Row };
+
+    ghost view = { λ rows. rows.rows.items };
+}
+
+/// These eight bytes.
+fn eight(text: &[u8]) -> [u8; 8]
+    requires { length text.now ≡ 8 }
+    ensures { result ≡ text.now }
+{
+    let mut characters = [b' '; 8];
+    characters.copy_from_slice(text);
+    characters
+}
+
+/// The text that a line shows of cells.
+#[tactic(auto, using(crate::proofs::RowsLemmas::eight_characters))]
+fn text_of(alloc: Global, cells: &[Cell]) -> Result<Vec<u8>, AsmFault>
+    ensures ok { IfOk result (λ text. text.items ≡ characters_text cells.now) }
+    ensures len { IfOk result (λ text. length text.items ≡ 8) }
+    ensures err { IfErr result IsMemory }
+{
+    let mut text = Vec::new(alloc);
+    put_characters(&mut text, cells)?;
+    Ok(text)
+}
+
+/// The characters that a line shows of cells.
+fn characters_of(alloc: Global, cells: &[Cell]) -> Result<[u8; 8], AsmFault>
+    ensures ok { IfOk result (λ characters. characters ≡ characters_text cells.now) }
+    ensures err { IfErr result IsMemory }
+{
+    let text = text_of(alloc, cells)?;
+    Ok(eight(text.as_slice()))
+}
+
+/// The row of a statement here on the line of this number, with these lines after it, if its line shows an address.
+fn row_with<'a>(
+    alloc: Global,
+    all: &Placing<'a>,
+    so_far: &Placing<'a>,
+    number: u64,
+    statement: &Statement,
+    behind: &Lines<'_>,
+) -> Result<Option<Row>, AsmFault>
+    ensures ok { IfOk result (λ row. row
+        ≡ row_of (places_of all.now) (places_of so_far.now) number (Some statement.now) behind.now) }
+    ensures err { IfErr result IsMemory }
+{
+    let row = statement.body.describe();
+    let Some(address) = address_shown(all, so_far, &statement.body, &row)? else {
+        return Ok(None);
+    };
+    let cells = cells_at(alloc, all, so_far, &row, behind)?;
+    let characters = characters_of(alloc, &cells)?;
+    Ok(Some(Row {
+        number,
+        address,
+        characters,
+    }))
+}
+
+/// The row of a line here of this number, with these lines after it, if it has one.
+fn row_of<'a>(
+    alloc: Global,
+    all: &Placing<'a>,
+    so_far: &Placing<'a>,
+    number: u64,
+    line: &Line,
+    behind: &Lines<'_>,
+) -> Result<Option<Row>, AsmFault>
+    ensures ok { IfOk result (λ row. row
+        ≡ row_of (places_of all.now) (places_of so_far.now) number line.now.statement behind.now) }
+    ensures err { IfErr result IsMemory }
+{
+    match &line.statement {
+        Some(statement) => row_with(alloc, all, so_far, number, statement, behind),
+        None => Ok(None),
+    }
+}
+
+/// Adds a row, if there is one.
+fn put_row(rows: &mut Vec<Row>, row: Option<Row>) -> Result<(), AsmFault>
+    ensures ok { OnOk result (rows.new.items ≡ rows.old.items ++ listed row) }
+    ensures err { IfErr result IsMemory }
+{
+    if let Some(row) = row {
+        rows.push(row)?;
+    }
+    Ok(())
+}
+
+/// Adds the rows of lines here, and places them.
+fn put_rows<'a>(
+    alloc: Global,
+    all: &Placing<'a>,
+    so_far: &mut Placing<'a>,
+    lines: &Lines<'_>,
+    rows: &mut Vec<Row>,
+) -> Result<(), AsmFault>
+    requires { length lines.now < 2 ^ 32 }
+    ensures ok { OnOk result (rows.new.items
+        ≡ rows.old.items ++ rows_from (places_of all.now) (places_of so_far.old) 1 lines.now) }
+    ensures err { IfErr result IsMemory }
+{
+    for i in 0..lines.len() {
+        let line = lines.line(i);
+        let row = row_of(alloc, all, so_far, i as u64 + 1, line, &lines.behind(i))?;
+        put_row(rows, row)?;
+        so_far.place(line)?;
+    }
+    Ok(())
+}
+
+/// The rows of lines that have an address, once all is placed.
+///
+/// # Errors
+///
+/// `Memory` if there is no room.
+pub fn make_rows(alloc: Global, all: &Placing<'_>, lines: &Lines<'_>) -> Result<Rows, AsmFault>
+    requires few { length lines.now < 2 ^ 32 }
+    requires placed { places_of all.now ≡ placed lines.now }
+    ensures rows { IfOk result (λ rows. rows ≡ rows_of lines.now) }
+    ensures err { IfErr result IsMemory }
+{
+    let mut rows = Vec::new(alloc);
+    let mut so_far = Placing::new(alloc, all.hashing, all.chains);
+    put_rows(alloc, all, &mut so_far, lines, &mut rows)?;
+    Ok(Rows { rows })
+}
+
+/// Whether a row shows these characters at a place.
+fn is_at(row: &Row, at: u16, characters: &[u8; 8]) -> bool
+    ensures { result ≡ is_at at characters.now row.now }
+{
+    row.address == i64::from(at) && row.characters == *characters
+}
+
+/// The number of the last row that shows these characters at a place.
+fn last_at(rows: &[Row], at: u16, characters: &[u8; 8]) -> Option<u64>
+    ensures { result ≡ last_at at characters.now None rows.now }
+{
+    let mut found = None;
+    for row in rows {
+        if is_at(row, at, characters) {
+            found = Some(row.number);
+        }
+    }
+    found
+}
+
+impl Rows {
+    /// The rows.
+    pub fn as_slice(&self) -> &[Row]
+        ensures { result.now ≡ self.now }
+    {
+        self.rows.as_slice()
+    }
+
+    /// The number of the last line that placed cells with these characters at a place, if there is one. It shows eight
+    /// characters, so there is none for more cells.
+    ///
+    /// # Errors
+    ///
+    /// `Memory` if there is no room for the characters.
+    pub fn line_of(&self, alloc: Global, at: u16, cells: &[Cell]) -> Result<Option<u64>, AsmFault>
+        ensures ok { IfOk result (λ number. number ≡ line_of self.now at cells.now) }
+
+        // It is the last line that shows these characters at the place, of the lines whose rows these are.
+        ensures placed { (lines : List ALine) → self.now ≡ rows_of lines
+            → IfOk result (λ number. IfSome number (IsLastAt lines at (characters_text cells.now))) }
+        ensures err { IfErr result IsMemory }
+    {
+        let number = self.number_of(alloc, at, cells)?;
+        Ok(number)
+    }
+
+    /// The number of the last row that shows these cells at a place, if there is one.
+    fn number_of(&self, alloc: Global, at: u16, cells: &[Cell]) -> Result<Option<u64>, AsmFault>
+        ensures ok { IfOk result (λ number. number ≡ line_of self.now at cells.now) }
+        ensures err { IfErr result IsMemory }
+    {
+        if cells.len() > SHOWN_CELLS {
+            return Ok(None);
+        }
+        let characters = characters_of(alloc, cells)?;
+        Ok(last_at(self.rows.as_slice(), at, &characters))
+    }
+}

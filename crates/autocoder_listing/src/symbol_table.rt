@@ -1,0 +1,246 @@
+//! The symbol table of a source: each label with its address, the length of what it names, and its line.
+ghost use Rattle.std.specs.Prelude.{◌≡◌, ◌<◌, ◌^◌, ◌++◌, length, IfOk, IfErr, OnOk};
+ghost use Rattle.std.specs.List.{flat_map};
+ghost use Rattle.autocoder_symbols.specs.Fault.{IsMemory};
+ghost use Rattle.autocoder_placing.specs.Placement.{unplaced};
+ghost use Rattle.autocoder_placing.specs.View.{places_of};
+ghost use Rattle.autocoder_listing.specs.SymbolTable.{span_length, length_named, symbol_with, symbol_at, listed};
+ghost use Rattle.autocoder_listing.specs.SymbolTable.{second_area, area_symbols, symbols_at, symbols_from, length_text};
+ghost use Rattle.autocoder_listing.specs.SymbolTable.{shown_value, symbol_line};
+
+use crate::printing::put_address;
+use autocoder_placing::{LiteralKey, Placing, contents_length};
+use autocoder_statements::{
+    AreaLiteral, AreaRole, Description, Label, LabelField, Line, Point, Span, Statement,
+};
+use autocoder_symbols::{AsmFault, Lines, SourceHashing};
+use machine_notation::put_digits;
+use std::alloc::Global;
+
+/// How many digits a length has.
+const LENGTH_DIGITS: u8 = 5;
+
+/// How many digits the number of a line has at least.
+pub(crate) const LINE_DIGITS: u8 = 4;
+
+/// A label that a line declares.
+#[derive(Clone, Copy)]
+pub(crate) struct Symbol {
+    /// The label.
+    pub label: Label,
+    /// The value that operands take for it.
+    pub value: i64,
+    /// How many places it names; none for EQU, which names a value.
+    pub length: Option<u32>,
+    /// The number of the line that declares it.
+    pub line: u64,
+}
+
+/// How many places a field of an area has.
+fn span_length(span: Span) -> u32
+    ensures { result ≡ span_length span }
+{
+    (u32::from(span.last) + 1).saturating_sub(u32::from(span.first))
+}
+
+/// How many places the label of a statement names.
+fn length_named(row: &Description) -> Option<u32>
+    ensures { result ≡ length_named row.now }
+{
+    match row.names {
+        Point::First | Point::Last => Some(contents_length(&row.contents)),
+        Point::InArea(_) | Point::Counted(_) => match row.areas {
+            AreaRole::Divides(Some(span)) => Some(span_length(span)),
+            AreaRole::Divides(None) | AreaRole::Ends | AreaRole::Keeps | AreaRole::Makes(_) => None,
+        },
+        Point::Value => None,
+    }
+}
+
+/// The symbol that a statement on the line of this number declares, once all is placed.
+fn symbol_with(
+    all: &Placing<'_>,
+    number: u64,
+    statement: Statement,
+) -> Result<Option<Symbol>, AsmFault>
+    ensures symbol { IfOk result (λ symbol. symbol ≡ symbol_with (places_of all.now) number statement) }
+    ensures err { IfErr result IsMemory }
+{
+    match statement.label {
+        LabelField::Label(label) => {
+            let value = all.symbol(label)?.value;
+            Ok(Some(Symbol {
+                label,
+                value,
+                length: length_named(&statement.body.describe()),
+                line: number,
+            }))
+        },
+        LabelField::Absent | LabelField::Malformed => Ok(None),
+    }
+}
+
+/// The symbol that the line of this number declares, once all is placed.
+fn symbol_at(all: &Placing<'_>, number: u64, line: &Line) -> Result<Option<Symbol>, AsmFault>
+    ensures symbol { IfOk result (λ symbol. symbol ≡ symbol_at (places_of all.now) number line.now.statement) }
+    ensures err { IfErr result IsMemory }
+{
+    match line.statement {
+        Some(statement) => symbol_with(all, number, statement),
+        None => Ok(None),
+    }
+}
+
+/// Adds a symbol, if there is one.
+fn put_symbol(symbols: &mut Vec<Symbol>, symbol: Option<Symbol>) -> Result<(), AsmFault>
+    ensures ok { OnOk result (symbols.new.items ≡ symbols.old.items ++ listed symbol) }
+    ensures err { IfErr result IsMemory }
+{
+    if let Some(symbol) = symbol {
+        symbols.push(symbol)?;
+    }
+    Ok(())
+}
+
+/// The area literal that the second of two operands is, unless the first is the same.
+fn second_area(first: Option<AreaLiteral>, second: Option<AreaLiteral>) -> Option<AreaLiteral>
+    ensures { result ≡ second_area first second }
+{
+    match (first, second) {
+        (Some(first), Some(second)) => {
+            if LiteralKey::Area(first) == LiteralKey::Area(second) {
+                None
+            } else {
+                Some(second)
+            }
+        },
+        (None, _) => second,
+        (Some(_), None) => None,
+    }
+}
+
+/// Adds the symbol of an area literal on the line of this number, if there is one and it isn't used before.
+fn put_area(
+    all: &Placing<'_>,
+    so_far: &Placing<'_>,
+    number: u64,
+    literal: Option<AreaLiteral>,
+    symbols: &mut Vec<Symbol>,
+) -> Result<(), AsmFault>
+    ensures ok { OnOk result (symbols.new.items ≡ symbols.old.items
+        ++ area_symbols (places_of all.now) (places_of so_far.now) number literal) }
+    ensures err { IfErr result IsMemory }
+{
+    let Some(literal) = literal else {
+        return Ok(());
+    };
+    if !so_far.literals.contains(&LiteralKey::Area(literal)) {
+        let value = all.symbol(literal.label)?.value;
+        symbols.push(Symbol {
+            label: literal.label,
+            value,
+            length: Some(u32::from(literal.places)),
+            line: number,
+        })?;
+    }
+    Ok(())
+}
+
+/// Adds the symbols that the line of this number declares: its label, and those of the area literals that it uses
+/// first.
+fn put_symbols(
+    all: &Placing<'_>,
+    so_far: &Placing<'_>,
+    number: u64,
+    line: &Line,
+    symbols: &mut Vec<Symbol>,
+) -> Result<(), AsmFault>
+    ensures ok { OnOk result (symbols.new.items ≡ symbols.old.items
+        ++ symbols_at (places_of all.now) (places_of so_far.now) number line.now) }
+    ensures err { IfErr result IsMemory }
+{
+    let (first, second) = line.areas();
+    put_symbol(symbols, symbol_at(all, number, line)?)?;
+    put_area(all, so_far, number, first, symbols)?;
+    put_area(all, so_far, number, second_area(first, second), symbols)?;
+    Ok(())
+}
+
+/// The symbols that lines declare, in their order, once all is placed.
+///
+/// # Errors
+///
+/// `Memory` if there is no room for them.
+pub(crate) fn symbols_of(
+    alloc: Global,
+    hashing: SourceHashing,
+    all: &Placing<'_>,
+    lines: &Lines<'_>,
+) -> Result<Vec<Symbol>, AsmFault>
+    requires { length lines.now < 2 ^ 32 }
+    ensures ok { IfOk result (λ symbols. symbols.items
+        ≡ symbols_from (places_of all.now) (unplaced (places_of all.now)) 1 lines.now) }
+    ensures err { IfErr result IsMemory }
+{
+    let mut symbols = Vec::new(alloc);
+    let mut so_far = Placing::new(alloc, hashing, all.chains);
+    for i in 0..lines.len() {
+        let line = lines.line(i);
+        put_symbols(all, &so_far, i as u64 + 1, line, &mut symbols)?;
+        so_far.place(line)?;
+    }
+    Ok(symbols)
+}
+
+/// Adds a length, or blanks if there is none.
+#[tactic(auto, unfolding(crate::specs::SymbolTable::length_text))]
+fn put_length(text: &mut Vec<u8>, length: Option<u32>) -> Result<(), AsmFault>
+    ensures ok { OnOk result (text.new.items ≡ text.old.items ++ length_text length) }
+    ensures err { IfErr result IsMemory }
+{
+    match length {
+        Some(length) => put_digits(text, LENGTH_DIGITS, u64::from(length))?,
+        None => text.extend_from_slice(b"     ")?,
+    }
+    Ok(())
+}
+
+/// The address that a symbol's line shows, if its value is a place; that of a unit's name isn't.
+fn shown_value(value: i64) -> Option<i64>
+    ensures { result ≡ shown_value value }
+{
+    if value < 0 { None } else { Some(value) }
+}
+
+/// Adds the line of a symbol.
+#[tactic(auto, unfolding(crate::specs::SymbolTable::symbol_line))]
+fn put_symbol_line(text: &mut Vec<u8>, symbol: Symbol) -> Result<(), AsmFault>
+    ensures ok { OnOk result (text.new.items ≡ text.old.items ++ symbol_line symbol) }
+    ensures err { IfErr result IsMemory }
+{
+    text.extend_from_slice(symbol.label.text.as_slice())?;
+    text.push(b' ')?;
+    put_address(text, shown_value(symbol.value))?;
+    text.push(b' ')?;
+    put_length(text, symbol.length)?;
+    text.push(b' ')?;
+    put_digits(text, LINE_DIGITS, symbol.line)?;
+    text.push(b'\n')?;
+    Ok(())
+}
+
+/// The symbol table: the lines of these symbols.
+///
+/// # Errors
+///
+/// `Memory` if there is no room for the text.
+pub(crate) fn symbols_text(alloc: Global, symbols: &[Symbol]) -> Result<Vec<u8>, AsmFault>
+    ensures ok { IfOk result (λ text. text.items ≡ flat_map symbol_line symbols.now) }
+    ensures err { IfErr result IsMemory }
+{
+    let mut text = Vec::new(alloc);
+    for symbol in symbols {
+        put_symbol_line(&mut text, *symbol)?;
+    }
+    Ok(text)
+}

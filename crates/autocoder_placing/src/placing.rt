@@ -1,0 +1,533 @@
+//! Where statements and literals are placed.
+ghost use Rattle.std.specs.Prelude.{◌≡◌, ◌+◌, ◌++◌, Some, drop, fold, IfOk, IfErr, OnOk};
+ghost use Rattle.autocoder_statements.specs.Description.{describe};
+ghost use Rattle.autocoder_statements.specs.Statement.{well_formed};
+ghost use Rattle.autocoder_symbols.specs.Chains.{chains_of};
+ghost use Rattle.autocoder_symbols.specs.Fault.{IsMemory};
+ghost use Rattle.autocoder_symbols.specs.Symbols.{sites_of};
+ghost use Rattle.autocoder_symbols.specs.View.{chains_view};
+ghost use Rattle.autocoder_placing.specs.Placement.{nothing_placed, with_literal, with_operand, with_pending};
+ghost use Rattle.autocoder_placing.specs.Placement.{with_uses};
+ghost use Rattle.autocoder_placing.specs.Placement.{pending, behind_literals, units_from, with_area, with_area_labels};
+ghost use Rattle.autocoder_placing.specs.Placement.{contents_length, value_so_far, index_so_far, asked_value};
+ghost use Rattle.autocoder_placing.specs.Placement.{first_of_two};
+ghost use Rattle.autocoder_placing.specs.Placement.{end_of_two, counted_from, index_of_fields, with_areas, own_value};
+ghost use Rattle.autocoder_placing.specs.Placement.{start_by, with_ends, point_value, point_index, label_value};
+ghost use Rattle.autocoder_placing.specs.Placement.{next_moved};
+ghost use Rattle.autocoder_placing.specs.Placement.{highest_with, taken_up_to, label_unit};
+ghost use Rattle.autocoder_placing.specs.Placement.{gone_on, behind_row, with_label, placed_after, after_statement};
+ghost use Rattle.autocoder_placing.specs.Placement.{placed};
+ghost use Rattle.autocoder_placing.specs.Values.{last_place};
+ghost use Rattle.autocoder_placing.specs.View.{places_of};
+
+use crate::lengths::{contents_length, last_place};
+use crate::literals::LiteralKey;
+use crate::symbol_values::{SymbolValue, Values};
+use autocoder_statements::{
+    Addressing, AreaRole, Areas, Body, Contents, Description, Label, LabelField, Line, Literal,
+    Next, Operand, OperandField, Point, Statement, Unit,
+};
+use autocoder_symbols::{AsmFault, Chains, Lines, SourceHashing, checked_sum};
+use indexmap::{IndexMap, IndexSet};
+use std::alloc::Global;
+
+/// Where a program is placed without ORG.
+pub(crate) const USUAL_PLACE: i64 = 333;
+
+/// What is placed so far.
+#[derive(Drop)]
+pub struct Placing<'a> {
+    /// The chains of EQUs of all lines.
+    pub chains: &'a Chains,
+    /// The next place.
+    pub next: i64,
+    /// The place after the highest that is taken, if one is.
+    pub highest: Option<i64>,
+    /// The first place of the last areas.
+    pub areas: i64,
+    /// The place that the labels of their fields are counted from.
+    pub fields_from: i64,
+    /// The index that the labels of their fields have.
+    pub fields_index: u8,
+    /// The place of the first instruction.
+    pub first_instruction: Option<i64>,
+    /// The next place as it was before END.
+    pub before_end: i64,
+    /// The values of labels.
+    pub values: Values,
+    /// The literals in the order of their first use.
+    pub literals: IndexSet<LiteralKey, SourceHashing>,
+    /// How each of them was first written.
+    pub spellings: Vec<Literal>,
+    /// The units places of those that are placed.
+    pub addresses: Vec<i64>,
+    /// How labels and literals are hashed.
+    pub hashing: SourceHashing,
+}
+
+/// The place of the first instruction, once contents begin at a place.
+fn first_of_two(first: Option<i64>, place: i64, contents: &Contents) -> Option<i64>
+    ensures { result ≡ first_of_two first place contents.now }
+{
+    match contents {
+        Contents::Instruction(..) => Some(first.unwrap_or(place)),
+        Contents::Nothing
+        | Contents::MarkedConstant(_)
+        | Contents::Constant(_)
+        | Contents::Space(_)
+        | Contents::Areas(_)
+        | Contents::Chain(_)
+        | Contents::AddressConstant(_) => first,
+    }
+}
+
+/// The next place as it was before END, once a statement is at a place.
+fn end_of_two(before: i64, place: i64, addressing: &Addressing) -> i64
+    ensures { result ≡ end_of_two before place addressing.now }
+{
+    match addressing {
+        Addressing::Entry(_) => place,
+        Addressing::Nothing
+        | Addressing::Addresses(_)
+        | Addressing::EarlierValue(_)
+        | Addressing::Equal(_)
+        | Addressing::Value(_) => before,
+    }
+}
+
+/// The place that the labels of fields of areas are counted from, which begin at a place.
+fn counted_from(first: i64, areas: Option<Areas>) -> i64
+    ensures { result ≡ counted_from first areas }
+{
+    match areas {
+        Some(areas) if areas.counts_from_zero => 0,
+        Some(_) | None => first,
+    }
+}
+
+/// The index that the labels of fields of areas have.
+fn index_of_fields(areas: Option<Areas>) -> u8
+    ensures { result ≡ index_of_fields areas }
+{
+    match areas {
+        Some(areas) => areas.index,
+        None => 0,
+    }
+}
+
+/// The unit that EQU gives its label, if it gives it one.
+fn label_unit(addressing: &Addressing) -> Option<Unit>
+    ensures { result ≡ label_unit addressing.now }
+{
+    match addressing {
+        Addressing::Equal(operands) => match operands.a {
+            OperandField::Operand(Operand::Unit(unit)) => Some(unit),
+            OperandField::Operand(Operand::Address(_) | Operand::Literal(_))
+            | OperandField::Absent
+            | OperandField::Malformed => None,
+        },
+        Addressing::Nothing
+        | Addressing::Addresses(_)
+        | Addressing::EarlierValue(_)
+        | Addressing::Value(_)
+        | Addressing::Entry(_) => None,
+    }
+}
+
+/// The place after the highest that is taken, once all from a first place up to the one before another are.
+fn highest_with(highest: Option<i64>, first: i64, behind: i64) -> Option<i64>
+    ensures { result ≡ highest_with highest first behind }
+{
+    if first >= behind {
+        return highest;
+    }
+    match highest {
+        Some(highest) if highest >= behind => Some(highest),
+        Some(_) | None => Some(behind),
+    }
+}
+
+/// The place after literals that begin at a place.
+pub(crate) fn behind_literals(from: i64, literals: &[LiteralKey]) -> Result<i64, AsmFault>
+    ensures value { IfOk result (λ behind. behind ≡ behind_literals from literals.now) }
+    ensures err { IfErr result IsMemory }
+{
+    let mut next = from;
+    for literal in literals {
+        next = checked_sum(next, i64::from(literal.len()))?;
+    }
+    Ok(next)
+}
+
+/// Gives the label of an area literal its units place.
+fn give_area(values: &mut Values, units: i64, literal: LiteralKey) -> Result<(), AsmFault>
+    ensures ok { OnOk result (values.new.entries ≡ with_area values.old.entries units literal) }
+    ensures err { IfErr result IsMemory }
+{
+    match literal {
+        LiteralKey::Area(area) => {
+            let value = SymbolValue {
+                value: units,
+                index: 0,
+                unit: None,
+            };
+            values.insert(area.label, value)?;
+        },
+        LiteralKey::Characters(_) | LiteralKey::Address(_) => {},
+    }
+    Ok(())
+}
+
+/// Gives the labels of area literals that begin at a place their units places.
+fn give_areas(values: &mut Values, from: i64, literals: &[LiteralKey]) -> Result<(), AsmFault>
+    ensures ok { OnOk result (values.new.entries ≡ with_area_labels values.old.entries from literals.now) }
+    ensures err { IfErr result IsMemory }
+{
+    let mut next = from;
+    for literal in literals {
+        let behind = checked_sum(next, i64::from(literal.len()))?;
+        let units = checked_sum(behind, -1)?;
+        give_area(values, units, *literal)?;
+        next = behind;
+    }
+    Ok(())
+}
+
+/// Places literals from a place on, and says which place is next.
+fn place_literals(
+    from: i64,
+    literals: &[LiteralKey],
+    addresses: &mut Vec<i64>,
+) -> Result<i64, AsmFault>
+    ensures next { IfOk result (λ next. next ≡ behind_literals from literals.now) }
+    ensures addresses { OnOk result (addresses.new.items ≡ addresses.old.items ++ units_from from literals.now) }
+    ensures err { IfErr result IsMemory }
+{
+    let mut next = from;
+    for literal in literals {
+        let behind = checked_sum(next, i64::from(literal.len()))?;
+        addresses.push(checked_sum(behind, -1)?)?;
+        next = behind;
+    }
+    Ok(next)
+}
+
+/// The literals from an index on.
+fn behind(literals: &IndexSet<LiteralKey, SourceHashing>, first: usize) -> &[LiteralKey]
+    ensures { result.now ≡ drop first literals.now.keys }
+{
+    let all = literals.as_slice();
+    if all.len() < first {
+        &[]
+    } else {
+        all.split_at(first).1
+    }
+}
+
+impl<'a> Placing<'a> {
+    /// Before the first line, with these chains of EQUs.
+    pub fn new(alloc: Global, hashing: SourceHashing, chains: &'a Chains) -> Placing<'a>
+        ensures { places_of result ≡ nothing_placed (chains_view chains.now) }
+    {
+        Placing {
+            chains,
+            next: USUAL_PLACE,
+            highest: None,
+            areas: USUAL_PLACE,
+            fields_from: USUAL_PLACE,
+            fields_index: 0,
+            first_instruction: None,
+            before_end: USUAL_PLACE,
+            values: IndexMap::with_hasher(alloc, hashing),
+            literals: IndexSet::with_hasher(alloc, hashing),
+            spellings: Vec::new(alloc),
+            addresses: Vec::new(alloc),
+            hashing,
+        }
+    }
+
+    /// The literals that are used and not placed.
+    pub(crate) fn pending(&self) -> &[LiteralKey]
+        ensures { result.now ≡ pending (places_of self.now) }
+    {
+        behind(&self.literals, self.addresses.len())
+    }
+
+    /// The place that a statement's point names, with its operand by the labels of what is placed by others.
+    pub fn point_value(
+        &self,
+        by: &Placing<'a>,
+        row: &Description,
+        point: Point,
+    ) -> Result<i64, AsmFault>
+        ensures value { IfOk result
+            (λ value. value ≡ point_value (places_of by.now) (places_of self.now) row.now point) }
+        ensures err { IfErr result IsMemory }
+    {
+        match point {
+            Point::First => Ok(self.next),
+            Point::Last => last_place(self.next, contents_length(&row.contents)),
+            Point::InArea(place) => checked_sum(checked_sum(self.areas, i64::from(place))?, -1),
+            Point::Counted(place) => {
+                checked_sum(checked_sum(self.fields_from, i64::from(place))?, -1)
+            },
+            Point::Value => self.asked_value(by, row),
+        }
+    }
+
+    /// The index of what a statement's point names.
+    fn point_index(&self, row: &Description, point: Point) -> u8
+        ensures { result ≡ point_index (places_of self.now) row.now point }
+    {
+        match point {
+            Point::First | Point::Last | Point::InArea(_) => 0,
+            Point::Counted(_) => self.fields_index,
+            Point::Value => self.index_so_far(row.addressing.operands().a),
+        }
+    }
+
+    /// The value of the label of a statement with this row, and its index.
+    fn label_value(&self, body: &Body, row: &Description) -> Result<SymbolValue, AsmFault>
+        requires { row.now ≡ describe body.now }
+        ensures value { IfOk result (λ value. value ≡ label_value (places_of self.now) body.now) }
+        ensures err { IfErr result IsMemory }
+    {
+        let value = self.point_value(self, row, row.names)?;
+        let index = self.point_index(row, row.names);
+        let unit = label_unit(&row.addressing);
+        Ok(SymbolValue::of_unit_or_value(unit, value, index))
+    }
+
+    /// Gives a label its value.
+    fn give(&mut self, field: LabelField, value: SymbolValue) -> Result<(), AsmFault>
+        ensures ok { OnOk result (places_of self.new ≡ with_label (places_of self.old) (well_formed field) value) }
+        ensures err { IfErr result IsMemory }
+    {
+        if let LabelField::Label(label) = field {
+            self.values.insert(label, value)?;
+        }
+        Ok(())
+    }
+
+    /// Notes that a literal is used.
+    fn note_literal(&mut self, literal: Literal) -> Result<(), AsmFault>
+        ensures ok { OnOk result (places_of self.new ≡ with_literal (places_of self.old) literal) }
+        ensures err { IfErr result IsMemory }
+    {
+        let key = LiteralKey::from_literal(literal);
+        if self.literals.contains(&key) {
+            return Ok(());
+        }
+        self.literals.insert(key)?;
+        self.spellings.push(literal)?;
+        Ok(())
+    }
+
+    /// Notes the literal that an operand is, if it is one.
+    fn note_operand(&mut self, field: OperandField) -> Result<(), AsmFault>
+        ensures ok { OnOk result (places_of self.new ≡ with_operand (places_of self.old) field) }
+        ensures err { IfErr result IsMemory }
+    {
+        match field {
+            OperandField::Operand(Operand::Literal(literal)) => self.note_literal(literal),
+            OperandField::Operand(Operand::Address(_) | Operand::Unit(_))
+            | OperandField::Absent
+            | OperandField::Malformed => Ok(()),
+        }
+    }
+
+    /// Takes the places up to the one before this, which is next.
+    fn take_up_to(&mut self, behind: i64)
+        ensures { places_of self.new ≡ taken_up_to (places_of self.old) behind }
+    {
+        self.highest = highest_with(self.highest, self.next, behind);
+        self.next = behind;
+    }
+
+    /// Places the literals that are used and not placed.
+    fn place_pending(&mut self) -> Result<(), AsmFault>
+        ensures ok { OnOk result (places_of self.new ≡ with_pending (places_of self.old)) }
+        ensures err { IfErr result IsMemory }
+    {
+        let first = self.addresses.len();
+        let literals = behind(&self.literals, first);
+        give_areas(&mut self.values, self.next, literals)?;
+        let behind = place_literals(self.next, literals, &mut self.addresses)?;
+        self.take_up_to(behind);
+        Ok(())
+    }
+
+    /// The value of ORG and of LTORG, by the values so far, or the first place of a constant elsewhere.
+    fn own_value(&self, addressing: Addressing) -> Result<i64, AsmFault>
+        ensures value { IfOk result (λ value. value ≡ own_value (places_of self.now) addressing) }
+        ensures err { IfErr result IsMemory }
+    {
+        self.origin_value(self, Next::Value, addressing.operands().a)
+    }
+
+    /// Where a statement of this row places its cells.
+    pub fn start_by(&self, row: &Description) -> Result<i64, AsmFault>
+        ensures value { IfOk result (λ start. start ≡ start_by (places_of self.now) row.now row.now.next) }
+        ensures err { IfErr result IsMemory }
+    {
+        match row.next {
+            Next::Behind | Next::Literals | Next::Value => Ok(self.next),
+            Next::LiteralsAtValue | Next::Elsewhere => self.own_value(row.addressing),
+        }
+    }
+
+    /// Moves the next place on, and places the literals used so far if the statement does.
+    fn move_on(&mut self, row: &Description) -> Result<(), AsmFault>
+        ensures ok { OnOk result (places_of self.new ≡ next_moved (places_of self.old) row.now row.now.next) }
+        ensures err { IfErr result IsMemory }
+    {
+        match row.next {
+            Next::Behind => {
+                let length = i64::from(contents_length(&row.contents));
+                self.take_up_to(checked_sum(self.next, length)?);
+            },
+            Next::Literals => self.place_pending()?,
+            Next::Value => self.next = self.own_value(row.addressing)?,
+            Next::LiteralsAtValue => {
+                self.next = self.own_value(row.addressing)?;
+                self.place_pending()?;
+            },
+            Next::Elsewhere => {},
+        }
+        Ok(())
+    }
+
+    /// Notes the literals that addresses are.
+    fn note_uses(&mut self, addressing: Addressing) -> Result<(), AsmFault>
+        ensures ok { OnOk result (places_of self.new ≡ with_uses (places_of self.old) addressing) }
+        ensures err { IfErr result IsMemory }
+    {
+        match addressing {
+            Addressing::Addresses(operands) => {
+                self.note_operand(operands.a)?;
+                self.note_operand(operands.b)?;
+            },
+            Addressing::Nothing
+            | Addressing::EarlierValue(_)
+            | Addressing::Equal(_)
+            | Addressing::Value(_)
+            | Addressing::Entry(_) => {},
+        }
+        Ok(())
+    }
+
+    /// Notes that areas begin at a place, if the statement makes them.
+    fn note_areas(&mut self, first: i64, role: AreaRole)
+        ensures { places_of self.new ≡ with_areas (places_of self.old) first role }
+    {
+        match role {
+            AreaRole::Makes(made) => {
+                self.areas = first;
+                self.fields_from = counted_from(first, made);
+                self.fields_index = index_of_fields(made);
+            },
+            AreaRole::Ends | AreaRole::Keeps | AreaRole::Divides(_) => {},
+        }
+    }
+
+    /// Goes on after a statement, and notes and places its literals.
+    fn go_on(&mut self, row: &Description) -> Result<(), AsmFault>
+        ensures ok { OnOk result (places_of self.new ≡ gone_on (places_of self.old) row.now) }
+        ensures err { IfErr result IsMemory }
+    {
+        let first = self.next;
+        self.move_on(row)?;
+        self.note_areas(first, row.areas);
+        self.note_uses(row.addressing)
+    }
+
+    /// Sets where the first instruction and END are.
+    fn set_ends(&mut self, first: Option<i64>, before_end: i64)
+        ensures { places_of self.new ≡ with_ends (places_of self.old) first before_end }
+    {
+        self.first_instruction = first;
+        self.before_end = before_end;
+    }
+
+    /// The place of the first instruction, once a statement is at the next place.
+    fn first_behind(&self, row: &Description) -> Option<i64>
+        ensures { result
+            ≡ first_of_two (places_of self.now).first_instruction (places_of self.now).next row.now.contents }
+    {
+        first_of_two(self.first_instruction, self.next, &row.contents)
+    }
+
+    /// The next place as it was before END, once a statement is at the next place.
+    fn end_behind(&self, row: &Description) -> i64
+        ensures { result
+            ≡ end_of_two (places_of self.now).before_end (places_of self.now).next row.now.addressing }
+    {
+        end_of_two(self.before_end, self.next, &row.addressing)
+    }
+
+    /// Goes on after a statement, notes and places its literals, and notes where the program begins.
+    #[tactic(auto, using(crate::proofs::PlacingLemmas::passed))]
+    fn pass(&mut self, row: &Description) -> Result<(), AsmFault>
+        ensures ok { OnOk result (places_of self.new ≡ behind_row (places_of self.old) row.now) }
+        ensures err { IfErr result IsMemory }
+    {
+        let first = self.first_behind(row);
+        let before_end = self.end_behind(row);
+        self.go_on(row)?;
+        self.set_ends(first, before_end);
+        Ok(())
+    }
+
+    /// Places a statement with this row.
+    pub fn place_row(&mut self, statement: &Statement, row: &Description) -> Result<(), AsmFault>
+        requires { row.now ≡ describe statement.now.body }
+        ensures ok { OnOk result (places_of self.new ≡ after_statement (places_of self.old) statement.now) }
+        ensures err { IfErr result IsMemory }
+    {
+        let value = self.label_value(&statement.body, row)?;
+        self.pass(row)?;
+        self.give(statement.label, value)
+    }
+
+    /// Places a line.
+    pub fn place(&mut self, line: &Line) -> Result<(), AsmFault>
+        ensures ok { OnOk result (places_of self.new ≡ placed_after (places_of self.old) line.now) }
+        ensures err { IfErr result IsMemory }
+    {
+        match &line.statement {
+            Some(statement) => self.place_row(statement, &statement.body.describe()),
+            None => Ok(()),
+        }
+    }
+
+    /// Places lines.
+    fn place_each(&mut self, lines: &Lines<'_>) -> Result<(), AsmFault>
+        ensures ok { OnOk result (places_of self.new ≡ fold placed_after (places_of self.old) lines.now) }
+        ensures err { IfErr result IsMemory }
+    {
+        for i in 0..lines.len() {
+            self.place(lines.line(i))?;
+        }
+        Ok(())
+    }
+}
+
+/// What is placed by all lines, whose chains of EQUs these are.
+///
+/// # Errors
+///
+/// `Memory` if there is no room for labels and literals.
+pub fn place_all<'a>(
+    alloc: Global,
+    hashing: SourceHashing,
+    chains: &'a Chains,
+    lines: &Lines<'_>,
+) -> Result<Placing<'a>, AsmFault>
+    requires { chains_view chains.now ≡ chains_of (sites_of lines.now) lines.now }
+    ensures ok { IfOk result (λ placing. places_of placing ≡ placed lines.now) }
+    ensures err { IfErr result IsMemory }
+{
+    let mut placing = Placing::new(alloc, hashing, chains);
+    placing.place_each(lines)?;
+    Ok(placing)
+}

@@ -1,0 +1,14 @@
+-- What is cut off is blank, and of what is left the last blanks are those that are left to cut off.
+use Rattle.std.proofs.Common.{◌≡◌, ◌+◌, ◌-◌, ◌≤◌, length, take}
+use Rattle.std.specs.List.{suffix_len}
+use Rattle.autocoder_statements.specs.SourceLine.{is_blank}
+use Rattle.autocoder_statements.proofs.flaw.len_without_last_blanks.Given as goal
+
+abbrev pub invariant-loop-count : goal.invariant-loop-count
+invariant-loop-count l = record {
+  bound : l.count ≤ length l.columns;
+  blanks : suffix_len is_blank l.columns ≡ length l.columns - l.count + suffix_len is_blank (take l.count l.columns);
+}
+
+abbrev pub decreases-loop-count : goal.decreases-loop-count
+decreases-loop-count l = l.count

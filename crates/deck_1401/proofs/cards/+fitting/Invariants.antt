@@ -1,6 +1,0 @@
--- Each call has one cell less.
-use Rattle.std.proofs.Common.{length}
-use Rattle.deck_1401.proofs.cards.+fitting.Given as goal
-
-abbrev pub decreases-fitting : goal.decreases-fitting
-decreases-fitting l = length l.cells.now

@@ -1,5 +1,0 @@
--- Each call has room for one cell fewer.
-use Rattle.deck_1401.proofs.loaded_core.+following.Given as goal
-
-abbrev pub decreases-following : goal.decreases-following
-decreases-following l = l.room

@@ -1,5 +1,0 @@
-use Rattle.std.proofs.Common.{length}
-use Rattle.instruction_text_1401.proofs.instruction.+d_in.Given as goal
-
-abbrev pub decreases-d_in : goal.decreases-d_in
-decreases-d_in l = length l.behind.now

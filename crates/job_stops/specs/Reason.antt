@@ -1,0 +1,67 @@
+-- Why the next step stops the machine, with the places (own).
+use Rattle.std.specs.Prelude.{◌≡◌, ◌==◌, true, false, length, Option, Some, None, if◌then◌else◌}
+use Rattle.core_1401.specs.Storage.{cell_at, is_in_core}
+use Rattle.devices_1401.specs.Control.{line_of_channel, low_of}
+use Rattle.devices_1401.specs.Devices.{is_full}
+use Rattle.cpu_1401.specs.declared.instruction.Instruction.{Instruction}
+use Rattle.machine_operations.specs.declared.operation.Operation.TheVariants as op
+use Rattle.machine_panel.specs.declared.stop.Stop.{Stop}
+use Rattle.machine_panel.specs.declared.stop.Stop.TheVariants as stop
+use Rattle.machine_operations.specs.Operation.{is_unfitted, operation_of}
+use Rattle.cpu_1401.specs.State.{State}
+use Rattle.fields_1401.specs.Outcome.{stop_of}
+use Rattle.job_stops.specs.declared.reason.Reason.{Reason}
+use Rattle.job_stops.specs.declared.reason.Reason.TheVariants as reason
+use Rattle.job_stops.specs.FieldReason.{IsFieldSo, field_stop}
+use Rattle.job_stops.specs.Said.{char_of, is_length_of, is_unfitted_at, len_of, said_by}
+
+-- the stop that a reason is told as
+abbrev pub stop_named : Reason → Stop
+stop_named reason.Halt = stop.Halt
+stop_named reason.NoCard = stop.Reader
+stop_named reason.PaperFull = stop.Forms
+stop_named reason.StackerFull = stop.Stacker
+stop_named (reason.NoPlace at) = stop.NoMark
+stop_named (reason.NoMark at) = stop.NoMark
+stop_named (reason.NoOperation char) = stop.OpCode
+stop_named (reason.NotFitted char) = stop.NotFitted
+stop_named (reason.NotFittedAt char len) = stop.NotFitted
+stop_named (reason.NoSuchLength char len) = stop.Length
+stop_named (reason.Fields why) = stop_of (field_stop why)
+stop_named (reason.NoHole channel) = stop.Carriage
+stop_named (reason.UnknownD char d) = stop.DChar
+
+-- what a reason says of an instruction is so
+abbrev pub IsSoOf : Instruction → State → Reason → Type 0
+IsSoOf this s reason.Halt = operation_of (char_of s) ≡ Some op.Halt
+IsSoOf this s reason.NoCard = length s.devices.hopper ≡ 0
+IsSoOf this s reason.PaperFull = is_full s.devices.paper ≡ true
+IsSoOf this s reason.StackerFull = is_full s.devices.stacker ≡ true
+IsSoOf this s (reason.NoPlace at) = (at ≡ s.i) × (is_in_core s.storage at ≡ false)
+IsSoOf this s (reason.NoMark at) =
+    (at ≡ s.i) × (is_in_core s.storage at ≡ true) × ((cell_at s.storage at).mark ≡ false)
+IsSoOf this s (reason.NoOperation char) =
+    (char ≡ char_of s) × (operation_of char ≡ None) × (is_unfitted char ≡ false)
+IsSoOf this s (reason.NotFitted char) =
+    (char ≡ char_of s) × (operation_of char ≡ None) × (is_unfitted char ≡ true)
+IsSoOf this s (reason.NotFittedAt char len) =
+    (char ≡ char_of s) × (len ≡ len_of (operation_of char) s) × (is_unfitted_at (operation_of char) len ≡ true)
+IsSoOf this s (reason.NoSuchLength char len) =
+    (char ≡ char_of s) × (len ≡ len_of (operation_of char) s) × (is_length_of (operation_of char) len ≡ false)
+IsSoOf this s (reason.Fields why) = IsFieldSo s.storage this.a this.b why
+IsSoOf this s (reason.NoHole channel) = (channel ≡ low_of this.d) × (line_of_channel channel ≡ None)
+IsSoOf this s (reason.UnknownD char d) = (char ≡ char_of s) × (d ≡ this.d)
+
+-- what a reason says of the machine is so
+abbrev pub IsSo : State → Reason → Type 0
+IsSo s why = IsSoOf (said_by s) s why
+
+-- why nothing can be read, written or punched, if it is so
+abbrev pub reader_stop : State → Option Stop
+reader_stop s = if length s.devices.hopper == 0 then Some stop.Reader else None
+
+abbrev pub forms_stop : State → Option Stop
+forms_stop s = if is_full s.devices.paper then Some stop.Forms else None
+
+abbrev pub stacker_stop : State → Option Stop
+stacker_stop s = if is_full s.devices.stacker then Some stop.Stacker else None

@@ -1,0 +1,136 @@
+//! Why the next step stops the machine.
+ghost use Rattle.std.specs.Prelude.{◌≡◌};
+ghost use Rattle.job_stops.specs.Reason.{stop_named};
+
+use crate::field_reason::FieldReason;
+use bcd_1401::Char;
+use cpu_1401::Stop;
+use devices_1401::MOST_HELD;
+use std::fmt;
+
+/// Why the next step stops the machine.
+#[derive(Clone, Copy, Debug, PartialEq, Eq)]
+pub enum Reason {
+    /// The instruction is a halt.
+    Halt,
+    /// No card is in the hopper.
+    NoCard,
+    /// 500 printed lines are not yet taken.
+    PaperFull,
+    /// 500 punched cards are not yet taken.
+    StackerFull,
+    /// The I register's place isn't in core.
+    NoPlace { at: u16 },
+    /// The I register's place has no word mark.
+    NoMark { at: u16 },
+    /// The character is no operation.
+    NoOperation { char: Char },
+    /// The operation belongs to a feature that this machine hasn't got.
+    NotFitted { char: Char },
+    /// The operation at this length, in characters, belongs to a feature that this machine hasn't got.
+    NotFittedAt { char: Char, len: u16 },
+    /// The operation has no instruction of this length, in characters; 8 is told if there are more.
+    NoSuchLength { char: Char, len: u16 },
+    /// The operands can't be used.
+    Fields(FieldReason),
+    /// The carriage tape has no hole in this channel, 1 to 12.
+    NoHole { channel: u8 },
+    /// The d-character means nothing to the operation.
+    UnknownD { char: Char, d: Char },
+}
+
+impl Reason {
+    /// The stop that it is told as.
+    pub fn stop(self) -> Stop
+        ensures { result ≡ stop_named self }
+    {
+        match self {
+            Reason::Halt => Stop::Halt,
+            Reason::NoCard => Stop::Reader,
+            Reason::PaperFull => Stop::Forms,
+            Reason::StackerFull => Stop::Stacker,
+            Reason::NoPlace { .. } => Stop::NoMark,
+            Reason::NoMark { .. } => Stop::NoMark,
+            Reason::NoOperation { .. } => Stop::OpCode,
+            Reason::NotFitted { .. } => Stop::NotFitted,
+            Reason::NotFittedAt { .. } => Stop::NotFitted,
+            Reason::NoSuchLength { .. } => Stop::Length,
+            Reason::Fields(why) => Stop::from(why.stop()),
+            Reason::NoHole { .. } => Stop::Carriage,
+            Reason::UnknownD { .. } => Stop::DChar,
+        }
+    }
+}
+
+/// A character by its graphic; a blank by name.
+#[derive(Clone, Copy)]
+struct Shown(Char);
+
+impl fmt::Display for Shown {
+    fn fmt<W: fmt::Write>(&self, f: &mut fmt::Formatter<W>) -> fmt::Result {
+        if self.0 == Char::BLANK {
+            f.write_str("blank")
+        } else {
+            write!(f, "{}", char::from(self.0.graphic()))
+        }
+    }
+}
+
+/// Text of a length that is none of the operation's.
+fn put_length<W: fmt::Write>(f: &mut fmt::Formatter<W>, char: Char, len: u16) -> fmt::Result {
+    let operation = Shown(char);
+    match len {
+        1 => write!(
+            f,
+            "the operation {operation} has no instruction of 1 character"
+        ),
+        8 => write!(
+            f,
+            "the operation {operation} has no instruction of 8 or more characters"
+        ),
+        len => write!(
+            f,
+            "the operation {operation} has no instruction of {len} characters"
+        ),
+    }
+}
+
+impl fmt::Display for Reason {
+    fn fmt<W: fmt::Write>(&self, f: &mut fmt::Formatter<W>) -> fmt::Result {
+        match *self {
+            Reason::Halt => f.write_str("a halt"),
+            Reason::NoCard => f.write_str("no card in the hopper"),
+            Reason::PaperFull => write!(f, "{MOST_HELD} printed lines wait to be taken"),
+            Reason::StackerFull => write!(f, "{MOST_HELD} punched cards wait to be taken"),
+            Reason::NoPlace { at } => write!(f, "place {at:03} isn't in core"),
+            Reason::NoMark { at } => write!(f, "no word mark at {at:03}"),
+            Reason::NoOperation { char } => write!(
+                f,
+                "the character {} is no operation",
+                Shown(char)
+            ),
+            Reason::NotFitted { char } => write!(f, "the operation {} isn't fitted", Shown(char)),
+            Reason::NotFittedAt { char, len } => {
+                write!(
+                    f,
+                    "the operation {} isn't fitted with {len} characters",
+                    Shown(char)
+                )
+            }
+            Reason::NoSuchLength { char, len } => put_length(f, char, len),
+            Reason::Fields(why) => write!(f, "{why}"),
+            Reason::NoHole { channel } => write!(
+                f,
+                "the carriage tape has no hole in channel {channel}"
+            ),
+            Reason::UnknownD { char, d } => {
+                write!(
+                    f,
+                    "the d-character {} means nothing to the operation {}",
+                    Shown(d),
+                    Shown(char)
+                )
+            }
+        }
+    }
+}

@@ -1,0 +1,298 @@
+//! Why the next step stops the machine.
+ghost use Rattle.std.specs.Prelude.{◌≡◌, ◌≢◌, ◌⊎◌, ◌+◌, ◌-◌, ◌<◌, ◌≤◌, true, false, length, None, Some, IfOk, IfErr};
+ghost use Rattle.std.specs.Prelude.{IfSome};
+ghost use Rattle.std.specs.Option.{option_map};
+ghost use Rattle.core_1401.specs.Address.{addresses};
+ghost use Rattle.core_1401.specs.Storage.{cell_at};
+ghost use Rattle.machine_operations.specs.declared.operation.Operation.TheVariants as op;
+ghost use Rattle.cpu_1401.specs.CardsAndPrinter.{after_write};
+ghost use Rattle.cpu_1401.specs.Instruction.{instruction_of};
+ghost use Rattle.machine_operations.specs.Operation.{operation_of};
+ghost use Rattle.cpu_1401.specs.Step.{check_operation, step};
+ghost use Rattle.job_stops.specs.declared.reason.Reason.TheVariants as AReason;
+ghost use Rattle.job_stops.specs.Reason.{IsSo, IsSoOf, stop_named};
+ghost use Rattle.job_stops.specs.Told.{IsReasonFor, IsTold};
+ghost use Rattle.job_stops.specs.Said.{a_of, b_of, char_of, is_length_of, is_unfitted_at, len_of};
+ghost use Rattle.job_stops.specs.Said.{performed_stop, said_with};
+
+use crate::devices::{
+    all_three_reason, forms_reason, low_of, movement_fault, read_and_punch_reason, reader_reason,
+    stacker_reason, write_and_punch_reason, write_and_read_reason,
+};
+use crate::field_reason::FieldReason;
+use crate::fields::{
+    b_reason, both_reason, edit_reason, load_reason, pair_reason, store_reason, sum_reason,
+    suppress_reason,
+};
+use crate::operations::{is_length_of, is_unfitted_at, longest};
+use crate::reason::Reason;
+use bcd_1401::Char;
+use cpu_1401::{Machine, Stop};
+use devices_1401::ControlFault;
+use machine_operations::is_unfitted;
+
+/// The code of the lozenge, which asks for word marks to be printed.
+const LOZENGE: u8 = 60;
+
+/// Why the next step stops the machine, a halt included; `None` if it doesn't stop there.
+#[tactic(auto, unfolding(cpu_1401::specs::Step::step))]
+pub fn stop_reason(machine: &Machine) -> Option<Reason>
+    ensures stop { option_map stop_named result ≡ (step machine.now).stop }
+    ensures so { IfSome result (IsSo machine.now) }
+{
+    let at = machine.regs().i;
+    if !machine.core().in_core(at) {
+        return Some(Reason::NoPlace { at });
+    }
+    let cell = machine.core().get(at);
+    if !cell.mark {
+        return Some(Reason::NoMark { at });
+    }
+    match checked_len(machine, cell.char) {
+        Ok(len) => performed_reason(machine, cell.char, len),
+        Err(why) => Some(why),
+    }
+}
+
+/// Why a machine that ended a run with this stop has stopped; `None` after a halt and at the limit, and if the next
+/// step has another stop. The stops of reader, printer and punch aren't looked for in the step: a load key that finds
+/// no card is one of the reader too.
+pub fn reason_told(machine: &Machine, stop: Stop) -> Option<Reason>
+    ensures stop { IfSome result (λ why. stop_named why ≡ stop) }
+
+    // For a stop of the instruction there is a reason exactly if the next step has this stop, and then it is so.
+    ensures told { IsTold machine.now stop result }
+{
+    match stop {
+        Stop::Halt | Stop::Limit => None,
+        Stop::Reader => Some(Reason::NoCard),
+        Stop::Forms => Some(Reason::PaperFull),
+        Stop::Stacker => Some(Reason::StackerFull),
+        Stop::NoMark | Stop::OpCode | Stop::Length => reason_of_step(machine, stop),
+        Stop::Address | Stop::Overlap | Stop::Carriage => reason_of_step(machine, stop),
+        Stop::NotFitted | Stop::DChar => reason_of_step(machine, stop),
+    }
+}
+
+/// Whether there is a reason that is told as this stop.
+fn is_told_as(found: &Option<Reason>, stop: Stop) -> bool
+    ensures yes { result ≡ true → option_map stop_named found.now ≡ Some stop }
+    ensures no { result ≡ false → option_map stop_named found.now ≢ Some stop }
+{
+    match found {
+        Some(why) => why.stop() == stop,
+        None => false,
+    }
+}
+
+/// A reason, if it is told as this stop.
+fn if_told_as(found: &Option<Reason>, stop: Stop) -> Option<Reason>
+    ensures { ((option_map stop_named found.now ≡ Some stop) × (result ≡ found.now))
+        ⊎ ((option_map stop_named found.now ≢ Some stop) × (result ≡ None)) }
+{
+    if is_told_as(found, stop) {
+        *found
+    } else {
+        None
+    }
+}
+
+/// Why the next step of a machine has this stop; `None` if it hasn't.
+fn reason_of_step(machine: &Machine, stop: Stop) -> Option<Reason>
+    ensures stop { IfSome result (λ why. stop_named why ≡ stop) }
+    ensures told { IsReasonFor machine.now stop result }
+{
+    let found = stop_reason(machine);
+    if_told_as(&found, stop)
+}
+
+/// The character at a place, and a blank past the end of core.
+fn char_at(machine: &Machine, at: u16) -> Char
+    ensures { result ≡ (cell_at machine.now.storage at).char }
+{
+    if machine.core().in_core(at) {
+        machine.core().get(at).char
+    } else {
+        Char::BLANK
+    }
+}
+
+/// How many characters the instruction at the I register has, which begins with this one.
+///
+/// # Errors
+///
+/// Why it isn't carried out at any address: its operation or its length.
+fn checked_len(machine: &Machine, char: Char) -> Result<u16, Reason>
+    requires at { machine.now.i < length machine.now.storage }
+    requires char { char ≡ char_of machine.now }
+    ensures some { IfOk result (λ len. 0 < len) }
+    ensures most { IfOk result (λ len. len ≤ 8) }
+    ensures inside { IfOk result (λ len. machine.now.i + len ≤ length machine.now.storage) }
+    ensures len { IfOk result (λ len. len_of (operation_of char) machine.now ≡ len) }
+    ensures stop { IfOk result (λ len. (check_operation (operation_of char) char machine.now).stop
+        ≡ performed_stop (operation_of char) len machine.now) }
+    ensures err_stop { IfErr result (λ why.
+        (check_operation (operation_of char) char machine.now).stop ≡ Some (stop_named why)) }
+    ensures err_so { IfErr result (IsSo machine.now) }
+{
+    let at = machine.regs().i;
+    let Some(most) = longest(char, char_at(machine, at + 4)) else {
+        return Err(if is_unfitted(char) {
+            Reason::NotFitted { char }
+        } else {
+            Reason::NoOperation { char }
+        });
+    };
+    let len = machine.core().next_mark(at, most);
+    if is_unfitted_at(char, len) {
+        return Err(Reason::NotFittedAt { char, len });
+    }
+    if !is_length_of(char, len) {
+        return Err(Reason::NoSuchLength { char, len });
+    }
+    Ok(len)
+}
+
+/// The A address of the instruction at the I register at this length, or the A register.
+fn a_address(machine: &Machine, len: u16) -> u16
+    requires inside { machine.now.i + len ≤ length machine.now.storage }
+    ensures value { result ≡ a_of len machine.now }
+    ensures range { result < addresses }
+{
+    let regs = machine.regs();
+    if len >= 4 {
+        machine.core().effective(regs.i + 1)
+    } else {
+        regs.a
+    }
+}
+
+/// Its B address, or the B register.
+fn b_address(machine: &Machine, len: u16) -> u16
+    requires inside { machine.now.i + len ≤ length machine.now.storage }
+    ensures value { result ≡ b_of false len machine.now }
+    ensures range { result < addresses }
+{
+    let regs = machine.regs();
+    if len >= 7 {
+        machine.core().effective(regs.i + 4)
+    } else {
+        regs.b
+    }
+}
+
+/// Its B address, or its only address, or the B register.
+fn b_or_only_address(machine: &Machine, len: u16) -> u16
+    requires inside { machine.now.i + len ≤ length machine.now.storage }
+    ensures value { result ≡ b_of true len machine.now }
+    ensures range { result < addresses }
+{
+    if len >= 7 || len < 4 {
+        b_address(machine, len)
+    } else {
+        a_address(machine, len)
+    }
+}
+
+/// A reason of the operands as one of the step.
+fn of_fields(why: Option<FieldReason>) -> Option<Reason>
+    ensures { result ≡ option_map AReason.Fields why }
+{
+    match why {
+        Some(why) => Some(Reason::Fields(why)),
+        None => None,
+    }
+}
+
+/// Why carrying out the instruction at the I register at this length stops the machine.
+#[tactic(auto, using(crate::proofs::StopLemmas::field_stops, crate::proofs::StopLemmas::comparison_stops, crate::proofs::StopLemmas::clear_stops, crate::proofs::StopLemmas::card_stops, crate::proofs::StopLemmas::control_stops))]
+fn performed_reason(machine: &Machine, char: Char, len: u16) -> Option<Reason>
+    requires char { char ≡ char_of machine.now }
+    requires some { 0 < len }
+    requires inside { machine.now.i + len ≤ length machine.now.storage }
+    ensures stop { option_map stop_named result ≡ performed_stop (operation_of char) len machine.now }
+    ensures so { IfSome result (IsSoOf (said_with (operation_of char) len machine.now) machine.now) }
+{
+    let core = machine.core();
+    let a = a_address(machine, len);
+    match char.graphic() {
+        b'A' => of_fields(sum_reason(core, a, b_or_only_address(machine, len))),
+        b'S' => of_fields(sum_reason(core, a, b_or_only_address(machine, len))),
+        b'?' => of_fields(sum_reason(core, a, b_or_only_address(machine, len))),
+        b'!' => of_fields(sum_reason(core, a, b_or_only_address(machine, len))),
+        b'M' => of_fields(pair_reason(core, a, b_address(machine, len))),
+        b'C' => of_fields(pair_reason(core, a, b_or_only_address(machine, len))),
+        b'L' => of_fields(load_reason(core, a, b_address(machine, len))),
+        b'D' => of_fields(both_reason(core, a, b_or_only_address(machine, len))),
+        b'Y' => of_fields(both_reason(core, a, b_or_only_address(machine, len))),
+        b',' => of_fields(both_reason(core, a, b_or_only_address(machine, len))),
+        b')' => of_fields(both_reason(core, a, b_or_only_address(machine, len))),
+        b'/' => of_fields(b_reason(core, a, b_or_only_address(machine, len))),
+        b'Z' => of_fields(suppress_reason(core, a, b_or_only_address(machine, len))),
+        b'E' => of_fields(edit_reason(core, a, b_or_only_address(machine, len))),
+        b'B' => {
+            if len == 4 || len == 5 {
+                return None;
+            }
+            of_fields(b_reason(core, a, b_address(machine, len)))
+        }
+        b'V' => of_fields(b_reason(core, a, b_address(machine, len))),
+        b'Q' | b'H' => of_fields(store_reason(core, a, b_address(machine, len))),
+        b'N' | b'K' => None,
+        b'.' => Some(Reason::Halt),
+        b'1' => reader_reason(machine),
+        b'2' => write_reason(machine, char, len),
+        b'3' => write_and_read_reason(machine),
+        b'4' => stacker_reason(machine),
+        b'5' => read_and_punch_reason(machine),
+        b'6' => write_and_punch_reason(machine),
+        b'7' => all_three_reason(machine),
+        b'F' => control_reason(machine, char, len),
+        _ => None,
+    }
+}
+
+/// The last character of the instruction at the I register.
+fn last_char(machine: &Machine, len: u16) -> Char
+    requires some { 0 < len }
+    requires inside { machine.now.i + len ≤ length machine.now.storage }
+    ensures { result ≡ (cell_at machine.now.storage (machine.now.i + len - 1)).char }
+{
+    // No core storage is so large that a place above another has no address.
+    let _ = machine.core().size();
+    machine.core().get(machine.regs().i + len - 1).char
+}
+
+/// Why a line can't be written alone.
+#[tactic(auto, using(crate::proofs::StopLemmas::card_stops))]
+fn write_reason(machine: &Machine, char: Char, len: u16) -> Option<Reason>
+    requires char { char ≡ char_of machine.now }
+    requires some { 0 < len }
+    requires inside { machine.now.i + len ≤ length machine.now.storage }
+    ensures stop { option_map stop_named result
+        ≡ (after_write (instruction_of op.WriteLine len machine.now) machine.now).stop }
+    ensures so { IfSome result (IsSoOf (instruction_of op.WriteLine len machine.now) machine.now) }
+{
+    let d = last_char(machine, len);
+    if (len == 2 || len == 5) && d.code() != LOZENGE {
+        return Some(Reason::UnknownD { char, d });
+    }
+    forms_reason(machine)
+}
+
+/// Why the carriage can't be controlled.
+#[tactic(auto, using(crate::proofs::StopLemmas::control_stops))]
+fn control_reason(machine: &Machine, char: Char, len: u16) -> Option<Reason>
+    requires char { char ≡ char_of machine.now }
+    requires some { 0 < len }
+    requires inside { machine.now.i + len ≤ length machine.now.storage }
+    ensures stop { option_map stop_named result ≡ performed_stop (Some op.ControlCarriage) len machine.now }
+    ensures so { IfSome result (IsSoOf (instruction_of op.ControlCarriage len machine.now) machine.now) }
+{
+    let d = last_char(machine, len);
+    match movement_fault(d) {
+        None => None,
+        Some(ControlFault::DChar) => Some(Reason::UnknownD { char, d }),
+        Some(ControlFault::Carriage) => Some(Reason::NoHole { channel: low_of(d) }),
+    }
+}

@@ -1,0 +1,155 @@
+//! The machine as it was before a step.
+ghost use Rattle.std.specs.Prelude.{◌≡◌, ◌++◌, length, IfErr, IfOk, OnOk};
+ghost use Rattle.cpu_1401.specs.State.{regs_of};
+ghost use Rattle.devices_1401.specs.Movement.{pending_of};
+ghost use Rattle.job_trace.specs.TraceLine.{carriage_text, devices_text, line_of, pending_text, seen_of, work_text};
+
+use crate::changes::{copy_of, put_changes};
+use crate::fetched::put_fetched;
+use crate::line::{is_same_movement, put_moved, put_print, put_registers, put_stop, put_waiting};
+use crate::work::Work;
+use core_1401::{Core, CoreFault};
+use cpu_1401::{Machine, Stop};
+use devices_1401::Movement;
+use std::alloc::{AllocError, Global};
+use std::marker::Model;
+
+/// What a line of the trace compares the machine with: core storage, the I register, the position of the carriage, and
+/// the movement that waits for the next print, all as they were before the step.
+#[derive(Drop)]
+pub struct Snapshot {
+    core: Core,
+    i: u16,
+    form: u16,
+    line: u8,
+    pending: Option<Movement>,
+}
+
+impl Model for Snapshot {
+    ghost use Rattle.devices_1401.specs.Movement.{pending_of};
+    ghost use Rattle.job_trace.specs.TraceLine.{Seen};
+
+    ghost Value = { Seen };
+
+    ghost view = { λ s. record {
+      storage = s.core;
+      i = s.i;
+      form = s.form;
+      line = s.line;
+      pending = pending_of s.pending;
+    } };
+}
+
+impl Snapshot {
+    /// The machine as it is.
+    ///
+    /// # Errors
+    ///
+    /// `Memory` if there is no room for core storage.
+    pub fn of(alloc: Global, machine: &Machine) -> Result<Snapshot, CoreFault>
+        ensures ok { IfOk result (λ snapshot. snapshot ≡ seen_of machine.now) }
+        ensures err { IfErr result (λ why. why ≡ CoreFault.Memory) }
+    {
+        let regs = machine.regs();
+        Ok(Snapshot {
+            core: copy_of(alloc, machine.core())?,
+            i: regs.i,
+            form: regs.form,
+            line: regs.line,
+            pending: machine.pending_movement(),
+        })
+    }
+
+    /// Adds the line of a step, by what it did at the devices, why it stopped, and the machine after it. Then the
+    /// snapshot is that of the machine.
+    ///
+    /// # Errors
+    ///
+    /// If there is no room for the text. Some of the line may have been added then.
+    #[tactic(auto, unfolding(crate::specs::TraceLine::line_of))]
+    pub fn put_line(
+        &mut self,
+        text: &mut Vec<u8>,
+        machine: &Machine,
+        work: Work,
+        stop: Option<Stop>,
+    ) -> Result<(), AllocError>
+        requires { length self.old.storage ≡ length machine.now.storage }
+        ensures line { OnOk result (text.new.items ≡ text.old.items ++ line_of self.old work stop machine.now) }
+        ensures seen { OnOk result (self.new ≡ seen_of machine.now) }
+    {
+        let regs = machine.regs();
+        put_fetched(text, &self.core, self.i)?;
+        put_registers(text, regs.a, regs.b)?;
+        self.put_devices(text, machine, work)?;
+        put_changes(text, &mut self.core, machine.core())?;
+        put_stop(text, stop)?;
+        text.push(b'\n')?;
+        self.i = regs.i;
+        self.form = regs.form;
+        self.line = regs.line;
+        self.pending = machine.pending_movement();
+        Ok(())
+    }
+
+    /// Adds what the devices did, and where the carriage then is and what waits, if that is another than before.
+    #[tactic(auto, unfolding(crate::specs::TraceLine::devices_text))]
+    fn put_devices(
+        &self,
+        text: &mut Vec<u8>,
+        machine: &Machine,
+        work: Work,
+    ) -> Result<(), AllocError>
+        ensures { OnOk result (text.new.items ≡ text.old.items ++ devices_text self.now (seen_of machine.now) work) }
+    {
+        let regs = machine.regs();
+        self.put_work(text, work)?;
+        self.put_carriage(text, regs.form, regs.line)?;
+        self.put_pending(text, machine.pending_movement())
+    }
+
+    /// Adds where the carriage is, if it moved.
+    #[tactic(auto, unfolding(crate::specs::TraceLine::carriage_text))]
+    fn put_carriage(&self, text: &mut Vec<u8>, form: u16, line: u8) -> Result<(), AllocError>
+        ensures { OnOk result (text.new.items ≡ text.old.items ++ carriage_text self.now form line) }
+    {
+        if self.form == form && self.line == line {
+            return Ok(());
+        }
+        put_moved(text, form, line)
+    }
+
+    /// Adds the movement that waits for the next print, if it didn't before.
+    fn put_pending(&self, text: &mut Vec<u8>, pending: Option<Movement>) -> Result<(), AllocError>
+        ensures { OnOk result
+            (text.new.items ≡ text.old.items ++ pending_text self.now.pending (pending_of pending)) }
+    {
+        match (self.pending, pending) {
+            (_, None) => Ok(()),
+            (None, Some(movement)) => put_waiting(text, movement),
+            (Some(old), Some(movement)) => {
+                if is_same_movement(old, movement) {
+                    return Ok(());
+                }
+                put_waiting(text, movement)
+            }
+        }
+    }
+
+    /// Adds what the devices did.
+    #[tactic(auto, unfolding(crate::specs::TraceLine::work_text))]
+    fn put_work(&self, text: &mut Vec<u8>, work: Work) -> Result<(), AllocError>
+        ensures { OnOk result (text.new.items ≡ text.old.items ++ work_text self.now work) }
+    {
+        if work.printed {
+            put_print(text, self.form, self.line)?;
+        }
+        if work.read {
+            text.extend_from_slice(b"\tREAD".as_slice())?;
+        }
+        if work.punched {
+            text.extend_from_slice(b"\tPUNCH".as_slice())?;
+        }
+        Ok(())
+    }
+}

@@ -1,6 +1,0 @@
--- A character's graphic is its own.
-use Rattle.notation_1401.proofs.SpelledLemmas.{cell_again}
-use Rattle.notation_1401.proofs.cells.put_cell.Goals as goal
-
-pub returns-clause-again : goal.returns-clause-again
-returns-clause-again c = cell_again c.args.cell c.graphic.ensures.own

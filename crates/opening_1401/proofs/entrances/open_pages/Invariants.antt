@@ -1,6 +1,0 @@
--- One listener at most for each seat so far.
-use Rattle.std.proofs.Common.{◌≤◌, vec_len}
-use Rattle.opening_1401.proofs.entrances.open_pages.Given as goal
-
-abbrev pub invariant-loop-seat : goal.invariant-loop-seat
-invariant-loop-seat g l = vec_len l.pages ≤ l.seat

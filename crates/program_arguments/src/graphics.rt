@@ -1,0 +1,80 @@
+//! The print chain of decks, as an option.
+ghost use Rattle.std.specs.Prelude.{◌≡◌, codes};
+ghost use Rattle.clap.specs.Words.{first_value, found_of};
+ghost use Rattle.program_arguments.specs.Options.{graphics_by, graphics_in, graphics_named};
+
+use crate::options::{Argument, FREE, Kind};
+use clap::ArgMatches;
+use clap::builder::ValueParser;
+use machine_graphics::Graphics;
+
+/// The name of this machine's chain.
+const OURS: &str = "ours";
+
+/// The name of SIMH's chain for business.
+const SIMH: &str = "simh";
+
+/// The name of its chain for formulas.
+const FORTRAN: &str = "fortran";
+
+/// The print chain of a source and of decks.
+pub(crate) const GRAPHICS: Argument = Argument {
+    name: "graphics",
+    kind: Kind::Value("CHAIN", ValueParser::Names(&[OURS, SIMH, FORTRAN]), &[]),
+    help: "The graphics of source and decks: this program's, SIMH's, or those of a chain for formulas",
+    ..FREE
+};
+
+/// The print chain of a source.
+pub(crate) const SOURCE_GRAPHICS: Argument = Argument {
+    name: "source-graphics",
+    help: "The graphics of the source, if they aren't those of --graphics",
+    ..GRAPHICS
+};
+
+/// The print chain of a deck that is made or punched.
+pub(crate) const OUT_GRAPHICS: Argument = Argument {
+    name: "out-graphics",
+    help: "The graphics of the deck that is made or punched, if they aren't those of --graphics",
+    ..GRAPHICS
+};
+
+/// The print chain of this name.
+fn graphics_named(name: &str) -> Graphics
+    ensures { result ≡ graphics_named name.now }
+{
+    if name == SIMH {
+        Graphics::Simh
+    } else if name == FORTRAN {
+        Graphics::Fortran
+    } else {
+        Graphics::Ours
+    }
+}
+
+/// The print chain that an option names, if it names one.
+fn chain_in(matches: &ArgMatches<'_>, option: &str) -> Option<Graphics>
+    ensures { result ≡ graphics_in (first_value (found_of matches.now) option.now) }
+{
+    match matches.get_str(option) {
+        Some(name) => Some(graphics_named(name)),
+        None => None,
+    }
+}
+
+/// The print chain that this option names, or else the one for all.
+pub(crate) fn graphics_by(matches: &ArgMatches<'_>, option: &str) -> Option<Graphics>
+    ensures { result ≡ graphics_by (found_of matches.now) option.now }
+{
+    match chain_in(matches, option) {
+        Some(graphics) => Some(graphics),
+        None => graphics_in(matches),
+    }
+}
+
+/// The print chain that the options of a subcommand name for all, if they name one.
+pub(crate) fn graphics_in(matches: &ArgMatches<'_>) -> Option<Graphics>
+    ensures { result ≡ graphics_in (first_value (found_of matches.now) (codes "graphics")) }
+{
+    chain_in(matches, "graphics")
+}

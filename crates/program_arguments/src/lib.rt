@@ -1,0 +1,29 @@
+//! The command line of the IBM 1401's program.
+//!
+//! ```text
+//! read_call(alloc, &["ibm1401", "console", "--size", "1400"])?   // Call::Console { size: 1400 }
+//! ```
+#![tactic(auto)]
+
+// the kinds of arguments
+mod options;
+
+// the kinds of subcommands
+mod commands;
+
+// the words of each subcommand, and the options that several have
+mod assembling;
+mod graphics;
+mod journals;
+mod languages;
+mod serving;
+mod sizes;
+
+// all of them read
+pub mod reading;
+
+pub use program_call::{
+    Assembling, Call, DEFAULT_SIZE, Job, NewJournal, Opening, Operators, Product, Resuming,
+    Seating, Service, Showing, Start, Tables, Told,
+};
+pub use reading::read_call;

@@ -1,0 +1,19 @@
+//! What the program is called for, as plain data: `program_arguments` reads it off the command line, and what carries
+//! it out needs to know nothing of that.
+//!
+//! ```text
+//! // a session on a machine of 4,000 places, whose journal isn't kept
+//! Call::Console(Session { opening: Opening::PowerOn(DEFAULT_SIZE), journal: None })
+//! ```
+#![tactic(auto)]
+
+pub mod call;
+
+// how many places core storage has for what is asked
+pub mod sizes;
+
+pub use call::{
+    Assembling, Call, DEFAULT_SIZE, Job, NewJournal, Opening, Operators, Product, Resuming,
+    Seating, Service, Session, Showing, Start, Tables, Told,
+};
+pub use sizes::{is_refused, size_for};

@@ -1,0 +1,213 @@
+//! Rooms that operators share, and that begin with a journal.
+ghost use Rattle.std.specs.Prelude.{◌≡◌, ◌≤◌, ℕ, false, Some, Err, All, vec_len, IfOk, OnOk};
+ghost use Rattle.room_journal.specs.JournalText.{journal_text};
+ghost use Rattle.serving_seats.specs.Giving.{IsSeated, foreign_in};
+ghost use Rattle.program_sessions.specs.Choosing.{HasChosen};
+
+use crate::beginning::{Before, Program};
+use crate::entrances::Entrances;
+use crate::fault::{OpenFault, not_kept};
+use crate::journal_names::JournalNames;
+use crate::seating::serve_new;
+use crate::succession::{Rooms, Turn, serve_others, serve_rooms};
+use bytes_streams::Sink;
+use program_call::{NewJournal, Resuming};
+use program_sessions::{HoldFault, durability_of, read_chosen, tell_cut};
+use room_1401::{Entry, Room};
+use room_files::{JournalFile, TakenUp, find_journal, verify_journal};
+use serving_room::{Watch, foreign_seat};
+use std::alloc::Global;
+use std::fs::File;
+use std::io::StdinLock;
+use std::marker::Brand;
+use std::random::RandomSource;
+use std::rt::{Clock, Files};
+use std::sync::Wait;
+use std::thread::Threads;
+
+/// Refuses a journal with entries of a seat that a room hasn't.
+fn expect_seats(entries: &[Entry], least: u8, most: u8) -> Result<(), OpenFault>
+    ensures seated { OnOk result (All (IsSeated least most) entries.now) }
+    ensures foreign { (seat : ℕ) → foreign_in least most entries.now ≡ Some seat
+        → result ≡ Err (OpenFault.NoSeat seat) }
+{
+    match foreign_seat(entries, least, most) {
+        None => Ok(()),
+        Some(seat) => Err(OpenFault::NoSeat(seat)),
+    }
+}
+
+/// Opens a room whose seats give the commands of a journal again first, and those that follow it.
+pub(crate) fn resume_seats<
+    R: Threads
+        + Wait
+        + Sync
+        + Clock
+        + RandomSource
+        + Input<Reader = StdinLock<'static>>
+        + Print
+        + Eprint
+        + AllocGlobal
+        + Files<File = File>,
+>(
+    rt: &R,
+    asked: Resuming,
+    journal: Option<NewJournal>,
+    seats: u8,
+    minutes: Option<u16>,
+    entrances: &Entrances,
+) -> Result<(), OpenFault>
+    requires { vec_len entrances.now.pages ≤ seats }
+{
+    if journal.is_none() && asked.until.is_none() {
+        return go_on(rt, asked.file, asked.sync, seats, minutes, entrances);
+    }
+    let room = room_of(rt, asked, seats)?;
+    let rooms = Rooms {
+        size: room.machine().core().size(),
+        seats,
+        before: nothing(rt.alloc()),
+        names: journal.map(JournalNames::new),
+        minutes,
+    };
+    serve_rooms(rt, &rooms, &Before::Journal(room), entrances)
+}
+
+/// What is done before operators come to a machine at power-on.
+fn nothing(alloc: Global) -> Before<'static> {
+    let cards = Vec::new(alloc);
+    Before::Program(Program { image: None, cards })
+}
+
+/// The room after those commands of a journal that are asked for, each of a seat that it has.
+fn room_of(
+    rt: &(impl Files<File = File> + AllocGlobal),
+    asked: Resuming,
+    seats: u8,
+) -> Result<Room, OpenFault>
+    ensures chosen { IfOk result (HasChosen asked.until asked.without.items) }
+    ensures seated { IfOk result (λ room. All (IsSeated 0 seats) room.journal) }
+{
+    let room = read_chosen(rt, asked).map_err(OpenFault::Hold)?;
+    expect_seats(room.journal(), 0, seats)?;
+    Ok(room)
+}
+
+/// Goes on in the file of a journal.
+fn go_on<
+    R: Threads
+        + Wait
+        + Sync
+        + Clock
+        + RandomSource
+        + Input<Reader = StdinLock<'static>>
+        + Print
+        + Eprint
+        + AllocGlobal
+        + Files<File = File>,
+>(
+    rt: &R,
+    file: String,
+    sync: bool,
+    seats: u8,
+    minutes: Option<u16>,
+    entrances: &Entrances,
+) -> Result<(), OpenFault>
+    requires { vec_len entrances.now.pages ≤ seats }
+{
+    let Ok(names) = JournalNames::from_file(rt.alloc(), file.as_str(), sync) else {
+        return Err(OpenFault::Hold(HoldFault::Memory));
+    };
+    let taken = take_up(rt, file, sync, seats)?;
+    let rooms = Rooms {
+        size: taken.room.machine().core().size(),
+        seats,
+        before: nothing(rt.alloc()),
+        names: Some(names),
+        minutes,
+    };
+    serve_taken_up(rt, taken, &rooms, entrances)
+}
+
+/// Takes up a journal whose seats the room has.
+fn take_up(
+    rt: &(impl Files<File = File> + Eprint + AllocGlobal),
+    file: String,
+    sync: bool,
+    seats: u8,
+) -> Result<TakenUp, OpenFault>
+    ensures good { IfOk result (λ taken. ⟦<JournalFile as Sink>⟧.has_failed taken.file ≡ false) }
+    ensures text { IfOk result (λ taken. taken.text.items ≡ journal_text taken.room.size taken.room.journal) }
+{
+    let found = find_journal(rt, file, durability_of(sync)).map_err(not_kept)?;
+    expect_seats(found.entries(), 1, seats)?;
+    let taken = found.take_up().map_err(not_kept)?;
+    tell_cut(rt, taken.cut);
+    Ok(taken)
+}
+
+/// Serves the room of a journal that was taken up, and those that follow it.
+fn serve_taken_up<
+    R: Threads
+        + Wait
+        + Sync
+        + Clock
+        + RandomSource
+        + Input<Reader = StdinLock<'static>>
+        + Print
+        + Eprint
+        + AllocGlobal
+        + Files<File = File>,
+>(rt: &R, taken: TakenUp, rooms: &Rooms<'_>, entrances: &Entrances) -> Result<(), OpenFault>
+    requires pages { vec_len entrances.now.pages ≤ rooms.now.seats }
+    requires good { ⟦<JournalFile as Sink>⟧.has_failed taken.file ≡ false }
+    requires text { taken.text.items ≡ journal_text taken.room.size taken.room.journal }
+{
+    let TakenUp {
+        room,
+        file,
+        text,
+        ..
+    } = taken;
+    let watch = Watch::new(rooms.minutes, false);
+    let turn = Turn {
+        number: 1,
+        watch: &watch,
+    };
+    let served = verify_room(rt, room, file, text, rooms.seats, entrances, turn);
+    serve_others(rt, rooms, served, &watch, entrances)
+}
+
+/// Goes on by the file of a room's journal, which has its text.
+fn verify_room<
+    R: Threads
+        + Wait
+        + Sync
+        + Clock
+        + RandomSource
+        + Input<Reader = StdinLock<'static>>
+        + Print
+        + Eprint
+        + AllocGlobal
+        + Files<File = File>,
+>(
+    rt: &R,
+    room: Room,
+    file: JournalFile,
+    text: Vec<u8>,
+    seats: u8,
+    entrances: &Entrances,
+    turn: Turn<'_>,
+) -> Result<(), OpenFault>
+    requires pages { vec_len entrances.now.pages ≤ seats }
+    requires good { ⟦<JournalFile as Sink>⟧.has_failed file ≡ false }
+    requires text { text.items ≡ journal_text room.size room.journal }
+{
+    let size = room.machine().core().size();
+    let verifier = verify_journal::<Brand, JournalFile>(rt.alloc(), file, text, size);
+    let Ok(keeper) = verifier else {
+        return Err(OpenFault::Hold(HoldFault::Memory));
+    };
+    let before = Before::Journal(room);
+    serve_new(rt, size, seats, &before, keeper, entrances, None, turn)
+}

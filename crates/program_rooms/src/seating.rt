@@ -1,0 +1,373 @@
+//! What the subcommand `serve` does if seats are taken again, and what such rooms have in common.
+ghost use Rattle.std.specs.Prelude.{◌≡◌, ◌<◌, ◌≤◌, ◌^◌, [], false, vec_len};
+ghost use Rattle.std.specs.Io.KnownBytes.{Appends};
+ghost use Rattle.console_1401.specs.Served.{AreAllSeats};
+ghost use Rattle.room_alone.specs.Kept.{kept_text};
+ghost use Rattle.program_rooms.specs.Outcome.{seats_outcome};
+
+use crate::beginning::{Before, Program, begin};
+use crate::entrances::{Entrances, open_entrances, tell_ready};
+use crate::fault::{OpenFault, not_told};
+use crate::journal_names::JournalNames;
+use crate::resuming::resume_seats;
+use crate::serving::start_fault;
+use crate::succession::{Rooms, Turn, serve_rooms};
+use bytes_streams::{FromReader, Source};
+use console_terminal::SessionFault;
+use core_1401::Core;
+use devices_1401::Card;
+use machine_image::{LentImage, lend_image};
+use program_call::{NewJournal, Opening, Operators, Resuming};
+use program_sessions::{HoldFault, read_file};
+use room_1401::{Keeper, Opened, RoomId, Seat, SharedRoom};
+use room_files::MadeName;
+use serving_http::Origin;
+use serving_room::{
+    NotingKeeper, PagePort, SeatsFault, SeatsServed, TakingTurns, UntilRenewed, Watch, serve_seats,
+};
+use std::fs::File;
+use std::io::StdinLock;
+use std::marker::Brand;
+use std::net::{Net, TcpListener, TcpStream};
+use std::random::RandomSource;
+use std::rt::{Clock, Files};
+use std::sync::Wait;
+use std::thread::Threads;
+
+/// What became of a room while it was served means this for the program.
+///
+/// # Errors
+///
+/// `Hold` if an entry wasn't kept; else what went wrong first, if something did.
+fn seats_outcome(failed: bool, fault: Option<SeatsFault>) -> Result<(), OpenFault>
+    ensures { result ≡ seats_outcome failed fault }
+{
+    if failed {
+        return Err(OpenFault::Hold(HoldFault::Session(SessionFault::Unkept)));
+    }
+    match fault {
+        None => Ok(()),
+        Some(fault) => Err(OpenFault::Seats(fault)),
+    }
+}
+
+/// What the machine of a room begins with, once its image is read.
+#[derive(Drop)]
+pub enum Machine {
+    /// It is new, with this many places of core storage, and has the image of this text loaded or is at power-on.
+    New(u16, Option<Vec<u8>>),
+    /// It is that of a journal, which is read once the ports are had.
+    Journal(Resuming),
+}
+
+/// The image of a text.
+fn image_of(text: &[u8]) -> Result<LentImage<'_>, OpenFault> {
+    match lend_image(text) {
+        Ok(image) => Ok(image),
+        Err(fault) => Err(OpenFault::Hold(HoldFault::Image(fault))),
+    }
+}
+
+/// The image of a text, if there is one.
+///
+/// # Errors
+///
+/// `Hold` with `Image` if the text is no image's.
+fn image_in(text: &Option<Vec<u8>>) -> Result<Option<LentImage<'_>>, OpenFault> {
+    match text {
+        None => Ok(None),
+        Some(text) => Ok(Some(image_of(text.as_slice())?)),
+    }
+}
+
+/// The machine that a room begins with.
+///
+/// # Errors
+///
+/// `Hold` with `Unread`, `Image` or `Memory` if there is no such image, or with `Size` if no core storage of the size
+/// named is made.
+pub fn machine_of(rt: &(impl Files + AllocGlobal), opening: Opening) -> Result<Machine, OpenFault> {
+    let (size, text) = match opening {
+        Opening::PowerOn(size) => (size, None),
+        Opening::Image(name) => {
+            let text = read_file(rt, name).map_err(OpenFault::Hold)?;
+            (image_of(text.as_slice())?.size(), Some(text))
+        }
+        Opening::Journal(asked) => return Ok(Machine::Journal(asked)),
+    };
+    if !Core::is_size(size) {
+        return Err(OpenFault::Hold(HoldFault::Size));
+    }
+    Ok(Machine::New(size, text))
+}
+
+/// Opens a machine to operators whose seats are taken again, with these cards in its hopper; a proxy brings their
+/// pages to others at this origin, if there is one. The seats of a machine of a journal give its commands again first,
+/// and have no cards. The journal is kept in a new file, or in that of the journal that the machine begins with, if all
+/// commands of that were asked for; or it isn't kept.
+///
+/// It tells on standard output when it listens, with the address of each page, and at the end how many commands the
+/// journal has. QUIT on standard input, or its end, closes the room. If a number of minutes is given, a new room
+/// follows whenever a page asks for it, no command was given for so many minutes, or a minute after its journal had
+/// 95,000 entries: with the same image and cards, or after that of a journal at power-on.
+///
+/// # Errors
+///
+/// `NoReader`, or `Hold` with `Size` or `Memory`, if there is no such room; `Port` if a port is refused; `Hold` with
+/// `Kept` if a file of a journal can't be had or has no journal, with `Output` if standard output takes nothing, with
+/// `JournalFull` or `Session` if the image isn't loaded or a card isn't fed; `NoSeat` if an entry is of a seat that the
+/// room hasn't: in the same file seat 0 is such a one, in a new file seat 1 gives its commands; or what went wrong
+/// first while the rooms were served. A new file of a journal is left only if the room came about.
+pub fn open_seats<
+    R: Threads
+        + Wait
+        + Sync
+        + Clock
+        + RandomSource
+        + Input<Reader = StdinLock<'static>>
+        + Print
+        + Eprint
+        + AllocGlobal
+        + Files<File = File>
+        + Net<Listener = TcpListener, Stream = TcpStream>,
+>(
+    rt: &R,
+    machine: Machine,
+    cards: Vec<Card>,
+    operators: Operators,
+    origin: Option<Origin>,
+    journal: Option<NewJournal>,
+    minutes: Option<u16>,
+) -> Result<(), OpenFault> {
+    let entrances = open_entrances(rt, operators, origin.as_ref())?;
+    let seats = operators.seats;
+    match machine {
+        Machine::New(size, text) => {
+            let image = image_in(&text)?;
+            let before = Before::Program(Program { image, cards });
+            let rooms = Rooms {
+                size,
+                seats,
+                before,
+                names: journal.map(JournalNames::new),
+                minutes,
+            };
+            serve_rooms(rt, &rooms, &rooms.before, &entrances)
+        }
+        Machine::Journal(asked) => resume_seats(rt, asked, journal, seats, minutes, &entrances),
+    }
+}
+
+/// Opens a room by a keeper that has the head of its journal, and serves it in its turn; if it doesn't come about, the
+/// file that was made for it is taken away.
+pub(crate) fn serve_new<
+    R: Threads
+        + Wait
+        + Sync
+        + Clock
+        + RandomSource
+        + Input<Reader = StdinLock<'static>>
+        + Print
+        + Eprint
+        + AllocGlobal
+        + Files<File = File>,
+    K: Keeper + Drop + Send + Sync,
+>(
+    rt: &R,
+    size: u16,
+    seats: u8,
+    before: &Before<'_>,
+    keeper: K,
+    entrances: &Entrances,
+    made: Option<MadeName>,
+    turn: Turn<'_>,
+) -> Result<(), OpenFault>
+    requires pages { vec_len entrances.now.pages ≤ seats }
+    requires good { K.has_failed keeper ≡ false }
+    requires kept { Appends K.first (K.kept keeper) (kept_text K.form size []) }
+{
+    let opened = Opened::new(seats);
+    let keeper = NotingKeeper::new(keeper, turn.watch, rt);
+    serve_room::<Brand, R, NotingKeeper<'_, K, R>>(
+        rt, size, seats, before, opened, keeper, entrances, made, turn,
+    )
+}
+
+/// The same for a room of this name.
+fn serve_room<
+    J: RoomId + Send + Sync,
+    R: Threads
+        + Wait
+        + Sync
+        + Clock
+        + RandomSource
+        + Input<Reader = StdinLock<'static>>
+        + Print
+        + Eprint
+        + AllocGlobal
+        + Files<File = File>,
+    K: Keeper + Drop + Send + Sync,
+>(
+    rt: &R,
+    size: u16,
+    seats: u8,
+    before: &Before<'_>,
+    opened: Opened,
+    keeper: K,
+    entrances: &Entrances,
+    made: Option<MadeName>,
+    turn: Turn<'_>,
+) -> Result<(), OpenFault>
+    requires history { opened.book ≡ J.book }
+    requires ledger { (opened.ledger ≡ J.name) × (opened.parts ≡ J.parts) × (J.parts ≡ J.seats) }
+    requires named { (size ≡ J.size) × (seats ≡ J.seats) }
+    requires pages { vec_len entrances.now.pages ≤ seats }
+    requires good { K.has_failed keeper ≡ false }
+    requires kept { Appends K.first (K.kept keeper) (kept_text K.form size []) }
+{
+    let alloc = rt.alloc();
+    match SharedRoom::<J, &R, K>::power_on_kept(rt, alloc, size, seats, opened, keeper) {
+        Ok((room, seats)) => serve_begun(rt, room, seats, before, entrances, made, turn),
+        Err(fault) => {
+            remove(rt, made);
+            Err(start_fault(fault))
+        }
+    }
+}
+
+/// The same once the room is opened: what comes before its operators, and then they.
+fn serve_begun<
+    J: RoomId + Send + Sync,
+    R: Threads
+        + Wait
+        + Sync
+        + Clock
+        + RandomSource
+        + Input<Reader = StdinLock<'static>>
+        + Print
+        + Eprint
+        + AllocGlobal
+        + Files<File = File>,
+    K: Keeper + Drop + Send + Sync,
+>(
+    rt: &R,
+    room: SharedRoom<J, &R, K>,
+    mut seats: Vec<Seat<J>>,
+    before: &Before<'_>,
+    entrances: &Entrances,
+    made: Option<MadeName>,
+    turn: Turn<'_>,
+) -> Result<(), OpenFault>
+    requires ledger { J.parts ≡ J.seats }
+    requires seats { AreAllSeats J.seats seats.items }
+    requires count { (0 < J.seats) × (J.seats < 2 ^ 8) }
+    requires pages { vec_len entrances.now.pages ≤ J.seats }
+{
+    if let Err(fault) = begin(rt, &room, &mut seats, before) {
+        remove(rt, made);
+        return Err(fault);
+    }
+    drop(made);
+    serve_operators(rt, room, seats, entrances, turn)
+}
+
+/// Reports that the room listens, serves it, and reports how many commands its journal has at the end.
+fn serve_operators<
+    J: RoomId + Send + Sync,
+    R: Threads
+        + Wait
+        + Sync
+        + Clock
+        + RandomSource
+        + Input<Reader = StdinLock<'static>>
+        + Print
+        + Eprint
+        + AllocGlobal,
+    K: Keeper + Drop + Send + Sync,
+>(
+    rt: &R,
+    room: SharedRoom<J, &R, K>,
+    seats: Vec<Seat<J>>,
+    entrances: &Entrances,
+    turn: Turn<'_>,
+) -> Result<(), OpenFault>
+    requires ledger { J.parts ≡ J.seats }
+    requires seats { AreAllSeats J.seats seats.items }
+    requires count { (0 < J.seats) × (J.seats < 2 ^ 8) }
+    requires pages { vec_len entrances.now.pages ≤ J.seats }
+{
+    report_open(rt, turn.number, entrances.pages.as_slice())?;
+    turn.watch.open();
+    let input = FromReader::new(rt.reader());
+    if turn.watch.renews() {
+        let input = UntilRenewed::new(rt, turn.watch);
+        return serve_by(rt, room, seats, entrances, turn.watch, input);
+    }
+    serve_by(rt, room, seats, entrances, turn.watch, input)
+}
+
+/// Serves a room until this input ends it.
+fn serve_by<
+    J: RoomId + Send + Sync,
+    R: Threads
+        + Wait
+        + Sync
+        + Clock
+        + RandomSource
+        + Input<Reader = StdinLock<'static>>
+        + Print
+        + Eprint
+        + AllocGlobal,
+    K: Keeper + Drop + Send + Sync,
+    S: Source + Drop + Send,
+>(
+    rt: &R,
+    room: SharedRoom<J, &R, K>,
+    seats: Vec<Seat<J>>,
+    entrances: &Entrances,
+    watch: &Watch,
+    input: S,
+) -> Result<(), OpenFault>
+    requires ledger { J.parts ≡ J.seats }
+    requires seats { AreAllSeats J.seats seats.items }
+    requires count { (0 < J.seats) × (J.seats < 2 ^ 8) }
+    requires pages { vec_len entrances.now.pages ≤ J.seats }
+{
+    let consoles = entrances.consoles.as_ref();
+    let pages = entrances.pages.as_slice();
+    let door = TakingTurns::new(rt);
+    let served = serve_seats(
+        rt.alloc(),
+        rt,
+        room,
+        seats,
+        consoles,
+        pages,
+        watch,
+        input,
+        &door,
+    );
+    tell_end(rt, served)
+}
+
+/// Reports that the first room listens, or which of those that follow does.
+fn report_open(rt: &impl Print, number: u32, pages: &[PagePort]) -> Result<(), OpenFault> {
+    if number == 1 {
+        return tell_ready(rt, pages);
+    }
+    println!(rt; "ROOM {number}").map_err(not_told)
+}
+
+/// Tells how many commands the journal of a room has that was served.
+fn tell_end<K: Keeper + Drop>(rt: &impl Print, served: SeatsServed<K>) -> Result<(), OpenFault> {
+    let told = println!(rt; "JOURNAL {}", served.room.journal().len());
+    seats_outcome(served.keeper.has_failed(), served.fault)?;
+    told.map_err(not_told)
+}
+
+/// Takes away the file that was made for a journal, if one was: it has no journal of a room that operators came to.
+fn remove(rt: &impl Files<File = File>, made: Option<MadeName>) {
+    if let Some(name) = made {
+        let _name = name.remove(rt);
+    }
+}

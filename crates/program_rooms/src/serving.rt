@@ -1,0 +1,89 @@
+//! What the subcommand `serve` does.
+ghost use Rattle.std.specs.Prelude.{◌≡◌};
+ghost use Rattle.program_rooms.specs.Outcome.{service_outcome, start_fault};
+
+use crate::fault::{OpenFault, not_told};
+use console_1401::{ServeFault, serve};
+use program_call::Service;
+use program_sessions::HoldFault;
+use room_1401::{Opened, RoomId, SharedRoom, StartFault};
+use serving_room::TakingTurns;
+use std::alloc::Global;
+use std::marker::Brand;
+use std::net::{Ipv4Addr, Net, TcpListener, TcpStream};
+use std::rt::Clock;
+use std::sync::Wait;
+use std::thread::Threads;
+
+/// What a room that couldn't be opened means for the program. The command line asks for no other seats than 1 to 8, so
+/// that there are places for their readers, or there are none.
+pub(crate) fn start_fault(fault: StartFault) -> OpenFault
+    ensures { result ≡ start_fault fault }
+{
+    match fault {
+        StartFault::Size => OpenFault::Hold(HoldFault::Size),
+        StartFault::Seats | StartFault::NoReader => OpenFault::NoReader,
+        StartFault::Memory => OpenFault::Hold(HoldFault::Memory),
+    }
+}
+
+/// What the end of the service means for the program.
+///
+/// # Errors
+///
+/// Where not each seat had its console.
+fn service_outcome(fault: Option<ServeFault>) -> Result<(), OpenFault>
+    ensures { result ≡ service_outcome fault }
+{
+    match fault {
+        None => Ok(()),
+        Some(ServeFault::Accept) => Err(OpenFault::Accept),
+        Some(ServeFault::Thread) => Err(OpenFault::Thread),
+    }
+}
+
+/// Opens a new machine to operators, a console for each seat, and tells on standard output when it listens, and at the
+/// end how many commands the journal has.
+///
+/// # Errors
+///
+/// `NoReader`, or `Hold` with `Size` or `Memory`, if there is no such room; `Port` if the port is refused; `Hold` with
+/// `Output` if standard output takes nothing; or `Accept` or `Thread` if not each seat had its console.
+pub fn open_room<
+    R: Threads
+        + Wait
+        + Sync
+        + Clock
+        + Print
+        + AllocGlobal
+        + Net<Listener = TcpListener, Stream = TcpStream>,
+>(rt: &R, service: Service) -> Result<(), OpenFault> {
+    serve_room::<Brand, R>(rt, rt.alloc(), service, Opened::new(service.seats))
+}
+
+/// The same for a room of this name.
+fn serve_room<
+    J: RoomId + Send + Sync,
+    R: Threads + Wait + Sync + Clock + Print + Net<Listener = TcpListener, Stream = TcpStream>,
+>(rt: &R, alloc: Global, service: Service, opened: Opened) -> Result<(), OpenFault>
+    requires history { opened.book ≡ J.book }
+    requires ledger { (opened.ledger ≡ J.name) × (opened.parts ≡ J.parts) × (J.parts ≡ J.seats) }
+    requires named { (service.size ≡ J.size) × (service.seats ≡ J.seats) }
+{
+    let Service { size, seats, port } = service;
+    let (room, seats) = match SharedRoom::<J, &R>::power_on(rt, alloc, size, seats, opened) {
+        Ok(opened) => opened,
+        Err(fault) => return Err(start_fault(fault)),
+    };
+    let Ok(listener) = TcpListener::bind(rt, (Ipv4Addr::LOCALHOST, port)) else {
+        return Err(OpenFault::Port);
+    };
+    if println!(rt; "READY").is_err() {
+        return Err(OpenFault::Hold(HoldFault::Output));
+    }
+    let door = TakingTurns::new(rt);
+    let served = serve(alloc, rt, room, seats, &listener, &door);
+    let told = println!(rt; "JOURNAL {}", served.room.journal().len());
+    service_outcome(served.fault)?;
+    told.map_err(not_told)
+}

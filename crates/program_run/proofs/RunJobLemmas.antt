@@ -1,0 +1,146 @@
+-- What a run of files reports, by what it began with.
+use Rattle.std.proofs.Common.{◌≡◌, ℕ, ◌+◌, ◌<◌, ◌≤◌, Bool, false, List, length, drop, get_or, Option, option_map, ap}
+use Rattle.std.proofs.Common.{OnOk, IfErr, Result, Ok, Err, refl, string_bytes, subst, unwrap_or, inl, inr}
+use Rattle.std.proofs.lemmas.List.{drop_all, drop_more}
+use Rattle.std.specs.Prelude.{⊤}
+use Rattle.program_call.specs.declared.call.Job.{Job}
+use Rattle.program_call.specs.declared.call.Start.{Start}
+use Rattle.cpu_1401.specs.State.{State, power_on, with_switch}
+use Rattle.autocoder_deck.specs.Entry.{AtEntry, loaded_deck}
+use Rattle.autocoder_deck.specs.LoadedCore.{IsLoadedDeck}
+use Rattle.autocoder_deck.specs.declared.entry.LoadFault.{LoadFault}
+use Rattle.autocoder_deck.specs.declared.loaded_core.LoadedDeck.{LoadedDeck}
+use Rattle.devices_1401.specs.declared.card.Card.{Card}
+use Rattle.machine_image.specs.Image.{IsInCore}
+use Rattle.machine_image.specs.ImageText.{written_text}
+use Rattle.job_runner.specs.Unattended.{with_deck}
+use Rattle.machine_panel.specs.declared.stop.Stop.TheVariants as stop
+use Rattle.program_run.specs.RunFile.{InputNames, IsFaultOf, IsUnread, IsUnstored, IsUnwritten, WrittenNames}
+use Rattle.program_run.specs.RunJob.{HasHalted, IsBegun, IsReportOf, ReportsJob, ReportsStop, report_on, turned}
+use Rattle.program_run.specs.RunJob.{IsLoadedText, with_switches}
+use Rattle.program_run.specs.declared.fault.RunFault.{RunFault}
+use Rattle.program_run.specs.declared.fault.RunFault.TheVariants as fault
+use Rattle.program_run.specs.declared.job_report.JobReport.{JobReport}
+
+-- one switch more is turned, and then none is left
+pub turned_more : (switches : List Bool) (n : ℕ) (s : State) → n < length switches
+    → turned n (drop n switches) s ≡ turned (n + 1) (drop (n + 1) switches) (with_switch s n (get_or switches n false))
+turned_more switches n s within = ap (λ (left : List Bool). turned n left s) (drop_more switches n false within)
+
+pub turned_none : (switches : List Bool) (n : ℕ) (s : State) → length switches ≤ n → turned n (drop n switches) s ≡ s
+turned_none switches n s all = ap (λ (left : List Bool). turned n left s) (drop_all n switches all)
+
+-- a file that isn't written is no stop
+pub unwritten_reports : (names : WrittenNames) (report : JobReport) (why : RunFault) → IsUnwritten names why
+    → ReportsStop report why
+unwritten_reports names report fault.Output is = tt
+unwritten_reports names report fault.Size is = tt
+unwritten_reports names report (fault.File name why) is = tt
+unwritten_reports names report (fault.Unwritten name) is = tt
+unwritten_reports names report (fault.OneFile first second) is = tt
+unwritten_reports names report (fault.Deck name why) is = tt
+unwritten_reports names report (fault.Unloaded why) is = tt
+unwritten_reports names report (fault.Stopped ending) is = absurd is
+unwritten_reports names report (fault.Source why) is = tt
+unwritten_reports names report (fault.Image why) is = tt
+unwritten_reports names report fault.Memory is = tt
+
+-- nor is a file that isn't read
+pub unread_reports : (job : Job) (how : Start) (size : Option ℕ) (names : InputNames) (why : RunFault)
+    → IsUnread how size names why → ReportsJob job why
+unread_reports job how size names fault.Output is = tt
+unread_reports job how size names fault.Size is = tt
+unread_reports job how size names (fault.File name why) is = tt
+unread_reports job how size names (fault.Unwritten name) is = tt
+unread_reports job how size names (fault.OneFile first second) is = tt
+unread_reports job how size names (fault.Deck name why) is = tt
+unread_reports job how size names (fault.Unloaded why) is = tt
+unread_reports job how size names (fault.Stopped ending) is = absurd is
+unread_reports job how size names (fault.Source why) is = tt
+unread_reports job how size names (fault.Image why) is = tt
+unread_reports job how size names fault.Memory is = tt
+
+-- the image of what a deck has loaded is in core
+pub loaded_in_core : (outcome : Result AtEntry LoadFault) (loaded : LoadedDeck) → IsLoadedDeck outcome loaded
+    → IsInCore loaded.image
+loaded_in_core outcome loaded is = is.2.in_core
+
+-- and its text is that of what the cards load
+pub is_loaded_text : (size : Option ℕ) (switches : List Bool) (cards : List Card) (machine : State) (loaded : LoadedDeck)
+    (text : List ℕ) → machine ≡ with_switches switches (power_on (unwrap_or size 4000))
+    → IsLoadedDeck (loaded_deck 1000000 (with_deck cards machine)) loaded → text ≡ written_text loaded.image
+    → IsLoadedText size switches cards text
+is_loaded_text size switches cards machine loaded text same is text_is =
+    let there = subst (λ (s : State). IsLoadedDeck (loaded_deck 1000000 (with_deck cards s)) loaded) same is in
+    (loaded.image, (loaded, refl, there), text_is)
+
+-- nor is an image that isn't stored
+pub unstored_reports : (job : Job) (how : Start) (file : Option (List ℕ)) (why : RunFault) → IsUnstored how file why
+    → ReportsJob job why
+unstored_reports job how file fault.Output is = absurd is
+unstored_reports job how file fault.Size is = absurd is
+unstored_reports job how file (fault.File name why) is = absurd is
+unstored_reports job how file (fault.Unwritten name) is = tt
+unstored_reports job how file (fault.OneFile first second) is = absurd is
+unstored_reports job how file (fault.Deck name why) is = absurd is
+unstored_reports job how file (fault.Unloaded why) is = tt
+unstored_reports job how file (fault.Stopped ending) is = absurd is
+unstored_reports job how file (fault.Source why) is = absurd is
+unstored_reports job how file (fault.Image why) is = absurd is
+unstored_reports job how file fault.Memory is = tt
+
+-- and it is a fault of its job
+pub unstored_fault : (job : Job) (why : RunFault) → IsUnstored job.start (option_map string_bytes job.image) why
+    → IsFaultOf job why
+unstored_fault job fault.Output is = absurd is
+unstored_fault job fault.Size is = absurd is
+unstored_fault job (fault.File name why) is = absurd is
+unstored_fault job (fault.Unwritten name) is = inr (inr (inr (inr (inr is))))
+unstored_fault job (fault.OneFile first second) is = absurd is
+unstored_fault job (fault.Deck name why) is = absurd is
+unstored_fault job (fault.Unloaded why) is = inl is
+unstored_fault job (fault.Stopped ending) is = absurd is
+unstored_fault job (fault.Source why) is = absurd is
+unstored_fault job (fault.Image why) is = absurd is
+unstored_fault job fault.Memory is = inl tt
+
+-- what a job begins with, and its report
+abbrev pub IsBegunFor : Job → State → List Card → Type 0
+IsBegunFor job machine cards =
+    IsBegun job.start job.language job.size (option_map string_bytes job.cards) machine cards
+
+abbrev pub report_for : Job → State → List Card → JobReport
+report_for job machine cards = report_on job.start job.limit (with_deck cards (with_switches job.switches machine))
+
+report_is_of : (job : Job) (machine : State) (cards : List Card) → IsBegunFor job machine cards
+    → IsReportOf job (report_for job machine cards)
+report_is_of job machine cards begun = record { machine = machine; cards = cards; begun = begun; report_is = refl }
+
+pub job_reports : (job : Job) (machine : State) (cards : List Card) (why : RunFault) → IsBegunFor job machine cards
+    → ReportsStop (report_for job machine cards) why → ReportsJob job why
+job_reports job machine cards fault.Output begun is = tt
+job_reports job machine cards fault.Size begun is = tt
+job_reports job machine cards (fault.File name why) begun is = tt
+job_reports job machine cards (fault.Unwritten name) begun is = tt
+job_reports job machine cards (fault.OneFile first second) begun is = tt
+job_reports job machine cards (fault.Deck name why) begun is = tt
+job_reports job machine cards (fault.Unloaded why) begun is = tt
+job_reports job machine cards (fault.Stopped ending) begun is =
+    record { machine = machine; cards = cards; begun = begun; report_is = is }
+job_reports job machine cards (fault.Source why) begun is = tt
+job_reports job machine cards (fault.Image why) begun is = tt
+job_reports job machine cards fault.Memory begun is = tt
+
+-- the end of a run, as its call says it
+pub run_halted : (job : Job) (machine : State) (cards : List Card) (result : Result ⊤ RunFault)
+    → IsBegunFor job machine cards → OnOk result ((report_for job machine cards).stop ≡ stop.Halt)
+    → OnOk result (HasHalted job)
+run_halted job machine cards (Ok done) begun is =
+    (report_for job machine cards, report_is_of job machine cards begun, is)
+run_halted job machine cards (Err why) begun is = is
+
+pub run_stopped : (job : Job) (machine : State) (cards : List Card) (result : Result ⊤ RunFault)
+    → IsBegunFor job machine cards → IfErr result (ReportsStop (report_for job machine cards))
+    → IfErr result (ReportsJob job)
+run_stopped job machine cards (Ok done) begun is = is
+run_stopped job machine cards (Err why) begun is = job_reports job machine cards why begun is

@@ -1,0 +1,376 @@
+-- A step of a job, and its line.
+use Rattle.std.proofs.Common.{◌≡◌, ◌≢◌, ◌<◌, ◌≤◌, ◌⊎◌, not, ℕ, ◌+◌, ◌-◌, zero, suc, Bool, true, false, List, [], ◌++◌}
+use Rattle.std.proofs.Common.{length, min, Option, None, Some}
+use Rattle.std.proofs.Common.{refl, sym, ◌∙◌, ap, subst, arith, append_assoc, length-append, inl, inr}
+use Rattle.std.proofs.lemmas.Bool.{not-false, not-true}
+use Rattle.std.proofs.lemmas.Option.{none-some}
+use Rattle.std.specs.Prelude.{nat_lt, ◌==◌, if◌then◌else◌, is_some}
+use Rattle.std.proofs.lemmas.List.{append-nil}
+use Rattle.devices_1401.specs.declared.card.Card.{Card}
+use Rattle.devices_1401.specs.declared.print_line.PrintLine.{PrintLine}
+use Rattle.machine_panel.specs.declared.stop.Stop.{Stop}
+use Rattle.machine_panel.specs.declared.stop.Stop.TheVariants as stop
+use Rattle.cpu_1401.specs.CardsAndPrinter.{load}
+use Rattle.cpu_1401.specs.Run.{carried_out_by}
+use Rattle.cpu_1401.specs.State.{State}
+use Rattle.cpu_1401.specs.Step.{step}
+use Rattle.job_runner.specs.Unattended.{Job, after_output, emptied, go_on, taken_first, unattended, with_deck}
+use Rattle.job_trace.specs.declared.work.Work.{Work}
+use Rattle.job_trace.specs.TraceLine.{Seen, line_of, seen_of, trace_line, work_of}
+use Rattle.program_run.specs.TraceText.{trace_on, trace_text}
+use Rattle.std.proofs.KnownBytes.{Appends-nil, Appends-trans}
+use Rattle.std.specs.Io.KnownBytes.{Appends}
+use Rattle.bytes_streams.specs.Sink.{AppendsPart}
+use Rattle.program_call.specs.declared.call.Start.{Start}
+use Rattle.program_call.specs.declared.call.Start.TheVariants as start
+use Rattle.program_run.specs.RunTrace.{IsWhyUntraced, TracedStretch, line_if, lines_after, most_at_once, rest_traced}
+use Rattle.program_run.specs.RunTrace.{seen_if, started_trace, traced}
+use Rattle.program_run.specs.declared.deck_running.Broken.{Broken}
+use Rattle.program_run.specs.declared.deck_running.Broken.TheVariants as broken
+use Rattle.program_run.proofs.StretchLemmas.{ran_part}
+use Rattle.program_run.proofs.WrittenLemmas.{part_behind, part_of_longer}
+
+abbrev pub job_of : State → ℕ → Stop → List PrintLine → List Card → Job
+job_of now steps why lines cards =
+    record { state = now; steps = steps; stop = why; lines = lines; cards = cards }
+
+-- a job of one step, by what the step leaves
+abbrev one_of : State → State → Option Stop → Job
+one_of s after found = taken_first s (go_on found after (unattended 0))
+
+-- what is told of a step is what it left
+record IsTold (s after : State) (found told : Option Stop) (now : State) (steps : ℕ) (lines : List PrintLine)
+    (cards : List Card) : Type 0 where
+  after_is : emptied after ≡ now
+  found_is : told ≡ found
+  steps_is : found ≡ None → steps ≡ 1
+  lines_is : s.devices.paper ++ after.devices.paper ≡ lines
+  cards_is : s.devices.stacker ++ after.devices.stacker ≡ cards
+
+told_of : (s after : State) (found told : Option Stop) (now : State) (steps : ℕ) (why : Stop)
+    (lines : List PrintLine) (cards : List Card) → one_of s after found ≡ job_of now steps why lines cards
+    → (why ≡ stop.Limit → steps ≡ 1) → (told ≡ None → why ≡ stop.Limit)
+    → ((w : Stop) → told ≡ Some w → (w ≡ why) × (why ≢ stop.Limit))
+    → IsTold s after found told now steps lines cards
+unfolding unattended
+told_of s after None None now steps why lines cards e counted none some = record {
+  after_is = ap (λ (job : Job). job.state) e;
+  found_is = refl;
+  steps_is = λ _. counted (none refl);
+  lines_is = ap (λ (job : Job). job.lines) e;
+  cards_is = ap (λ (job : Job). job.cards) e;
+}
+told_of s after None (Some w) now steps why lines cards e counted none some =
+    absurd ((some w refl).1 (sym (ap (λ (job : Job). job.stop) e)))
+told_of s after (Some v) None now steps why lines cards e counted none some =
+    let is : v ≡ why = ap (λ (job : Job). job.stop) e in
+    let zero_steps : carried_out_by v ≡ steps = ap (λ (job : Job). job.steps) e in
+    let v_limit : v ≡ stop.Limit = is ∙ none refl in
+    let no_steps : 0 ≡ steps = ap carried_out_by (sym v_limit) ∙ zero_steps in
+    absurd (omega (arith, no_steps, counted (none refl)))
+told_of s after (Some v) (Some w) now steps why lines cards e counted none some = record {
+  after_is = ap (λ (job : Job). job.state) e;
+  found_is = ap Some ((some w refl).0 ∙ sym (ap (λ (job : Job). job.stop) e));
+  steps_is = λ h. absurd (none-some v (sym h));
+  lines_is = ap (λ (job : Job). job.lines) e;
+  cards_is = ap (λ (job : Job). job.cards) e;
+}
+
+-- more lie there than before if there is one after them
+more_lie : (n k : ℕ) → nat_lt n (n + k) ≡ nat_lt 0 k
+more_lie n zero = search arith
+more_lie n (suc k) = search arith
+
+-- what was done at the devices, by what lies there
+abbrev pub work_by : Bool → Bool → Bool → Work
+work_by printed read punched = record { printed = printed; read = read; punched = punched }
+
+same_work : (a b c a' b' c' : Bool) → a ≡ a' → b ≡ b' → c ≡ c' → work_by a b c ≡ work_by a' b' c'
+same_work a b c a' b' c' e f g = rw (e, f, g) refl
+
+lies_more : (X : Type 0) (before after all : List X) → before ++ after ≡ all
+    → nat_lt (length before) (length all) ≡ nat_lt 0 (length after)
+lies_more X before after all e =
+    ap (λ (xs : List X). nat_lt (length before) (length xs)) (sym e)
+    ∙ ap (λ (n : ℕ). nat_lt (length before) n) (length-append before after)
+    ∙ more_lie (length before) (length after)
+
+-- the line of the step
+step_line : (s after now : State) (found told : Option Stop) (work : Work) → emptied after ≡ now → told ≡ found
+    → work ≡ work_of (emptied s) after
+    → line_of (seen_of s) work told now ≡ trace_line (emptied s) (record { state = after; stop = found })
+unfolding line_of
+step_line s after now found told work e e' f =
+    ap (λ (x : State). line_of (seen_of s) work told x) (sym e)
+    ∙ ap (λ (w : Option Stop). line_of (seen_of s) work w after) e'
+    ∙ ap (λ (done : Work). line_of (seen_of s) done found after) f
+
+-- the trace of a machine whose paper and punched cards were taken out
+taken_out : (limit : ℕ) (s : State) → trace_text limit (emptied s) ≡ trace_text limit s
+unfolding trace_text
+taken_out zero s = refl
+taken_out (suc limit) s = refl
+
+-- what is left of the trace after a step
+rest_of_trace : (after now : State) (stopped told found : Option Stop) (why : Stop) (k left steps : ℕ)
+    → left ≡ suc k → emptied after ≡ now → told ≡ stopped → (stopped ≡ None → steps ≡ 1)
+    → (told ≡ None → why ≡ stop.Limit)
+    → ((w : Stop) → told ≡ Some w → (w ≡ why) × (why ≢ stop.Limit))
+    → (found ≡ None → (why ≡ stop.Limit) × (1 < left))
+    → ((w : Stop) → found ≡ Some w → (w ≡ why) × ((why ≢ stop.Limit) ⊎ (left ≤ 1)))
+    → trace_on stopped after (trace_text k) ≡ rest_traced found (left - steps) now
+unfolding trace_text
+rest_of_trace after now None told None why k left steps e e_now e_told counted none some more ended =
+    let one : steps ≡ 1 = counted refl in
+    let count : k ≡ left - steps = omega (arith, e, one) in
+    sym (taken_out k after) ∙ ap (λ (s : State). trace_text k s) e_now ∙ ap (λ (n : ℕ). trace_text n now) count
+rest_of_trace after now None told (Some w) why k left steps e e_now e_told counted none some more ended =
+    let no_more : k ≡ zero = elim (ended w refl).1 [
+      | inl no_limit ↦ absurd (no_limit (none e_told))
+      | inr last ↦ omega (arith, e, last)
+    ] in
+    ap (λ (n : ℕ). trace_text n after) no_more
+rest_of_trace after now (Some v) told None why k left steps e e_now e_told counted none some more ended =
+    absurd ((some v e_told).1 (more refl).0)
+rest_of_trace after now (Some v) told (Some w) why k left steps e e_now e_told counted none some more ended = refl
+
+-- a stretch of one step, and its line
+one_traced : (deck deck' : List Card) (m m' : State) (k left steps : ℕ) (why : Stop) (told found : Option Stop)
+    (lines : List PrintLine) (cards : List Card) (work : Work) → left ≡ suc k
+    → unattended 1 (with_deck deck m) ≡ job_of (with_deck deck' m') steps why lines cards
+    → (why ≡ stop.Limit → steps ≡ 1) → (told ≡ None → why ≡ stop.Limit)
+    → ((w : Stop) → told ≡ Some w → (w ≡ why) × (why ≢ stop.Limit))
+    → (found ≡ None → (why ≡ stop.Limit) × (1 < left))
+    → ((w : Stop) → found ≡ Some w → (w ≡ why) × ((why ≢ stop.Limit) ⊎ (left ≤ 1)))
+    → work ≡ work_by (nat_lt (length m.devices.paper) (length lines))
+    (nat_lt (length (with_deck deck' m').devices.hopper) (length (with_deck deck m).devices.hopper))
+    (nat_lt (length m.devices.stacker) (length cards))
+    → trace_text left (with_deck deck m)
+    ≡ line_of (seen_of m) work told m' ++ rest_traced found (left - steps) (with_deck deck' m')
+unfolding trace_text unattended line_of
+one_traced deck deck' m m' k left steps why told found lines cards work e job counted none some more ended e_work =
+    let s = with_deck deck m in
+    let now = with_deck deck' m' in
+    let t = step (emptied s) in
+    let is = told_of s t.state t.stop told now steps why lines cards job counted none some in
+    let after_hopper : t.state.devices.hopper ≡ now.devices.hopper = ap (λ (x : State). x.devices.hopper) is.after_is in
+    let done : work ≡ work_of (emptied s) t.state =
+    e_work ∙ same_work _ _ _ _ _ _ (lies_more PrintLine m.devices.paper t.state.devices.paper lines is.lines_is)
+    (ap (λ (xs : List Card). nat_lt (length xs) (length s.devices.hopper)) (sym after_hopper))
+    (lies_more Card m.devices.stacker t.state.devices.stacker cards is.cards_is) in
+    let line : line_of (seen_of s) work told now ≡ trace_line (emptied s) t =
+    step_line s t.state now t.stop told work is.after_is is.found_is done in
+    let rest : trace_on t.stop t.state (trace_text k) ≡ rest_traced found (left - steps) now =
+    rest_of_trace t.state now t.stop told found why k left steps e is.after_is is.found_is is.steps_is none some more
+    ended in
+    ap (λ (n : ℕ). trace_text n s) e
+    ∙ ap (λ (text : List ℕ). text ++ trace_on t.stop t.state (trace_text k)) (sym line)
+    ∙ ap (λ (text : List ℕ). line_of (seen_of s) work told now ++ text) rest
+
+-- nothing is traced of no steps
+no_trace : (is : Bool) (left : ℕ) (s : State) → left ≡ 0 → traced is (trace_text left s) ≡ []
+unfolding trace_text
+no_trace true left s e = ap (λ (n : ℕ). trace_text n s) e
+no_trace false left s e = refl
+
+none_traced : (is : Bool) → traced is [] ≡ []
+none_traced true = refl
+none_traced false = refl
+
+no_steps : (is : Bool) (left : ℕ) → zero ≡ min left (most_at_once is) → left ≡ 0
+no_steps true left e = omega (arith, e)
+no_steps false left e = omega (arith, e)
+
+nothing_traced : (is : Bool) (left steps : ℕ) (s now : State) (why : Stop) (found : Option Stop)
+    → zero ≡ min left (most_at_once is) → (found ≡ None → (why ≡ stop.Limit) × (zero < left))
+    → traced is (trace_text left s) ≡ [] ++ traced is (rest_traced found (left - steps) now)
+nothing_traced is left steps s now why None e more =
+    absurd (omega (arith, no_steps is left e, (more refl).1))
+nothing_traced is left steps s now why (Some w) e more =
+    no_trace is left s (no_steps is left e) ∙ sym (none_traced is)
+
+-- a line is written after a step
+line_after : (n : ℕ) (before : Option Seen) (work : Work) (told : Option Stop) (after : State)
+    → lines_after (suc n) before work told after ≡ line_if before work told after
+line_after n before work told after =
+    let some : (suc n == 0) ≡ false = search arith in
+    ap (λ (b : Bool). if b then [] else line_if before work told after) some
+
+one_step : (n left : ℕ) → suc n ≡ min left 1 → (suc n ≡ 1) × (left ≡ suc (left - 1))
+one_step n left e = (omega (arith, e), omega (arith, e))
+
+-- a stretch, and what is left of the trace
+stretch_whole : (is : Bool) (deck deck' : List Card) (m m' : State) (n left steps : ℕ) (why : Stop)
+    (told found : Option Stop) (lines : List PrintLine) (cards : List Card) (work : Work)
+    → n ≡ min left (most_at_once is)
+    → unattended n (with_deck deck m) ≡ job_of (with_deck deck' m') steps why lines cards
+    → (why ≡ stop.Limit → steps ≡ n) → (told ≡ None → why ≡ stop.Limit)
+    → ((w : Stop) → told ≡ Some w → (w ≡ why) × (why ≢ stop.Limit))
+    → (found ≡ None → (why ≡ stop.Limit) × (n < left))
+    → ((w : Stop) → found ≡ Some w → (w ≡ why) × ((why ≢ stop.Limit) ⊎ (left ≤ n)))
+    → work ≡ work_by (nat_lt (length m.devices.paper) (length lines))
+    (nat_lt (length (with_deck deck' m').devices.hopper) (length (with_deck deck m).devices.hopper))
+    (nat_lt (length m.devices.stacker) (length cards))
+    → traced is (trace_text left (with_deck deck m))
+    ≡ lines_after n (seen_if is m) work told m' ++ traced is (rest_traced found (left - steps) (with_deck deck' m'))
+stretch_whole is deck deck' m m' zero left steps why told found lines cards work e job counted none some more ended e_work =
+    nothing_traced is left steps (with_deck deck m) (with_deck deck' m') why found e more
+stretch_whole false deck deck' m m' (suc n) left steps why told found lines cards work e job counted none some more ended
+    e_work = ap (λ (text : List ℕ). text ++ []) (sym (line_after n None work told m'))
+stretch_whole true deck deck' m m' (suc n) left steps why told found lines cards work e job counted none some more ended
+    e_work =
+    let one : suc n ≡ 1 = (one_step n left e).0 in
+    let job_one : unattended 1 (with_deck deck m) ≡ job_of (with_deck deck' m') steps why lines cards =
+    ap (λ (k : ℕ). unattended k (with_deck deck m)) (sym one) ∙ job in
+    one_traced deck deck' m m' (left - 1) left steps why told found lines cards work (one_step n left e).1 job_one
+    (λ h. counted h ∙ one) none some
+    (λ h. ((more h).0, omega (arith, (more h).1, one)))
+    (λ w h. (
+      (ended w h).0,
+      elim (ended w h).1 [
+        | inl no_limit ↦ inl no_limit
+        | inr last ↦ inr (omega (arith, last, one))
+      ],
+    )) e_work
+    ∙ ap (λ (text : List ℕ). text ++ rest_traced found (left - steps) (with_deck deck' m'))
+    (sym (line_after n (Some (seen_of m)) work told m'))
+
+-- the same, from what the stretch collected and what is told of it
+pub stretch_told : {n most steps paper still held stacker : ℕ} {why : Stop} {told found : Option Stop}
+    {lines0 lines items : List PrintLine} {cards0 cards others : List Card} (is : Bool) (deck deck' : List Card)
+    (m m' : State) (left : ℕ) → n ≡ min left most → most ≡ most_at_once is → lines0 ≡ [] → cards0 ≡ []
+    → after_output lines0 cards0 0 (unattended n (with_deck deck m)) ≡ job_of (with_deck deck' m') steps why items others
+    → lines ≡ items → cards ≡ others → (why ≡ stop.Limit → steps ≡ n) → (told ≡ None → why ≡ stop.Limit)
+    → ((w : Stop) → told ≡ Some w → (w ≡ why) × (why ≢ stop.Limit))
+    → (found ≡ None → (why ≡ stop.Limit) × (n < left))
+    → ((w : Stop) → found ≡ Some w → (w ≡ why) × ((why ≢ stop.Limit) ⊎ (left ≤ n)))
+    → paper ≡ length m.devices.paper → still ≡ length (with_deck deck' m').devices.hopper
+    → held ≡ length (with_deck deck m).devices.hopper → stacker ≡ length m.devices.stacker
+    → traced is (trace_text left (with_deck deck m))
+    ≡ lines_after n (seen_if is m)
+    (work_by (nat_lt paper (length lines)) (nat_lt still held) (nat_lt stacker (length cards))) told m'
+    ++ traced is (rest_traced found (left - steps) (with_deck deck' m'))
+stretch_told {n} {most} {steps} {paper} {still} {held} {stacker} {why} {told} {found} {lines = lines} {cards = cards} is
+    deck deck' m m' left few most_is no_lines no_cards job lines_are cards_are counted none some more ended paper_is
+    still_is held_is stacker_is =
+    stretch_whole is deck deck' m m' n left steps why told found lines cards _
+    (few ∙ ap (λ (k : ℕ). min left k) most_is)
+    (ran_part (unattended n (with_deck deck m)) (with_deck deck' m') steps why no_lines no_cards job lines_are cards_are)
+    counted none some more ended
+    (same_work _ _ _ _ _ _ (ap (λ (k : ℕ). nat_lt k (length lines)) paper_is)
+    (ap (λ (k : ℕ). nat_lt k held) still_is
+    ∙ ap (λ (k : ℕ). nat_lt (length (with_deck deck' m').devices.hopper) k) held_is)
+    (ap (λ (k : ℕ). nat_lt k (length cards)) stacker_is))
+
+-- a write to another file hasn't touched the trace
+pub untraced : (why : Broken) (failed : Bool) → why ≢ broken.Trace → IsWhyUntraced why failed failed
+untraced broken.Memory failed other = refl
+untraced broken.Paper failed other = refl
+untraced broken.Punch failed other = refl
+untraced broken.Trace failed other = absurd (other refl)
+
+seen_is : (is : Bool) (s : State) → is_some (seen_if is s) ≡ is
+seen_is true s = refl
+seen_is false s = refl
+
+-- something was seen of the machine exactly if there is a trace
+pub is_seen : {seen : Option Seen} (is : Bool) (s : State) → seen ≡ seen_if is s → is_some seen ≡ is
+is_seen is s e = ap (λ (before : Option Seen). is_some before) e ∙ seen_is is s
+
+-- how far the trace is
+pub record TraceSoFar (is : Bool) (limit left : ℕ) (start now : State) (first at : Option (List ℕ)) : Type 0 where
+  pub lines : List ℕ
+  pub written : Appends first at lines
+  pub whole : traced is (trace_text limit start) ≡ lines ++ traced is (trace_text left now)
+
+pub trace_at_first : (is : Bool) (limit : ℕ) (start : State) (first at : Option (List ℕ)) → at ≡ first
+    → TraceSoFar is limit limit start start first at
+trace_at_first is limit start first at e = record {
+  lines = [];
+  written = subst (λ (x : Option (List ℕ)). Appends first x []) (sym e) (Appends-nil first);
+  whole = refl;
+}
+
+-- how far it is after a stretch
+record TraceGrown (is : Bool) (limit left steps : ℕ) (found : Option Stop) (start after : State)
+    (first new : Option (List ℕ)) : Type 0 where
+  lines : List ℕ
+  written : Appends first new lines
+  whole : traced is (trace_text limit start) ≡ lines ++ traced is (rest_traced found (left - steps) after)
+
+trace_grown : {seen : Option Seen} {is : Bool} {limit left steps : ℕ} {found : Option Stop} {start now after : State}
+    {first at new : Option (List ℕ)} (s : State) → seen ≡ seen_if is s
+    → TraceSoFar is limit left start now first at → TracedStretch (is_some seen) left steps found now after at new
+    → TraceGrown is limit left steps found start after first new
+trace_grown {is = is} {left = left} {steps} {found} {now = now} {after} {first} {at} {new} s e so_far traced_stretch =
+    let stretch : TracedStretch is left steps found now after at new =
+    subst (λ (each : Bool). TracedStretch each left steps found now after at new) (is_seen is s e) traced_stretch in
+    record {
+      lines = so_far.lines ++ stretch.lines;
+      written = Appends-trans first at new so_far.lines stretch.lines so_far.written stretch.written;
+      whole = so_far.whole
+          ∙ ap (λ (text : List ℕ). so_far.lines ++ text) stretch.whole
+          ∙ sym (append_assoc so_far.lines stretch.lines (traced is (rest_traced found (left - steps) after)));
+    }
+
+pub trace_goes_on : {seen : Option Seen} {is : Bool} {limit left steps : ℕ} {found : Option Stop}
+    {start now after : State} {first at new : Option (List ℕ)} (s : State) → seen ≡ seen_if is s
+    → TraceSoFar is limit left start now first at → TracedStretch (is_some seen) left steps found now after at new
+    → found ≡ None → TraceSoFar is limit (left - steps) start after first new
+trace_goes_on {is = is} {left = left} {steps} {after = after} s e so_far stretch none =
+    let all = trace_grown s e so_far stretch in
+    record {
+      lines = all.lines;
+      written = all.written;
+      whole = all.whole
+          ∙ ap (λ (end : Option Stop). all.lines ++ traced is (rest_traced end (left - steps) after)) none;
+    }
+
+pub all_traced : {seen : Option Seen} {is : Bool} {limit left steps : ℕ} {found : Option Stop} {why : Stop}
+    {start now after : State} {first at new : Option (List ℕ)} (s : State) → seen ≡ seen_if is s
+    → TraceSoFar is limit left start now first at → TracedStretch (is_some seen) left steps found now after at new
+    → found ≡ Some why → Appends first new (traced is (trace_text limit start))
+all_traced {is = is} {limit} {left} {steps} {start = start} {after = after} {first} {new = new} s e so_far stretch some =
+    let all = trace_grown s e so_far stretch in
+    let whole : traced is (trace_text limit start) ≡ all.lines =
+    all.whole
+    ∙ ap (λ (end : Option Stop). all.lines ++ traced is (rest_traced end (left - steps) after)) some
+    ∙ ap (λ (text : List ℕ). all.lines ++ text) (none_traced is)
+    ∙ append-nil all.lines in
+    subst (Appends first new) (sym whole) all.written
+
+-- a stretch that broke off
+pub trace_part : {seen : Option Seen} {is : Bool} {limit left : ℕ} {start now : State} {first at : Option (List ℕ)}
+    (s : State) (new : Option (List ℕ)) → seen ≡ seen_if is s
+    → TraceSoFar is limit left start now first at → AppendsPart at new (traced (is_some seen) (trace_text left now))
+    → AppendsPart first new (traced is (trace_text limit start))
+trace_part {is = is} {limit} {left} {start} {now} {first} {at} s new e so_far part =
+    part_behind first at new so_far.lines (traced is (trace_text left now)) (traced is (trace_text limit start))
+    so_far.whole so_far.written
+    (subst (λ (each : Bool). AppendsPart at new (traced each (trace_text left now))) (is_seen is s e) part)
+
+-- a line that wasn't written whole
+pub line_part : (is : Bool) (limit steps : ℕ) (found : Option Stop) (s now : State) (old new : Option (List ℕ))
+    (text : List ℕ) → traced is (trace_text limit s) ≡ text ++ traced is (rest_traced found (limit - steps) now)
+    → AppendsPart old new text → AppendsPart old new (traced is (trace_text limit s))
+line_part is limit steps found s now old new text whole part =
+    part_of_longer old new text (traced is (rest_traced found (limit - steps) now)) (traced is (trace_text limit s)) whole part
+
+-- the trace of a machine that has read its program's first card is that of the job started by the load key
+pub loaded_trace : (begun : Start) (limit : ℕ) (loaded : Bool) (s after : State) → begun ≡ start.LoadKey
+    → loaded ≡ not (length s.devices.hopper == 0) → loaded ≡ true → after ≡ load s
+    → trace_text limit after ≡ started_trace begun limit s
+loaded_trace begun limit loaded s after by_key card some e =
+    let held : (length s.devices.hopper == 0) ≡ false = not-true (length s.devices.hopper == 0) (sym card ∙ some) in
+    ap (λ (x : State). trace_text limit x) e
+    ∙ ap (λ (none : Bool). if none then [] else trace_text limit (load s)) (sym held)
+    ∙ ap (λ (x : Start). started_trace x limit s) (sym by_key)
+
+-- nothing is traced if the load key finds no card
+pub no_card_trace : (begun : Start) (limit : ℕ) (loaded : Bool) (s : State) → begun ≡ start.LoadKey
+    → loaded ≡ not (length s.devices.hopper == 0) → loaded ≡ false → [] ≡ started_trace begun limit s
+no_card_trace begun limit loaded s by_key card none_loaded =
+    let none : (length s.devices.hopper == 0) ≡ true =
+    not-false (length s.devices.hopper == 0) (sym card ∙ none_loaded) in
+    ap (λ (b : Bool). if b then [] else trace_text limit (load s)) (sym none)
+    ∙ ap (λ (x : Start). started_trace x limit s) (sym by_key)

@@ -1,0 +1,137 @@
+-- What a run of files has run (own): a program and a deck that texts are read as. Nothing is said of which texts the
+-- files have.
+use Rattle.std.specs.Prelude.{◌≡◌, ℕ, ◌+◌, ⊤, true, false, Bool, List, [], ◌∷◌, ◌++◌, length, Option, None, Some, Ok}
+use Rattle.std.specs.Prelude.{option_map, string_bytes, unwrap_or}
+use Rattle.autocoder_1401.specs.Assembly.{assembly_in}
+use Rattle.autocoder_1401.specs.declared.assembly.Assembly.{Assembly}
+use Rattle.program_call.specs.declared.call.Job.{Job}
+use Rattle.program_call.specs.declared.call.Start.{Start}
+use Rattle.program_call.specs.declared.call.Start.TheVariants as start
+use Rattle.program_call.specs.Sizes.{size_for}
+use Rattle.cpu_1401.specs.State.{State, power_on, with_switch}
+use Rattle.autocoder_deck.specs.Entry.{loaded_deck}
+use Rattle.autocoder_deck.specs.LoadedCore.{IsLoadedDeck}
+use Rattle.autocoder_deck.specs.declared.loaded_core.LoadedDeck.{LoadedDeck}
+use Rattle.devices_1401.specs.declared.card.Card.{Card}
+use Rattle.machine_image.specs.ImageText.{IsTextOf, written_text}
+use Rattle.machine_image.specs.declared.image.Image.{Image}
+use Rattle.job_runner.specs.DeckText.{deck_of}
+use Rattle.job_runner.specs.Unattended.{with_deck}
+use Rattle.machine_panel.specs.declared.stop.Stop.TheVariants as stop
+use Rattle.autocoder_statements.specs.declared.language.Language.{Language}
+use Rattle.program_run.specs.Program.{is_meant_as_image, with_image}
+use Rattle.program_run.specs.RunDeck.{report_of, started_job}
+use Rattle.program_run.specs.declared.fault.RunFault.{RunFault}
+use Rattle.program_run.specs.declared.fault.RunFault.TheVariants as fault
+use Rattle.program_run.specs.declared.job_report.JobReport.{JobReport}
+
+-- what a source stands for, in core storage of the size that is named or that it asks for
+abbrev pub IsSourceOf : Language → Option ℕ → List ℕ → Image → Type 0
+IsSourceOf language size text image =
+    (assembly : Assembly) × (assembly_in language (size_for size language text) text ≡ Ok assembly)
+    × (image ≡ assembly.image)
+
+-- an image that a text is the text of, or the source
+pub record IsProgramOf (language : Language) (size : Option ℕ) (text : List ℕ) (image : Image) : Type 0 where
+  pub of_image : is_meant_as_image text ≡ true → IsTextOf text image
+  pub of_source : is_meant_as_image text ≡ false → IsSourceOf language size text image
+
+-- a machine with the program of a text, and no cards
+pub record HasProgram (language : Language) (size : Option ℕ) (machine : State) (cards : List Card) : Type 0 where
+  pub text : List ℕ
+  pub image : Image
+  pub program_of : IsProgramOf language size text image
+  pub machine_is : machine ≡ with_image image
+  pub cards_are : cards ≡ []
+
+-- a machine at power-on, and the cards of a text
+pub record HasLoader (size : Option ℕ) (machine : State) (cards : List Card) : Type 0 where
+  pub text : List ℕ
+  pub deck : deck_of text ≡ Ok cards
+  pub machine_is : machine ≡ power_on (unwrap_or size 4000)
+
+-- what the program's file gives: a machine, and its own cards
+abbrev pub HasFile : Start → Language → Option ℕ → State → List Card → Type 0
+HasFile start.Entry language size machine cards = HasProgram language size machine cards
+HasFile start.LoadKey language size machine cards = HasLoader size machine cards
+
+-- the cards of some text
+abbrev pub IsDeckText : List Card → Type 0
+IsDeckText cards = (text : List ℕ) × (deck_of text ≡ Ok cards)
+
+-- the cards of the deck's file, if there is one
+abbrev pub HasCards : Option (List ℕ) → List Card → Type 0
+HasCards None cards = cards ≡ []
+HasCards (Some name) cards = IsDeckText cards
+
+-- what a run begins with: a machine, and the cards of its program's file and then those of its deck's
+pub record IsBegun (how : Start) (language : Language) (size : Option ℕ) (deck : Option (List ℕ)) (machine : State)
+    (cards : List Card) : Type 0 where
+  pub own : List Card
+  pub behind : List Card
+  pub file : HasFile how language size machine own
+  pub those : HasCards deck behind
+  pub cards_are : cards ≡ own ++ behind
+
+-- sense switches from a number on, each turned on or off
+abbrev pub turned : ℕ → List Bool → State → State
+turned number [] s = s
+turned number (on ∷ others) s = turned (number + 1) others (with_switch s number on)
+
+-- the sense switches as the call names them, from A on
+abbrev pub with_switches : List Bool → State → State
+with_switches switches s = turned 0 switches s
+
+-- what is reported of a machine that is started so
+abbrev pub report_on : Start → ℕ → State → JobReport
+report_on how limit s = report_of (length s.devices.hopper) (started_job how limit s)
+
+-- the image of what these cards load on a machine of this size with these switches, at the entry of their program
+abbrev pub IsLoadedImage : Option ℕ → List Bool → List Card → Image → Type 0
+IsLoadedImage size switches cards image =
+    (loaded : LoadedDeck) × (image ≡ loaded.image)
+    × IsLoadedDeck (loaded_deck 1000000 (with_deck cards (with_switches switches (power_on (unwrap_or size 4000))))) loaded
+
+-- the text of such an image
+abbrev pub IsLoadedText : Option ℕ → List Bool → List Card → List ℕ → Type 0
+IsLoadedText size switches cards text =
+    (image : Image) × IsLoadedImage size switches cards image × (text ≡ written_text image)
+
+-- the report of a job: its files are read, its switches set, and it is started and goes on to its limit at most
+pub record IsReportOf (job : Job) (report : JobReport) : Type 0 where
+  pub machine : State
+  pub cards : List Card
+  pub begun : IsBegun job.start job.language job.size (option_map string_bytes job.cards) machine cards
+  pub report_is : report ≡ report_on job.start job.limit (with_deck cards (with_switches job.switches machine))
+
+-- a job that ran to a halt
+abbrev pub HasHalted : Job → Type 0
+HasHalted job = (report : JobReport) × IsReportOf job report × (report.stop ≡ stop.Halt)
+
+-- a fault that reports a stop has this report
+abbrev pub ReportsStop : JobReport → RunFault → Type 0
+ReportsStop report fault.Output = ⊤
+ReportsStop report fault.Size = ⊤
+ReportsStop report (fault.File name why) = ⊤
+ReportsStop report (fault.Unwritten name) = ⊤
+ReportsStop report (fault.OneFile first second) = ⊤
+ReportsStop report (fault.Deck name why) = ⊤
+ReportsStop report (fault.Unloaded why) = ⊤
+ReportsStop report (fault.Stopped ending) = ending.report ≡ report
+ReportsStop report (fault.Source why) = ⊤
+ReportsStop report (fault.Image why) = ⊤
+ReportsStop report fault.Memory = ⊤
+
+-- a fault that reports a stop has the report of a job
+abbrev pub ReportsJob : Job → RunFault → Type 0
+ReportsJob job fault.Output = ⊤
+ReportsJob job fault.Size = ⊤
+ReportsJob job (fault.File name why) = ⊤
+ReportsJob job (fault.Unwritten name) = ⊤
+ReportsJob job (fault.OneFile first second) = ⊤
+ReportsJob job (fault.Deck name why) = ⊤
+ReportsJob job (fault.Unloaded why) = ⊤
+ReportsJob job (fault.Stopped ending) = IsReportOf job ending.report
+ReportsJob job (fault.Source why) = ⊤
+ReportsJob job (fault.Image why) = ⊤
+ReportsJob job fault.Memory = ⊤

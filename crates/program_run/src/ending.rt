@@ -1,0 +1,143 @@
+//! How a job ended, in a line: the stop, the instruction and why, then what was carried out, read and written.
+ghost use Rattle.std.specs.Prelude.{◌≡◌, IfSome};
+ghost use Rattle.job_stops.specs.Reason.{stop_named};
+
+use crate::job_report::JobReport;
+use crate::stopped_at::{SourceRows, instruction_text};
+use bcd_1401::Cell;
+use core_1401::Core;
+use cpu_1401::{Machine, Stop};
+use job_stops::{Reason, halt_address, reason_told};
+use std::alloc::Global;
+use std::fmt;
+
+/// How a job ended.
+#[derive(Debug, Drop)]
+pub struct Ending {
+    /// The stop, and what was carried out, read and written.
+    pub report: JobReport,
+    /// The address of the instruction that halted or couldn't be carried out.
+    pub at: u16,
+    /// The instruction's text; `None` if none begins there, or if its memory was refused.
+    pub instruction: Option<Vec<u8>>,
+    /// Why the machine stopped; `None` after a halt, and at the limit.
+    pub reason: Option<Reason>,
+    /// Whether the hopper was empty while sense switch A was off, and a branch on the last card is in core storage.
+    pub lacks_switch: bool,
+}
+
+/// The cell at a place, if it is in core.
+fn cell_at(core: &Core, at: u16) -> Option<Cell> {
+    if core.in_core(at) {
+        Some(core.get(at))
+    } else {
+        None
+    }
+}
+
+/// Whether a branch on the last card begins at a place: `B`, an address and `A`.
+fn is_last_card_branch(core: &Core, at: u16) -> bool {
+    let (Some(operation), Some(d)) = (cell_at(core, at), cell_at(core, at.saturating_add(4))) else {
+        return false;
+    };
+    let is_ended = match cell_at(core, at.saturating_add(5)) {
+        Some(cell) => cell.mark,
+        None => true,
+    };
+    is_ended
+        && operation.mark
+        && operation.char.graphic() == b'B'
+        && !d.mark
+        && d.char.graphic() == b'A'
+}
+
+/// Whether core storage has a branch on the last card, which is never taken while sense switch A is off.
+fn tests_last_card(core: &Core) -> bool {
+    for at in 0..core.size() {
+        if is_last_card_branch(core, at) {
+            return true;
+        }
+    }
+    false
+}
+
+/// Whether a job that ended so may want sense switch A.
+fn lacks_switch(report: JobReport, machine: &Machine) -> bool {
+    report.stop == Stop::Reader && !machine.regs().switches[0] && tests_last_card(machine.core())
+}
+
+impl Ending {
+    /// How a job ended that left the machine so. The source is the program's, if it had one.
+    pub fn of(
+        alloc: Global,
+        report: JobReport,
+        machine: &Machine,
+        source: Option<&SourceRows>,
+    ) -> Ending
+        ensures report { result.report ≡ report }
+        ensures reason { IfSome result.reason (λ why. stop_named why ≡ report.stop) }
+    {
+        let at = stop_address(report, machine);
+        let instruction = match instruction_text(alloc, machine.core(), at, source) {
+            Ok(text) => text,
+            Err(_) => None,
+        };
+        Ending {
+            report,
+            at,
+            instruction,
+            reason: reason_told(machine, report.stop),
+            lacks_switch: lacks_switch(report, machine),
+        }
+    }
+}
+
+/// The address of the instruction that halted or couldn't be carried out.
+fn stop_address(report: JobReport, machine: &Machine) -> u16 {
+    match report.stop {
+        Stop::Halt => halt_address(machine),
+        Stop::Limit | Stop::Reader | Stop::Forms | Stop::Stacker => report.i,
+        Stop::NoMark | Stop::OpCode | Stop::Length => report.i,
+        Stop::Address | Stop::Overlap | Stop::Carriage => report.i,
+        Stop::NotFitted | Stop::DChar => report.i,
+    }
+}
+
+/// The stop, and where.
+fn put_stop<W: fmt::Write>(f: &mut fmt::Formatter<W>, ending: &Ending) -> fmt::Result {
+    write!(f, "{} at {:04}", ending.report.stop, ending.at)?;
+    let Some(text) = &ending.instruction else {
+        return Ok(());
+    };
+    f.write_str(" (")?;
+    for byte in text.as_slice() {
+        write!(f, "{}", char::from(*byte))?;
+    }
+    f.write_str(")")
+}
+
+/// Why, if there is something to be told.
+fn put_reason<W: fmt::Write>(f: &mut fmt::Formatter<W>, ending: &Ending) -> fmt::Result {
+    if let Some(why) = &ending.reason {
+        write!(f, ": {why}")?;
+    }
+    if let Some(Reason::NoSuchLength { len: 8, .. }) = ending.reason {
+        let (first, last) = (u32::from(ending.at) + 1, u32::from(ending.at) + 7);
+        write!(f, ", and no word mark from {first:03} to {last:03} ends it")?;
+    }
+    if ending.lacks_switch {
+        f.write_str(" (--switches A?)")?;
+    }
+    if ending.report.stop == Stop::Limit {
+        f.write_str(": the step limit was reached")?;
+    }
+    Ok(())
+}
+
+impl fmt::Display for Ending {
+    fn fmt<W: fmt::Write>(&self, f: &mut fmt::Formatter<W>) -> fmt::Result {
+        put_stop(f, self)?;
+        put_reason(f, self)?;
+        write!(f, " after {}", self.report)
+    }
+}

@@ -1,0 +1,42 @@
+//! A program run with its deck, from files to files: source or image in, paper, punched cards and trace out.
+//!
+//! ```text
+//! run_file(rt, ErrorOutput::Other, job)?  // the paper on standard output, how it ended on standard error
+//! ```
+//!
+//! `run_started` is the part that knows no file: a machine, cards, and sinks for what goes out.
+#![tactic(auto)]
+
+// what a run begins with
+mod inputs;
+mod loaded_image;
+mod one_file;
+pub mod programs;
+mod source_reports;
+
+// a machine run with a deck; where what comes goes, and who is told
+pub mod deck_running;
+mod outputs;
+pub mod punch_file;
+pub mod tracing;
+pub mod watching;
+
+// how a run ended, in words
+pub mod ending;
+pub mod fault;
+pub mod job_report;
+pub mod running;
+pub mod stopped_at;
+
+pub use deck_running::{Broken, run_started};
+pub use ending::Ending;
+pub use fault::{RunFault, job_outcome};
+pub use inputs::{read_cards, tell_small_letters};
+pub use job_report::JobReport;
+pub use program_call::{is_refused, size_for};
+pub use programs::{image_machine, loaded_machine, program_of};
+pub use punch_file::PunchFile;
+pub use running::{ErrorOutput, run_file, tell_ending};
+pub use stopped_at::SourceRows;
+pub use tracing::Trace;
+pub use watching::{HowFar, Shown, Unwatched, Watch};

@@ -1,0 +1,165 @@
+//! The instruction at which a job stopped: the statement of the line that placed it, or as Autocoder writes it.
+ghost use Rattle.std.specs.Prelude.{◌≡◌, ◌<◌, ◌≤◌, length, IfOk};
+ghost use Rattle.autocoder_listing.specs.Rows.{line_of};
+
+use autocoder_1401::Rows;
+use autocoder_statements::split_line;
+use bcd_1401::Cell;
+use core_1401::Core;
+use job_stops::instruction_len;
+use machine_mnemonics::put_instruction;
+use machine_notation::put_digits;
+use std::alloc::{AllocError, Global};
+
+/// A source, and the rows of its listing that have an address.
+#[derive(Drop)]
+pub struct SourceRows {
+    /// The source.
+    pub text: Vec<u8>,
+    /// The rows.
+    pub rows: Rows,
+}
+
+/// The columns of a source line, from 0 on, at which the label, the operation and the operands begin, and the one
+/// after the operands.
+const LABEL_FROM: usize = 5;
+
+const OPERATION_FROM: usize = 15;
+
+const OPERANDS_FROM: usize = 20;
+
+const OPERANDS_TO: usize = 72;
+
+/// The text of the instruction at a place: the number and the statement of the last line that placed these cells
+/// there, as in `line 7, PRINT MCW HEAD,210`, else the instruction as Autocoder writes it, as in `MCW 510,509`. None
+/// if no instruction begins there.
+///
+/// # Errors
+///
+/// If the memory for the text is refused.
+pub fn instruction_text(
+    alloc: Global,
+    core: &Core,
+    at: u16,
+    source: Option<&SourceRows>,
+) -> Result<Option<Vec<u8>>, AllocError> {
+    if !core.in_core(at) || !core.get(at).mark {
+        return Ok(None);
+    }
+    let cells = cells_at(alloc, core, at)?;
+    let mut text = Vec::new(alloc);
+    if let Some(source) = source {
+        if let Some(number) = placing_line(alloc, source, at, cells.as_slice())? {
+            put_line(
+                &mut text,
+                number,
+                line_numbered(source.text.as_slice(), number),
+            )?;
+            return Ok(Some(text));
+        }
+    }
+    put_disassembled(alloc, &mut text, cells.as_slice())?;
+    Ok(Some(text))
+}
+
+/// The cells of the instruction at a place.
+fn cells_at(alloc: Global, core: &Core, at: u16) -> Result<Vec<Cell>, AllocError>
+    requires { at < length core.now }
+{
+    let mut cells = Vec::new(alloc);
+    // No core storage is so large that a place above another has no address.
+    let _ = core.size();
+    for i in 0..instruction_len(core, at) {
+        cells.push(core.get(at + i))?;
+    }
+    Ok(cells)
+}
+
+/// The number of the last line of a source that placed these cells at a place, if there is one.
+///
+/// # Errors
+///
+/// If the memory for the search is refused.
+pub fn placing_line(
+    alloc: Global,
+    source: &SourceRows,
+    at: u16,
+    cells: &[Cell],
+) -> Result<Option<u64>, AllocError>
+    ensures { IfOk result (λ number. number ≡ line_of source.now.rows at cells.now) }
+{
+    match source.rows.line_of(alloc, at, cells) {
+        Ok(number) => Ok(number),
+        Err(_) => Err(AllocError),
+    }
+}
+
+/// The line of this number of a source; an empty one if it has fewer.
+fn line_numbered(source: &[u8], number: u64) -> &[u8] {
+    let mut rest = source;
+    let mut above = number.saturating_sub(1);
+    while let Some((line, behind)) = split_line(rest) {
+        if above == 0 {
+            return line;
+        }
+        above -= 1;
+        rest = behind;
+    }
+    &[]
+}
+
+/// The columns of a source line from one up to another, as far as it has them.
+fn columns(source: &[u8], from: usize, to: usize) -> &[u8]
+    requires { from ≤ to }
+{
+    &source[from.min(source.len())..to.min(source.len())]
+}
+
+/// How many of the bytes are the operands: up to the first blank outside of at signs.
+fn operands_len(columns: &[u8]) -> usize
+    ensures { result ≤ length columns.now }
+{
+    let mut is_quoted = false;
+    for (i, byte) in columns.iter().enumerate() {
+        if *byte == b' ' && !is_quoted {
+            return i;
+        }
+        if *byte == b'@' {
+            is_quoted = !is_quoted;
+        }
+    }
+    columns.len()
+}
+
+/// Adds a field of a statement with a blank in front, without the blanks around it; nothing for one of blanks alone.
+fn put_field(text: &mut Vec<u8>, field: &[u8]) -> Result<(), AllocError> {
+    let field = field.trim_ascii();
+    if field.is_empty() {
+        return Ok(());
+    }
+    text.push(b' ')?;
+    text.extend_from_slice(field)
+}
+
+/// Adds the number and the statement of a line.
+fn put_line(text: &mut Vec<u8>, number: u64, line: &[u8]) -> Result<(), AllocError> {
+    text.extend_from_slice(b"line ".as_slice())?;
+    put_digits(text, 1, number)?;
+    text.push(b',')?;
+    put_field(text, columns(line, LABEL_FROM, OPERATION_FROM))?;
+    put_field(text, columns(line, OPERATION_FROM, OPERANDS_FROM))?;
+    let operands = columns(line, OPERANDS_FROM, OPERANDS_TO);
+    put_field(text, &operands[..operands_len(operands)])
+}
+
+/// Adds an instruction as Autocoder writes it, with one blank between its mnemonic and its operands.
+fn put_disassembled(alloc: Global, text: &mut Vec<u8>, cells: &[Cell]) -> Result<(), AllocError> {
+    if cells.len() > 8 {
+        return Ok(());
+    }
+    let mut whole = Vec::new(alloc);
+    put_instruction(&mut whole, cells)?;
+    let count = whole.iter().take_while(|byte| **byte != b' ').count();
+    text.extend_from_slice(&whole[..count])?;
+    put_field(text, &whole[count..])
+}

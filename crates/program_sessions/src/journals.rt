@@ -1,0 +1,283 @@
+//! What the subcommands `journal` and `resume` do, and sessions whose journal is kept.
+ghost use Rattle.std.specs.Prelude.{◌≡◌, false, IfOk, length, unwrap_or};
+ghost use Rattle.room_alone.specs.Journal.{pairs_of};
+ghost use Rattle.room_journal.specs.Choice.{chosen};
+ghost use Rattle.program_sessions.specs.Choosing.{HasChosen};
+
+use crate::fault::{HoldFault, console_fault, ended};
+use crate::loading::{load_file, loaded_room, read_file};
+use bytes_streams::{FromReader, Sink, Source, ToWriter};
+use console_lines::SessionEnd;
+use console_terminal::console;
+use core_1401::CoreFault;
+use program_call::{NewJournal, Opening, Resuming, Session, Showing};
+use room_alone::{Room, session};
+use room_files::{
+    Durability, JournalFile, KeepFault, MadeJournal, ShowFault, TakenUp, TextFault, check_journal,
+    create_journal, keep_session, read_journal_file, read_room, resume_session, show_journal,
+    take_up_journal,
+};
+use room_journal::{JournalFault, View, carry_chosen};
+use std::alloc::Global;
+use std::fs::File;
+use std::io;
+use std::marker::Brand;
+use std::rt::Files;
+
+/// Shows the journal of a file, or checks it and tells how many entries it has.
+///
+/// # Errors
+///
+/// `Kept` if the file can't be read or has no journal, `Output` if standard output doesn't take the text, or
+/// `Memory`.
+pub fn journal_file<R: Files<File = File> + Print + AllocGlobal>(
+    rt: &R,
+    asked: Showing,
+) -> Result<(), HoldFault> {
+    let Showing {
+        file,
+        seat,
+        from,
+        check,
+    } = asked;
+    let text = match read_journal_file(rt, file.as_str()) {
+        Ok(text) => text,
+        Err(fault) => return Err(HoldFault::Kept(KeepFault::of_file(file, fault))),
+    };
+    if check {
+        return tell_entries(rt, file, check_journal(rt.alloc(), text.as_slice()));
+    }
+    let mut writer = ToWriter::new(io::writer(rt));
+    match show_journal(
+        rt.alloc(),
+        text.as_slice(),
+        View { seat, from },
+        &mut writer,
+    ) {
+        Ok(()) => Ok(()),
+        Err(ShowFault::Memory) => Err(HoldFault::Memory),
+        Err(ShowFault::Output) => Err(HoldFault::Output),
+        Err(ShowFault::Journal(fault)) => Err(no_journal(file, fault)),
+    }
+}
+
+/// What it means that the file of this name has no journal, or that memory was refused.
+fn no_journal(file: String, fault: JournalFault) -> HoldFault {
+    HoldFault::Kept(KeepFault::of_journal(file, fault))
+}
+
+/// Tells how many entries a journal has.
+fn tell_entries(
+    rt: &impl Print,
+    file: String,
+    entries: Result<usize, JournalFault>,
+) -> Result<(), HoldFault> {
+    match entries {
+        Ok(entries) => println!(rt; "{entries} entries").map_err(|_| HoldFault::Output),
+        Err(fault) => Err(no_journal(file, fault)),
+    }
+}
+
+/// A room of this size at power-on.
+fn new_room(alloc: Global, size: u16) -> Result<Room, HoldFault> {
+    match Room::power_on(alloc, size) {
+        Ok(room) => Ok(room),
+        Err(CoreFault::Size) => Err(HoldFault::Size),
+        Err(CoreFault::Memory) => Err(HoldFault::Memory),
+    }
+}
+
+/// The room that a session begins with, whose journal is then kept in a new file.
+fn begun_room(
+    rt: &(impl Files<File = File> + AllocGlobal),
+    opening: Opening,
+) -> Result<Room, HoldFault> {
+    match opening {
+        Opening::PowerOn(size) => new_room(rt.alloc(), size),
+        Opening::Image(file) => {
+            let text = read_file(rt, file)?;
+            loaded_room(rt.alloc(), text.as_slice())
+        }
+        Opening::Journal(asked) => read_chosen(rt, asked),
+    }
+}
+
+/// Holds a session of standard input and output at the console of a room that begins so. Its journal is kept in a new
+/// file, or in that of the journal that it begins with, if all commands of that were asked for; or it isn't kept.
+///
+/// # Errors
+///
+/// `Size` or `Memory` if there is no such room; `Unread` if an image's file can't be read, and what `load` fails by;
+/// `Kept` if a file of a journal can't be made or can't be had, has no journal or no entry of a number that is named;
+/// or what ended the session but QUIT and the end of the input.
+pub fn hold_session<R: Files<File = File> + Input + Print + Eprint + AllocGlobal>(
+    rt: &R,
+    asked: Session,
+) -> Result<(), HoldFault> {
+    let Session { opening, journal } = asked;
+    match journal {
+        None => hold_unkept(rt, opening),
+        Some(journal) => keep_in_new(rt, begun_room(rt, opening)?, journal),
+    }
+}
+
+/// The same without a new file.
+fn hold_unkept<R: Files<File = File> + Input + Print + Eprint + AllocGlobal>(
+    rt: &R,
+    opening: Opening,
+) -> Result<(), HoldFault> {
+    match opening {
+        Opening::PowerOn(size) => hold_console(rt, size),
+        Opening::Image(file) => load_file(rt, file),
+        Opening::Journal(asked) => match asked.until {
+            None => go_on(rt, asked.file, durability_of(asked.sync)),
+            Some(_) => look_at(rt, read_chosen(rt, asked)?),
+        },
+    }
+}
+
+/// Holds one of standard input and output at the console of a new room.
+fn hold_console<R: Input + Print + AllocGlobal>(rt: &R, size: u16) -> Result<(), HoldFault> {
+    let mut reader = FromReader::new(rt.reader());
+    let mut writer = ToWriter::new(io::writer(rt));
+    console(rt.alloc(), size, &mut reader, &mut writer).map_err(console_fault)
+}
+
+/// What an entry outlasts, with `--sync` or without.
+pub fn durability_of(sync: bool) -> Durability {
+    if sync {
+        Durability::Disk
+    } else {
+        Durability::System
+    }
+}
+
+/// Keeps a room in a new file, and holds a session of standard input and output at its console.
+fn keep_in_new<R: Files<File = File> + Input + Print + AllocGlobal>(
+    rt: &R,
+    room: Room,
+    journal: NewJournal,
+) -> Result<(), HoldFault> {
+    let NewJournal { file, sync } = journal;
+    let made = create_journal(rt, file, durability_of(sync)).map_err(HoldFault::Kept)?;
+    let MadeJournal { file, name } = made;
+    let mut reader = FromReader::new(rt.reader());
+    let mut writer = ToWriter::new(io::writer(rt));
+    match keep_by(rt.alloc(), room, file, &mut reader, &mut writer) {
+        Ok(end) => ended(end),
+        // The file has no journal.
+        Err(fault) => Err(HoldFault::Kept(KeepFault::of_text(name.remove(rt), fault))),
+    }
+}
+
+/// Keeps a room by a sink, and holds a session at its console.
+fn keep_by<S: Sink + Drop, R: Source, W: Sink>(
+    alloc: Global,
+    room: Room,
+    sink: S,
+    reader: &mut R,
+    writer: &mut W,
+) -> Result<SessionEnd, TextFault> {
+    keep_session::<Brand, S, R, W>(alloc, room, sink, reader, writer)
+}
+
+/// The room after those commands of a file's journal that are asked for.
+///
+/// # Errors
+///
+/// `Kept` if the file can't be had, has no journal or no entry of a number that is named, or `Memory`.
+pub fn read_chosen(
+    rt: &(impl Files<File = File> + AllocGlobal),
+    asked: Resuming,
+) -> Result<Room, HoldFault>
+    ensures { IfOk result (HasChosen asked.until asked.without.items) }
+{
+    let Resuming {
+        file,
+        until,
+        without,
+        ..
+    } = asked;
+    let room = read_room(rt, file).map_err(HoldFault::Kept)?;
+    let _journal = room.journal();
+    chosen_room(rt.alloc(), &room, until, without.as_slice())
+}
+
+/// A room that has carried out some of a room's commands again.
+///
+/// # Errors
+///
+/// `Kept` if the journal has no entry of a number that is named, or `Memory`.
+fn chosen_room(
+    alloc: Global,
+    room: &Room,
+    until: Option<u64>,
+    without: &[u64],
+) -> Result<Room, HoldFault>
+    ensures commands { IfOk result (λ made. pairs_of made.journal
+        ≡ chosen (unwrap_or until (length room.now.journal)) without.now room.now.journal) }
+    ensures size { IfOk result (λ made. made.size ≡ room.now.size) }
+{
+    let entries = room.journal().len() as u64;
+    let until = until.unwrap_or(entries);
+    if until > entries {
+        return Err(HoldFault::Kept(KeepFault::NoEntry(until)));
+    }
+    for number in without {
+        if *number == 0 || *number > entries {
+            return Err(HoldFault::Kept(KeepFault::NoEntry(*number)));
+        }
+    }
+    let size = room.machine().core().size();
+    carry_chosen(alloc, size, room.journal(), until, without).map_err(|_| HoldFault::Memory)
+}
+
+/// Holds a session of standard input and output at the console of a room, of which nothing is kept.
+fn look_at<R: Input + Print + AllocGlobal>(rt: &R, room: Room) -> Result<(), HoldFault> {
+    let mut room = room;
+    let mut reader = FromReader::new(rt.reader());
+    let mut writer = ToWriter::new(io::writer(rt));
+    ended(session(rt.alloc(), &mut room, &mut reader, &mut writer))
+}
+
+/// Tells on standard error which line was cut off, if one was.
+pub fn tell_cut(rt: &impl Eprint, cut: Option<u32>) {
+    if let Some(line) = cut {
+        let _ = eprintln!(rt; "ibm1401: line {line} was unfinished and was discarded");
+    }
+}
+
+/// Goes on in the file of a journal.
+fn go_on<R: Files<File = File> + Input + Print + Eprint + AllocGlobal>(
+    rt: &R,
+    file: String,
+    durability: Durability,
+) -> Result<(), HoldFault> {
+    let TakenUp {
+        room,
+        file,
+        cut,
+        ..
+    } = match take_up_journal(rt, file, durability) {
+        Ok(taken) => taken,
+        Err(fault) => return Err(HoldFault::Kept(fault)),
+    };
+    tell_cut(rt, cut);
+    let mut reader = FromReader::new(rt.reader());
+    let mut writer = ToWriter::new(io::writer(rt));
+    ended(resume_by(rt.alloc(), room, file, &mut reader, &mut writer))
+}
+
+/// Holds a session at the console of a room by the file that has its journal.
+fn resume_by<R: Source, W: Sink>(
+    alloc: Global,
+    room: Room,
+    sink: JournalFile,
+    reader: &mut R,
+    writer: &mut W,
+) -> SessionEnd
+    requires good { ⟦<JournalFile as Sink>⟧.has_failed sink ≡ false }
+{
+    // What the file had before is unknown, and so is what it has.
+    resume_session::<Brand, JournalFile, R, W>(alloc, room, sink, reader, writer)
+}

@@ -1,0 +1,106 @@
+//! A room whose journal is kept outside of it.
+ghost use Rattle.std.specs.Prelude.{◌≡◌, ◌+◌, ◌<◌, ◌≤◌, ◌↔◌, [], ◌∷◌, ◌++◌, true, false, IsOk, IfOk, IfErr, OnOk};
+ghost use Rattle.std.specs.Prelude.{OnErr};
+ghost use Rattle.std.specs.Io.KnownBytes.{Appends};
+ghost use Rattle.room_alone.specs.Journal.{answer_to, entry, is_full, refusal_of};
+ghost use Rattle.room_alone.specs.Kept.{IsKeptAs, kept_text};
+
+use crate::entry::Entry;
+use crate::keeper::{Carried, Keeper};
+use crate::room::Room;
+use machine_commands::RoomFault;
+use machine_execution::Command;
+use std::marker::Model;
+
+/// A room and its keeper. What is kept is the text of the room's journal. After a write that failed it breaks off in
+/// the last entry's line, and the room takes no command any more.
+#[derive(Drop)]
+pub struct KeptRoom<K: Keeper + Drop> {
+    room: Room,
+    keeper: K,
+}
+
+impl<K: Keeper + Drop> Model for KeptRoom<K> {
+    ghost use Rattle.room_alone.specs.Kept.{IsKeptAs, KeptAccount};
+
+    ghost Value = { KeptAccount };
+
+    ghost view = { λ it. record {
+      room = it.room;
+      failed = K.has_failed it.keeper;
+      kept = K.kept it.keeper;
+    } };
+
+    ghost invariant = { λ it.
+        IsKeptAs K.form it.room.size it.room.journal (K.has_failed it.keeper) K.first (K.kept it.keeper) };
+}
+
+impl<K: Keeper + Drop> KeptRoom<K> {
+    /// A room with a keeper that has the text of its journal.
+    pub fn new(room: Room, keeper: K) -> KeptRoom<K>
+        requires good { K.has_failed keeper ≡ false }
+        requires kept { Appends K.first (K.kept keeper) (kept_text K.form room.size room.journal) }
+        ensures room { result.room ≡ room }
+        ensures failed { result.failed ≡ false }
+        ensures kept { result.kept ≡ K.kept keeper }
+    {
+        KeptRoom { room, keeper }
+    }
+
+    /// The room.
+    pub fn room(&self) -> &Room
+        ensures { result.now ≡ self.now.room }
+    {
+        &self.room
+    }
+
+    /// Whether a write has failed. If none has, what is kept is the text of the journal.
+    pub fn has_failed(&self) -> bool
+        ensures failed { result ≡ self.now.failed }
+        ensures kept { IsKeptAs K.form self.now.room.size self.now.room.journal result K.first self.now.kept }
+    {
+        self.keeper.has_failed()
+    }
+
+    /// Carries a command out for a seat, records it with its answer, and keeps the entry.
+    ///
+    /// # Errors
+    ///
+    /// `Unkept` if an earlier write has failed, else as those of `Room::carry`. Nothing has changed.
+    pub fn carry(&mut self, seat: u8, command: Command) -> Result<Carried, RoomFault>
+        ensures answer { IfOk result (λ carried.
+            carried.answer ≡ answer_to self.old.room.size self.old.room.journal command) }
+        ensures recorded { IfOk result (λ carried.
+            self.new.room.journal ≡ self.old.room.journal ++ entry seat command carried.answer ∷ []) }
+        ensures size { self.new.room.size ≡ self.old.room.size }
+
+        // If the answer may go out, the whole journal is kept; if it may not, no later command is taken.
+        ensures kept { IfOk result (λ carried. carried.kept ≡ true → self.new.failed ≡ false) }
+        ensures unkept { IfOk result (λ carried. carried.kept ≡ false → self.new.failed ≡ true) }
+
+        // A refusal changes nothing.
+        ensures failed { (result ≡ Err RoomFault.Unkept) ↔ (self.old.failed ≡ true) }
+        ensures full { self.old.failed ≡ false
+            → ((result ≡ Err RoomFault.JournalFull) ↔ (is_full self.old.room.journal ≡ true)) }
+        ensures fault { IfErr result (λ fault. self.old.failed ≡ false → fault ≡ refusal_of self.old.room.journal) }
+        ensures err { OnErr result ((self.new.room.journal ≡ self.old.room.journal)
+            × (self.new.failed ≡ self.old.failed) × (self.new.kept ≡ self.old.kept)) }
+        ensures reserved { self.old.failed ≡ false → 0 < self.old.room.spare
+            → is_full self.old.room.journal ≡ false → IsOk result }
+        ensures spare { self.old.room.spare ≤ self.new.room.spare + 1 }
+    {
+        if self.keeper.has_failed() {
+            return Err(RoomFault::Unkept);
+        }
+        let answer = match self.room.carry(seat, command) {
+            Ok(answer) => answer,
+            Err(fault) => return Err(fault),
+        };
+        let number = self.room.journal().len() as u64;
+        let kept = self
+            .keeper
+            .keep(number, &Entry::new(seat, &command, &answer))
+            .is_ok();
+        Ok(Carried { answer, kept })
+    }
+}

@@ -1,0 +1,13 @@
+-- The session is the one at the room that is kept from here on.
+use Rattle.room_files.proofs.sessions.keep_session.Goals as goal
+
+pub returns-clause-held : goal.returns-clause-held
+returns-clause-held g c = record {
+  before = c.in-Ok.kept;
+  after = c.session_kept.new.room;
+  room_is = c.in-Ok.ensures.room;
+  session = c.session_kept.ensures.session;
+  kept = c.session_kept.ensures.kept;
+  good = c.session_kept.ensures.good;
+  unkept = c.session_kept.ensures.unkept;
+}

@@ -1,0 +1,196 @@
+//! A new file for a journal, which is locked before it has its name.
+ghost use Rattle.std.specs.Prelude.{◌≡◌, false, IfOk};
+
+use crate::fault::{FileFault, KeepFault};
+use crate::files::{file_fault, keep_name, lock};
+use crate::journal_file::{Durability, JournalFile};
+use crate::keeping::begin_text;
+use bytes_streams::Sink;
+use std::fs;
+use std::fs::{File, OpenOptions};
+use std::io::ErrorKind;
+use std::os::unix::fs::MetadataExt;
+use std::rt::Files;
+
+/// How many names are tried for a file that hasn't got its own name yet.
+const NAMES: u32 = 100;
+
+/// Whether the file of this name is this open one.
+fn is_named(rt: &impl Files<File = File>, name: &str, file: &File) -> bool {
+    match (file.metadata(), fs::symlink_metadata(rt, name)) {
+        (Ok(open), Ok(named)) => open.dev() == named.dev() && open.ino() == named.ino(),
+        _ => false,
+    }
+}
+
+/// Takes the name of an open file away, if the name is still that file's: another process may have put its own there.
+fn remove_own(rt: &impl Files<File = File>, name: &str, file: &File) {
+    if is_named(rt, name, file) {
+        let _ = fs::remove_file(rt, name);
+    }
+}
+
+/// A new file of this name, to which lines are added.
+fn make_file(rt: &impl Files<File = File>, name: &str) -> Result<File, ErrorKind> {
+    match OpenOptions::new()
+        .append(true)
+        .create_new(true)
+        .open(rt, name)
+    {
+        Ok(file) => Ok(file),
+        Err(error) => Err(error.kind()),
+    }
+}
+
+/// A new file beside the one of this name, and its own name.
+fn make_beside(
+    rt: &(impl Files<File = File> + AllocGlobal),
+    name: &str,
+) -> Result<(File, String), FileFault> {
+    for number in 0..NAMES {
+        let Ok(beside) = format!(in rt.alloc(); "{name}.{number}.part") else {
+            return Err(FileFault::Memory);
+        };
+        match make_file(rt, beside.as_str()) {
+            Ok(file) => return Ok((file, beside)),
+            Err(ErrorKind::AlreadyExists) => {}
+            Err(kind) => return Err(file_fault(kind, FileFault::Unwritten)),
+        }
+    }
+    Err(FileFault::Unwritten)
+}
+
+/// Locks a file, and then gives it this name too, if there is no file of that name.
+fn link_locked(
+    rt: &impl Files<File = File>,
+    file: &File,
+    beside: &str,
+    name: &str,
+) -> Result<(), FileFault> {
+    lock(file)?;
+    match fs::hard_link(rt, beside, name) {
+        Ok(()) if is_named(rt, name, file) => Ok(()),
+        Ok(()) => Err(FileFault::Unwritten),
+        Err(error) => Err(file_fault(error.kind(), FileFault::Unwritten)),
+    }
+}
+
+/// A new file that was made and locked under another name, and then got this one.
+fn make_linked(
+    rt: &(impl Files<File = File> + AllocGlobal),
+    name: &str,
+) -> Result<File, FileFault> {
+    let (file, beside) = make_beside(rt, name)?;
+    let linked = link_locked(rt, &file, beside.as_str(), name);
+    remove_own(rt, beside.as_str(), &file);
+    match linked {
+        Ok(()) => Ok(file),
+        Err(fault) => Err(fault),
+    }
+}
+
+/// A new file that was made under its name, and then locked.
+fn make_in_place(rt: &impl Files<File = File>, name: &str) -> Result<File, FileFault> {
+    let file = match make_file(rt, name) {
+        Ok(file) => file,
+        Err(kind) => return Err(file_fault(kind, FileFault::Unwritten)),
+    };
+    if let Err(fault) = lock(&file) {
+        remove_own(rt, name, &file);
+        return Err(fault);
+    }
+    Ok(file)
+}
+
+/// A new file of this name, locked, to which lines are added.
+fn make(
+    rt: &(impl Files<File = File> + AllocGlobal),
+    name: &str,
+    durability: Durability,
+) -> Result<File, FileFault> {
+    let file = match make_linked(rt, name) {
+        Ok(file) => file,
+        Err(FileFault::Exists) => return Err(FileFault::Exists),
+        Err(FileFault::Memory) => return Err(FileFault::Memory),
+        // A file system may have no links, or no names that long. If no file can be made at all, this says why.
+        Err(_) => make_in_place(rt, name)?,
+    };
+    if let Err(fault) = keep_name(rt, name, durability) {
+        remove_own(rt, name, &file);
+        return Err(fault);
+    }
+    Ok(file)
+}
+
+/// The name of a file that was made for a journal, and a handle that shows which file that is.
+#[derive(Drop)]
+pub struct MadeName {
+    name: String,
+    file: File,
+}
+
+impl MadeName {
+    /// Takes the file away again, if its name is still its own: a file that another process put there stays. Gives the
+    /// name.
+    pub fn remove(self, rt: &impl Files<File = File>) -> String {
+        let MadeName { name, file } = self;
+        remove_own(rt, name.as_str(), &file);
+        name
+    }
+}
+
+/// A new journal's file, locked, and its name.
+#[derive(Drop)]
+pub struct MadeJournal {
+    /// The file, to which lines are added.
+    pub file: JournalFile,
+    /// Its name, for as long as the file may have to be taken away again.
+    pub name: MadeName,
+}
+
+/// A new file of this name for a journal, locked before it has that name. A file that is there stays as it is.
+///
+/// # Errors
+///
+/// `File`, with the name as it was given, or `Memory`; then no new file is left.
+pub fn create_journal(
+    rt: &(impl Files<File = File> + AllocGlobal),
+    name: String,
+    durability: Durability,
+) -> Result<MadeJournal, KeepFault>
+    ensures good { IfOk result (λ made. ⟦<JournalFile as Sink>⟧.has_failed made.file ≡ false) }
+{
+    let file = match make(rt, name.as_str(), durability) {
+        Ok(file) => file,
+        Err(fault) => return Err(KeepFault::of_file(name, fault)),
+    };
+    let Ok(same) = file.try_clone() else {
+        remove_own(rt, name.as_str(), &file);
+        return Err(KeepFault::File(name, FileFault::Unwritten));
+    };
+    Ok(MadeJournal {
+        file: JournalFile::new(file, 0, durability),
+        name: MadeName { name, file: same },
+    })
+}
+
+/// A new file of this name, locked, that has the first line of the journal of a machine of this size. A file that is
+/// there stays as it is.
+///
+/// # Errors
+///
+/// `File`, with the name as it was given, or `Memory`; then no new file is left.
+pub fn begin_journal(
+    rt: &(impl Files<File = File> + AllocGlobal),
+    name: String,
+    size: u16,
+    durability: Durability,
+) -> Result<MadeJournal, KeepFault>
+    ensures good { IfOk result (λ made. ⟦<JournalFile as Sink>⟧.has_failed made.file ≡ false) }
+{
+    let MadeJournal { mut file, name } = create_journal(rt, name, durability)?;
+    match begin_text(rt.alloc(), size, &mut file) {
+        Ok(()) => Ok(MadeJournal { file, name }),
+        Err(fault) => Err(KeepFault::of_text(name.remove(rt), fault)),
+    }
+}

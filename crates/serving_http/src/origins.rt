@@ -1,0 +1,303 @@
+//! Origins: by which scheme, host and port a browser reaches a page.
+ghost use Rattle.std.specs.Prelude.{◌≡◌, ◌++◌, true, map, IfOk, OnOk};
+ghost use Rattle.std.specs.Char.{to_ascii_lowercase};
+ghost use Rattle.serving_http.specs.Origins.{host_at, is_text_of, origin_at, port_text, scheme_text, usual_port};
+ghost use Rattle.serving_http.specs.Origins.{whole_origin_at, IsFurtherIf};
+
+use machine_notation::put_digits;
+use std::alloc::{AllocError, Global};
+use std::fmt;
+use std::net::{Ipv4Addr, Ipv6Addr};
+use thiserror::Error;
+
+/// The most bytes of a host's name, and of a part of it between dots.
+const MOST_NAME_BYTES: usize = 253;
+
+const MOST_LABEL_BYTES: usize = 63;
+
+/// By what a browser reaches a page.
+#[derive(Clone, Copy, Debug, PartialEq, Eq)]
+pub enum Scheme {
+    /// Without TLS: `http:`
+    Http,
+    /// With TLS: `https:`
+    Https,
+}
+
+/// Where a browser finds a page, as `https://1401.museum.example:8443`.
+#[derive(Debug, Drop, PartialEq, Eq)]
+pub struct Origin {
+    /// By what it reaches the page.
+    pub scheme: Scheme,
+    /// The host: a name in small letters, an IPv4 address, or an IPv6 address in brackets.
+    pub host: String,
+    /// The port, from 1 on.
+    pub port: u16,
+}
+
+/// Why a text isn't that of an origin.
+#[derive(Clone, Copy, Debug, PartialEq, Eq, Error)]
+pub enum OriginFault {
+    /// It begins with no scheme that a page is reached by.
+    #[error("it has to begin with http:// or https://")]
+    Scheme,
+    /// It has more than a scheme, a host and a port: a path, if only `/`, a query, a fragment or a user.
+    #[error("nothing may come after the host and the port, not even a /")]
+    More,
+    /// Its host is no name, no IPv4 address, and no IPv6 address in brackets as browsers write it.
+    #[error("its host has to be a name, an IPv4 address, or an IPv6 address in brackets, as browsers write it")]
+    Host,
+    /// Its port isn't 1 to 65535, in digits without leading zeros.
+    #[error("its port has to be 1 to 65535")]
+    Port,
+    /// The memory for it was refused.
+    #[error("memory refused")]
+    Memory,
+}
+
+impl From<AllocError> for OriginFault {
+    fn from(_: AllocError) -> OriginFault {
+        OriginFault::Memory
+    }
+}
+
+impl Scheme {
+    /// The port that a browser leaves out.
+    fn usual_port(self) -> u16
+        ensures { result ≡ usual_port self }
+    {
+        match self {
+            Scheme::Http => 80,
+            Scheme::Https => 443,
+        }
+    }
+
+    /// What an origin begins with.
+    fn text(self) -> &'static str
+        ensures { result.now ≡ scheme_text self }
+    {
+        match self {
+            Scheme::Http => "http://",
+            Scheme::Https => "https://",
+        }
+    }
+}
+
+impl fmt::Display for Origin {
+    fn fmt<W: fmt::Write>(&self, f: &mut fmt::Formatter<W>) -> fmt::Result {
+        let scheme = self.scheme.text();
+        let host = self.host.as_str();
+        if self.port == self.scheme.usual_port() {
+            return write!(f, "{scheme}{host}");
+        }
+        let port = self.port;
+        write!(f, "{scheme}{host}:{port}")
+    }
+}
+
+/// Adds a port, as it comes after a host.
+#[tactic(auto, using(crate::proofs::OriginLemmas::after_text))]
+fn put_port(text: &mut Vec<u8>, port: u16) -> Result<(), AllocError>
+    ensures { OnOk result (text.new.items ≡ text.old.items ++ port_text port) }
+{
+    text.push(b':')?;
+    put_digits(text, 1, u64::from(port))
+}
+
+/// Adds the host of an origin, and its port if it isn't the usual one.
+#[tactic(auto, using(crate::proofs::OriginLemmas::after_text))]
+fn put_host(text: &mut Vec<u8>, origin: &Origin) -> Result<(), AllocError>
+    ensures { OnOk result (text.new.items ≡ text.old.items ++ host_at origin.now) }
+{
+    text.extend_from_slice(origin.host.as_bytes())?;
+    if origin.port == origin.scheme.usual_port() {
+        return Ok(());
+    }
+    put_port(text, origin.port)
+}
+
+/// The `Host` of a request to an origin.
+pub fn host_at(alloc: Global, origin: &Origin) -> Result<Vec<u8>, AllocError>
+    ensures { IfOk result (λ text. text.items ≡ host_at origin.now) }
+{
+    let mut text = Vec::new(alloc);
+    put_host(&mut text, origin)?;
+    Ok(text)
+}
+
+/// The `Origin` of a request of a page there.
+pub fn origin_at(alloc: Global, origin: &Origin) -> Result<Vec<u8>, AllocError>
+    ensures { IfOk result (λ text. text.items ≡ origin_at origin.now) }
+{
+    let mut text = Vec::from_slice(alloc, origin.scheme.text().as_bytes())?;
+    put_host(&mut text, origin)?;
+    Ok(text)
+}
+
+/// The same with its port, whichever it is.
+fn whole_origin_at(alloc: Global, origin: &Origin) -> Result<Vec<u8>, AllocError>
+    ensures { IfOk result (λ text. text.items ≡ whole_origin_at origin.now) }
+{
+    let mut text = Vec::from_slice(alloc, origin.scheme.text().as_bytes())?;
+    text.extend_from_slice(origin.host.as_bytes())?;
+    put_port(&mut text, origin.port)?;
+    Ok(text)
+}
+
+/// Whether a text is that of an origin, as browsers write it, or with its port.
+fn is_text_of(alloc: Global, text: &[u8], origin: &Origin) -> Result<bool, AllocError>
+    ensures { IfOk result (λ is. is ≡ is_text_of text.now origin.now) }
+{
+    let short = origin_at(alloc, origin)?;
+    let whole = whole_origin_at(alloc, origin)?;
+    Ok(text == short.as_slice() || text == whole.as_slice())
+}
+
+/// The same origin at a port that is so many places further on; or none, if that is beyond 65535.
+///
+/// # Errors
+///
+/// If the memory for it is refused.
+pub fn origin_after(
+    alloc: Global,
+    origin: &Origin,
+    places: u8,
+) -> Result<Option<Origin>, AllocError>
+    ensures { IfOk result (λ further. IsFurtherIf origin.now places further) }
+{
+    let Some(port) = origin.port.checked_add(u16::from(places)) else {
+        return Ok(None);
+    };
+    Ok(Some(Origin {
+        scheme: origin.scheme,
+        host: String::from_str(alloc, origin.host.as_str())?,
+        port,
+    }))
+}
+
+/// The origin that a text names: a scheme, a host, and perhaps a port, in letters of either case; the port is the usual
+/// one of the scheme if none is named. Nothing comes after it.
+///
+/// # Errors
+///
+/// Each of `OriginFault`: a scheme that isn't known comes before more than an origin, and that before a host that is
+/// none and a port that is none.
+pub fn read_origin(alloc: Global, text: &str) -> Result<Origin, OriginFault>
+    ensures { IfOk result (λ origin. is_text_of (map to_ascii_lowercase text.now) origin ≡ true) }
+{
+    let text = text.to_ascii_lowercase(alloc)?;
+    let origin = parts_of(alloc, text.as_str())?;
+
+    // Only the port can be written in another way: with zeros or a sign before it.
+    if is_text_of(alloc, text.as_bytes(), &origin)? {
+        Ok(origin)
+    } else {
+        Err(OriginFault::Port)
+    }
+}
+
+/// The scheme, the host and the port of an origin in small letters.
+fn parts_of(alloc: Global, text: &str) -> Result<Origin, OriginFault> {
+    let (scheme, rest) = scheme_of(text)?;
+    if rest
+        .as_bytes()
+        .iter()
+        .any(|byte| matches!(*byte, b'/' | b'?' | b'#' | b'@'))
+    {
+        return Err(OriginFault::More);
+    }
+    let (host, port) = if rest.starts_with('[') {
+        bracketed_host(alloc, rest)?
+    } else {
+        named_host(alloc, rest)?
+    };
+    let port = match port {
+        None => scheme.usual_port(),
+        Some(digits) => port_of(digits)?,
+    };
+    Ok(Origin { scheme, host, port })
+}
+
+/// The scheme of an origin, and what comes after it.
+fn scheme_of(text: &str) -> Result<(Scheme, &str), OriginFault> {
+    if let Some(rest) = text.strip_prefix("https://") {
+        return Ok((Scheme::Https, rest));
+    }
+    match text.strip_prefix("http://") {
+        Some(rest) => Ok((Scheme::Http, rest)),
+        None => Err(OriginFault::Scheme),
+    }
+}
+
+/// A host that is a name or an IPv4 address, and the digits of the port after it, if there is one.
+fn named_host(alloc: Global, text: &str) -> Result<(String, Option<&str>), OriginFault> {
+    let (name, port) = match text.split_once(':') {
+        Some((name, port)) => (name, Some(port)),
+        None => (text, None),
+    };
+    if !is_name(name) {
+        return Err(OriginFault::Host);
+    }
+    Ok((String::from_str(alloc, name)?, port))
+}
+
+/// A host that is an IPv6 address in brackets, and the digits of the port after it, if there is one.
+fn bracketed_host(alloc: Global, text: &str) -> Result<(String, Option<&str>), OriginFault> {
+    let Some((bracketed, after)) = text.split_once(']') else {
+        return Err(OriginFault::Host);
+    };
+    let Some(address) = bracketed.strip_prefix("[") else {
+        return Err(OriginFault::Host);
+    };
+    if !is_ipv6(alloc, address)? {
+        return Err(OriginFault::Host);
+    }
+    let host = format!(in alloc; "[{address}]")?;
+    if after.is_empty() {
+        return Ok((host, None));
+    }
+    match after.strip_prefix(":") {
+        Some(port) => Ok((host, Some(port))),
+        None => Err(OriginFault::Host),
+    }
+}
+
+/// A port in digits.
+fn port_of(digits: &str) -> Result<u16, OriginFault> {
+    match digits.parse::<u16>() {
+        Ok(port) if port > 0 => Ok(port),
+        _ => Err(OriginFault::Port),
+    }
+}
+
+/// Whether a text is the name of a host, or an IPv4 address: browsers take a name that ends in a number for one.
+fn is_name(text: &str) -> bool {
+    let mut ends_in_number = false;
+    for label in text.split('.') {
+        if !is_label(label) {
+            return false;
+        }
+        ends_in_number = label.as_bytes().iter().all(|byte| byte.is_ascii_digit());
+    }
+    text.len() <= MOST_NAME_BYTES && (!ends_in_number || text.parse::<Ipv4Addr>().is_ok())
+}
+
+/// Whether a text is a part of a host's name: small letters, digits and hyphens.
+fn is_label(text: &str) -> bool {
+    let is_allowed = text
+        .as_bytes()
+        .iter()
+        .all(|byte| matches!(*byte, b'a'..=b'z' | b'0'..=b'9' | b'-'));
+    is_allowed && !text.is_empty() && text.len() <= MOST_LABEL_BYTES
+}
+
+/// Whether a text is an IPv6 address as browsers write it: in its shortest form, and without an IPv4 address in it.
+fn is_ipv6(alloc: Global, text: &str) -> Result<bool, AllocError> {
+    let Ok(address) = text.parse::<Ipv6Addr>() else {
+        return Ok(false);
+    };
+    let shortest = format!(in alloc; "{address}")?;
+
+    // That form has an IPv4 address in it for a few addresses, for which browsers write hexadecimal digits.
+    Ok(!text.contains('.') && (shortest.as_str() == text || shortest.as_str().contains('.')))
+}

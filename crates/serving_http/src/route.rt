@@ -1,0 +1,50 @@
+//! What a request asks for, by its method and its path.
+ghost use Rattle.std.specs.Prelude.{◌≡◌};
+ghost use Rattle.serving_http.specs.Route.{by_method, route_of};
+
+/// What a request asks for.
+#[derive(Clone, Copy, Debug, PartialEq, Eq)]
+pub enum Route {
+    /// The page itself: GET /
+    Page,
+    /// A picture of the machine: GET /picture
+    Picture,
+    /// A console line to be answered: POST /line
+    Line,
+    /// Console lines to be answered one after the other: POST /lines
+    Lines,
+    /// A path that is known, by a method that it doesn't have.
+    WrongMethod,
+    /// A path that isn't known.
+    Unknown,
+}
+
+/// The route, if its one method is the one that was used.
+fn by_method(method: &str, wanted: &str, route: Route) -> Route
+    ensures { result ≡ by_method method.now wanted.now route }
+{
+    if method == wanted {
+        route
+    } else {
+        Route::WrongMethod
+    }
+}
+
+/// What a request of this method and this path asks for.
+pub fn route_of(method: &str, path: &str) -> Route
+    ensures { result ≡ route_of method.now path.now }
+{
+    if path == "/" {
+        return by_method(method, "GET", Route::Page);
+    }
+    if path == "/picture" {
+        return by_method(method, "GET", Route::Picture);
+    }
+    if path == "/line" {
+        return by_method(method, "POST", Route::Line);
+    }
+    if path == "/lines" {
+        return by_method(method, "POST", Route::Lines);
+    }
+    Route::Unknown
+}

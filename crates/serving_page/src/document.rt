@@ -1,0 +1,3133 @@
+//! The page itself and its policy. Written by page/embed from page/: change the files there, and run it.
+ghost use Rattle.std.specs.Prelude.{IsTrue};
+ghost use Rattle.http_header.specs.FieldValue.{is_visible_text};
+
+use serving_http::Document;
+
+/// The first part of the page: HTML with one style and one script, and nothing from elsewhere.
+pub const PAGE: &[u8] = br##"<!doctype html>
+<html lang="en">
+<head>
+<meta charset="utf-8">
+<meta name="viewport" content="width=device-width, initial-scale=1">
+<title>IBM 1401</title>
+<link rel="icon" href="data:image/svg+xml,%3Csvg xmlns='http://www.w3.org/2000/svg' viewBox='0 0 16 16'%3E%3Cpath
+d='M3 2h12v12H1V4z' fill='%23f3e3bd' stroke='%2323303c'/%3E%3Cpath
+d='M4 6h2v3H4zM8 4h2v3H8zM11 9h2v3h-2z'/%3E%3C/svg%3E">
+<style>
+:root{
+--room:#d9d5ca;--cabinet:#efece3;--edge:#b5b0a1;--ink:#22262a;--soft:#55564f;
+--panel:#1f2b36;--panel-light:#2e3e4d;--ivory:#f3eddc;--faint:#c3ccd3;--blue:#2a5f8a;--lamp:#ffb238;
+--off:#435160;--well:#10171d;--red:#a8321f;--green:#28734a;--warm:#ffdf9d;
+--paper:#fdfcf5;--bar:#d9eeda;--print-ink:#1c2530;--card:#f3e3bd;--card-ink:#39321f;
+--read:#d3e3f2;--punch:#f6ddd0;--print:#d9eeda;--log:#fffdf4;--lit:#b35f00;--next:#1e4a6e;
+--mono:ui-monospace,"DejaVu Sans Mono",Menlo,Consolas,"Liberation Mono",monospace;
+--sans:"Helvetica Neue",Helvetica,Arial,"Liberation Sans",sans-serif;
+}
+*{box-sizing:border-box;}
+html,body{margin:0;}
+body{background:var(--room);color:var(--ink);font:15px/1.4 var(--sans);overflow-wrap:anywhere;}
+button,input,select,textarea{font:inherit;color:inherit;}
+button{cursor:pointer;}
+button:disabled,[aria-disabled=true]{cursor:default;}
+.unseen{position:absolute;width:1px;height:1px;overflow:hidden;clip-path:inset(50%);white-space:nowrap;}
+:focus-visible{outline:3px solid #b35f00;outline-offset:2px;}
+.board :focus-visible,header :focus-visible{outline-color:var(--lamp);}
+[hidden]{display:none !important;}
+.skip{position:absolute;left:8px;top:-60px;background:var(--ivory);color:var(--ink);padding:8px 14px;
+z-index:9;}
+.skip:focus{top:8px;}
+header{display:flex;flex-wrap:wrap;align-items:center;gap:6px 14px;padding:6px 14px;
+background:var(--panel);color:var(--ivory);border-bottom:4px solid var(--blue);}
+header h1{font-size:24px;letter-spacing:.06em;margin:0;line-height:1;}
+header .what{font-size:11px;letter-spacing:.15em;text-transform:uppercase;color:var(--faint);}
+header .what span{display:block;}
+.seats{display:flex;flex-wrap:wrap;gap:6px;margin-left:auto;align-items:center;font-size:13px;}
+.seats span{margin-right:4px;}
+.seats a{font:700 13px var(--mono);width:30px;height:30px;border-radius:50%;display:grid;
+place-items:center;background:var(--off);color:#fff;text-decoration:none;}
+.seats a:hover{background:var(--blue);}
+.seats a.taken{border:2px dashed var(--lamp);}
+.seats a[aria-current]{background:var(--lamp);color:#2b1d00;}
+header .after{font:13px var(--mono);display:flex;gap:8px;align-items:center;min-width:8em;}
+.after i{width:11px;height:11px;border-radius:50%;background:#64d08a;}
+.after.lost i{background:#ff6b57;}
+header button,header select{background:var(--panel);border:1px solid var(--faint);border-radius:4px;
+padding:4px 10px;color:var(--ivory);font-size:13px;}
+header button[aria-pressed=true]{background:var(--lamp);color:#2b1d00;}
+header button:hover{background:var(--panel-light);color:var(--ivory);}
+.notice{background:var(--ink);color:#fff;font-weight:700;padding:9px 14px;}
+.banner{background:var(--red);color:#fff;font-weight:700;padding:9px 14px;}
+main{padding:8px 10px;max-width:2200px;margin:auto;}
+.stage{display:grid;gap:8px 10px;grid-template:"stand printer" auto "console printer" minmax(210px, 1fr)
+/ minmax(380px, 1fr) minmax(0, max(932px, 57%));}
+.stand{grid-area:stand;display:flex;flex-direction:column;gap:8px;min-width:0;}
+.below{display:grid;grid-template-columns:minmax(0, 1fr) minmax(0, 1fr);gap:10px;margin-top:10px;
+align-items:start;}
+section{background:var(--cabinet);border:1px solid var(--edge);border-radius:6px;min-width:0;
+box-shadow:0 1px 0 #fff inset,0 2px 5px #0002;display:flex;flex-direction:column;}
+.printing{grid-area:printer;height:max(520px, 100vh - 76px);position:sticky;top:8px;}
+.console{grid-area:console;}
+.title{display:flex;flex-wrap:wrap;gap:4px 14px;align-items:center;padding:4px 12px;min-height:34px;
+border-bottom:1px solid var(--edge);}
+h2{margin:0;font-size:12px;letter-spacing:.14em;text-transform:uppercase;font-weight:700;
+color:var(--soft);}
+.title small{font-size:13px;color:var(--soft);margin-left:auto;}
+.small-key{border:1px solid #8d8878;background:#fffdf6;border-radius:4px;padding:4px 11px;font-size:13px;}
+.small-key:hover:not([aria-disabled=true]){background:var(--warm);}
+.small-key[aria-disabled=true]{color:#585851;background:#e4e0d4;}
+.small-key.main{background:var(--blue);border-color:var(--blue);color:#fff;font-weight:700;}
+.small-key.main:hover:not([aria-disabled=true]){background:#1e4a6e;}
+.small-key.main[aria-disabled=true]{background:#e4e0d4;border-color:#8d8878;color:#585851;}
+details>summary{cursor:pointer;padding:7px 14px;font-size:13px;color:var(--soft);}
+details>summary:hover{color:var(--ink);}
+.guide .title{flex-wrap:nowrap;}
+.guide .title .small-key{font-size:12px;padding:2px 7px;flex:none;}
+.guide h2{letter-spacing:.05em;}
+.guide .title .small-key:first-of-type{margin-left:auto;}
+.steps{list-style:none;display:flex;margin:0;padding:7px 12px 0;gap:4px;counter-reset:step;}
+.steps li{flex:1 1 0;font-size:12.5px;line-height:1.2;text-align:center;color:var(--soft);
+border-top:4px solid #8d8878;padding-top:4px;counter-increment:step;}
+.steps li::before{content:counter(step) " ";}
+.steps li.done{border-top-color:var(--green);}
+.steps li.done::before{content:"\2713 ";}
+.steps li[aria-current]{border-top-color:var(--lit);color:var(--ink);font-weight:700;}
+.guide p{margin:0;padding:6px 12px 8px;min-height:3.9em;}
+.guide .row{padding:0 12px 9px;margin:0;}
+#name{width:15em;font:15px var(--mono);padding:4px 8px;text-transform:uppercase;border:1px solid #8d8878;
+border-radius:4px;background:#fff;}
+.lit{outline:4px solid var(--lit) !important;outline-offset:2px;animation:lit 1.2s infinite alternate;}
+.board .lit{outline-color:var(--lamp) !important;}
+@keyframes lit{from{outline-offset:1px;}to{outline-offset:4px;}}
+.attracts .guide{border:2px solid var(--lit);}
+.board{background:linear-gradient(var(--panel-light), var(--panel));color:var(--ivory);padding:10px 12px;
+display:flex;flex-wrap:wrap;gap:9px 14px;align-items:flex-end;align-content:flex-start;flex:1;}
+.shown{display:flex;flex-wrap:wrap;gap:6px 12px;}
+.name{display:block;font-size:11px;letter-spacing:.1em;text-transform:uppercase;color:var(--faint);
+margin-bottom:3px;}
+.digits{display:flex;gap:2px;}
+.digits b{font:700 19px/28px var(--mono);width:19px;text-align:center;background:var(--well);
+color:var(--lamp);border-radius:2px;}
+.lamps{display:flex;gap:7px;}
+.lamps>div{text-align:center;}
+.lamp{width:50px;height:22px;border-radius:3px;background:var(--off);box-shadow:0 1px 3px #0006 inset;
+margin:auto;}
+.lamp.on{background:var(--lamp);border:3px solid #fff;box-shadow:0 0 13px #ffb238a0;}
+.next{flex:1 1 100%;min-width:0;}
+.next div{display:flex;flex-wrap:wrap;justify-content:space-between;column-gap:14px;padding:0 11px;
+font:700 17px/30px var(--mono);background:var(--well);color:var(--lamp);border-radius:2px;
+white-space:pre;overflow:hidden;min-height:30px;}
+.next small{font:13px/30px var(--sans);color:var(--faint);}
+.switches{display:flex;gap:5px;}
+.switches button{width:28px;height:40px;border:0;border-radius:3px;padding:0 0 16px;color:#26221a;
+background:linear-gradient(#dcd5c0 50%, #a9a28d 50%);font:700 13px var(--mono);}
+.switches button[aria-pressed=true]{background:linear-gradient(#a9a28d 50%, #ffdf9d 50%);padding:16px 0 0;}
+.keys{flex:1 1 100%;display:flex;flex-wrap:wrap;gap:8px;align-items:flex-end;}
+.key{border:0;border-radius:4px;min-width:58px;height:40px;padding:0 10px;font-weight:700;
+font-size:13px;letter-spacing:.07em;background:var(--ivory);color:#1f2225;box-shadow:0 3px 0 #8f8a79;}
+.key.go{background:var(--green);color:#fff;box-shadow:0 3px 0 #174a2e;}
+.key.halt{background:var(--red);color:#fff;box-shadow:0 3px 0 #651a0f;}
+.key:active:not([aria-disabled=true]){transform:translateY(2px);box-shadow:none;}
+.key[aria-disabled=true]{background:var(--off);color:#d5dce2;box-shadow:none;}
+.start{display:flex;align-items:flex-end;}
+.start input{width:4.6em;height:40px;border:0;border-radius:4px 0 0 4px;background:var(--well);
+color:var(--lamp);font:700 17px var(--mono);text-align:center;padding:0;}
+.start .key{border-radius:0 4px 4px 0;}
+.pace{margin-left:auto;}
+.pace select{height:34px;border:1px solid var(--faint);border-radius:4px;background:var(--panel);
+color:var(--ivory);padding:0 6px;max-width:100%;}
+.said{flex:1 1 100%;background:var(--cabinet);color:var(--ink);border-radius:4px;padding:6px 10px;
+min-height:70px;}
+.said p{margin:0;font-size:16px;font-weight:700;}
+.said code{font:13px var(--mono);color:var(--soft);}
+.bulbs{font:11px var(--mono);color:var(--faint);}
+.bulbs>div{display:flex;gap:3px;align-items:center;}
+.bulbs i{width:15px;height:15px;border-radius:50%;background:var(--off);font-style:normal;color:#fff;
+text-align:center;line-height:15px;font-size:11px;}
+.bulbs i.on{background:var(--lamp);color:#2b1d00;font-weight:700;}
+.bulbs b{min-width:3.2em;color:var(--ivory);}
+.tabs{display:flex;flex-wrap:wrap;gap:4px;}
+.tabs button{border:1px solid #8d8878;background:#fffdf6;border-radius:3px;padding:2px 8px;
+font:12px/18px var(--mono);}
+.tabs button:hover{background:var(--warm);}
+.tabs button[aria-pressed=true]{background:var(--blue);color:#fff;border-color:var(--blue);}
+.find{display:flex;gap:6px 12px;align-items:center;padding:2px 14px 6px;font-size:13px;flex-wrap:wrap;}
+.find label{display:flex;gap:6px;align-items:center;}
+.find input[type=text]{width:4.2em;padding:2px 6px;font:13px var(--mono);border:1px solid #8d8878;
+border-radius:3px;background:#fff;}
+.core{padding:8px 12px 4px;container-type:inline-size;}
+.core table{border-collapse:separate;border-spacing:0;font-family:var(--mono);table-layout:fixed;
+width:100%;font-size:min(17px,calc((100cqi - 46px) / 50));}
+.core.narrow table{font-size:14px;}
+.core th{font:11px/20px var(--mono);color:var(--soft);text-align:right;padding:0 8px 0 0;width:46px;}
+.core thead th{text-align:left;padding:0;font-size:10px;line-height:14px;width:auto;}
+.core thead th:first-child{width:46px;}
+.core td{height:21px;text-align:center;padding:0;border-bottom:3px solid transparent;background:#fff;
+border-top:1px solid #e7e4da;line-height:17px;cursor:cell;overflow:hidden;}
+.core td.ten{border-left:1px solid #bdb8a8;}
+.core td.read{background:var(--read);}
+.core td.punch{background:var(--punch);}
+.core td.print{background:var(--print);}
+.core td.next{background:var(--next);color:#fff;}
+.core td.next.mark{border-bottom-color:#ffb238;}
+.core td.mark{border-bottom-color:#14181c;}
+.core td:focus{outline:2px solid #b35f00;outline-offset:-1px;}
+.cell{margin:0;flex:1 1 300px;text-align:right;font-size:14px;}
+.legend{display:flex;gap:4px 16px;font-size:12.5px;color:var(--soft);padding:4px 14px 2px;
+flex-wrap:wrap;}
+.legend i{display:inline-block;width:14px;height:13px;margin-right:5px;vertical-align:-2px;
+border:1px solid #0003;}
+.legend .read{background:var(--read);}
+.legend .punch{background:var(--punch);}
+.legend .print{background:var(--print);}
+.legend .next{background:var(--next);}
+.legend .mark{background:#fff;border-bottom:3px solid #14181c;}
+.as-text{margin:0;padding:0 14px 10px;font:13px/18px var(--mono);white-space:pre;overflow-x:auto;}
+.about-program{margin:0;padding:0 14px 6px;}
+#source{max-height:24em;overflow:auto;}
+.cards{padding:10px 14px;}
+.transport{display:flex;gap:10px;padding:2px 12px 4px;align-items:flex-end;}
+.track{flex:1;text-align:center;font-size:12.5px;color:var(--soft);}
+.station{height:40px;margin-bottom:3px;border-bottom:3px solid #8d8878;position:relative;overflow:hidden;
+background:linear-gradient(90deg, #0000, #0002 50%, #0000);}
+.station i{position:absolute;left:calc(50% - 36px);bottom:1px;width:72px;height:32px;
+background:var(--card);border:1px solid #8a6d2c;border-radius:3px;}
+.station i.none{visibility:hidden;}
+.stack{text-align:center;font-size:12.5px;color:var(--soft);}
+.stack b{font:700 15px var(--mono);color:var(--ink);}
+.stack .tray{width:78px;height:40px;display:flex;align-items:flex-end;justify-content:center;
+margin-bottom:3px;border:solid #8d8878;border-width:0 2px 3px;border-radius:0 0 4px 4px;
+background:linear-gradient(#0000, #0001);}
+.stack em{display:block;width:70px;height:calc(var(--cards, 0) * .07px + 2px);border:1px solid #c7ae74;
+border-bottom:0;background:repeating-linear-gradient(#f6e9c9 0 2px, #d9c28c 2px 3px);}
+.stack em.none{visibility:hidden;}
+.card svg{width:100%;display:block;filter:drop-shadow(0 2px 2px #0003);}
+.card svg text{white-space:pre;font-family:var(--mono);}
+.card figcaption{font-size:12.5px;color:var(--soft);margin-bottom:3px;}
+.card .edge{fill:var(--card);stroke:#cbb27a;}
+.card .typed{fill:var(--card-ink);font-size:8.2px;font-weight:700;}
+.card .rows{fill:#765a1d;font-size:5px;}
+.card .holes{fill:#2c271d;}
+.card .columns{fill:#765a1d;font-size:4px;}
+.card.none svg{visibility:hidden;}
+figure{margin:0;}
+.pair{display:grid;grid-template-columns:minmax(0, 1fr) minmax(0, 1fr);gap:14px;padding:0 14px 10px;}
+.feed{padding:8px 12px;display:flex;flex-wrap:wrap;gap:8px 10px;
+align-items:center;}
+.how{flex:1 1 100%;font-size:13.5px;color:var(--soft);margin:0;padding:0 12px 6px;min-height:1.7em;}
+.feed select{height:31px;max-width:100%;border:1px solid #8d8878;border-radius:4px;background:#fff;}
+.feeder .row{padding:0 12px;margin:0;}
+progress{flex:1 1 120px;height:16px;accent-color:var(--blue);}
+.over{outline:3px dashed #b35f00;outline-offset:-4px;}
+.wrong,.how.wrong{color:var(--red);font-weight:700;}
+.desk{border-top:1px solid var(--edge);}
+.desk .inside{padding:0 14px 12px;}
+textarea{width:100%;font:13px/18px var(--mono);border:1px solid #8d8878;border-radius:4px;
+padding:6px 8px;background:#fff;white-space:pre;overflow-x:auto;resize:vertical;}
+.row{display:flex;flex-wrap:wrap;gap:8px 10px;align-items:center;margin-top:8px;}
+.keyed{width:100%;font:14px var(--mono);border:1px solid #8d8878;border-radius:4px;padding:6px 8px;
+background:#fff;text-transform:uppercase;margin:8px 0;}
+.keyboard{display:grid;gap:5px;justify-content:center;background:#6c7276;padding:10px;
+border-radius:6px;}
+.keyboard div{display:flex;gap:5px;justify-content:center;flex-wrap:wrap;}
+.keyboard button{min-width:28px;height:30px;border:0;border-radius:4px;background:#2d3338;color:#fff;
+padding:0 6px;font:700 14px var(--mono);box-shadow:0 2px 0 #14181b;}
+.keyboard button.wide{background:var(--ivory);color:#1f2225;box-shadow:0 2px 0 #8f8a79;
+font:700 12px var(--sans);}
+#card-to-print{display:none;}
+.keyboard button:active{transform:translateY(2px);box-shadow:none;}
+.printer{display:grid;grid-template:minmax(0, 1fr) / 30px minmax(0, 1fr);gap:6px;padding:6px;
+flex:1 1 0;min-height:300px;}
+.tape{width:30px;height:100%;}
+.tape .strip{fill:#fbf6e4;stroke:#b3a885;}
+.tape .hole{fill:#2c271d;}
+.tape .feed-hole{fill:#d9cfae;}
+.tape .pointer{fill:var(--red);}
+.machine{min-width:0;display:flex;flex-direction:column;container-type:inline-size;}
+.slot{flex:0 0 13px;background:linear-gradient(#5d646a, #2b2f33);border-radius:5px 5px 2px 2px;}
+.fold{margin:0 2px;overflow:auto;background:#a6a294;box-shadow:0 4px 9px #0003;position:relative;
+scrollbar-width:thin;flex:1 1 0;min-height:0;}
+.sheet{position:relative;border-bottom:1px dashed #8f8a7a;padding:0 16px;width:calc(32px + 79.6em);
+min-width:100%;font:max(11px,calc((100cqi - 48px) / 79.6))/1.18 var(--mono);
+background:repeating-linear-gradient(var(--paper) 0 3.54em, var(--bar) 3.54em 7.08em);}
+.sheet pre{margin:0;font:inherit;color:var(--print-ink);height:77.88em;overflow:hidden;}
+.sheet span{display:block;height:1.18em;position:relative;}
+.large .sheet{font-size:max(16px,calc((100cqi - 48px) / 79.6 * 1.4));}
+.sheet::before,.sheet::after{content:"";position:absolute;top:0;bottom:0;width:15px;
+background:radial-gradient(circle at 50% 50%, #8f8a7a 0 .42em, transparent .48em) 0 0/15px 3.54em var(--paper);}
+.sheet::before{left:0;border-right:1px dotted #c8c3b2;}
+.sheet::after{right:0;border-left:1px dotted #c8c3b2;}
+.sheet span.at{box-shadow:-16px 0 0 #ffb23866,16px 0 0 #ffb23866;background:#ffb23833;}
+.paper-keys{display:flex;flex-wrap:wrap;gap:8px;padding:0 14px 11px;align-items:center;font-size:13px;
+color:var(--soft);}
+#sheets-to-print{display:none;}
+.log{flex:1 1 0;min-height:90px;overflow:auto;padding:9px 15px;
+font:14px/20px var(--mono);background:var(--log);border-bottom:1px solid var(--edge);}
+.log p{margin:0;white-space:pre-wrap;}
+.log .you{color:var(--blue);}
+.log .you::before{content:"> ";}
+.log .bad{color:var(--red);}
+.log .words{color:var(--soft);font-family:var(--sans);font-size:13px;padding-left:1.2em;}
+.console form{display:flex;gap:8px;padding:6px 8px;}
+.console form input{flex:1;min-width:0;font:15px var(--mono);padding:8px 10px;border:1px solid #8d8878;
+border-radius:4px;background:#fff;}
+.console form input::placeholder{color:#6b6b64;}
+.console form button{border:0;border-radius:4px;background:var(--blue);color:#fff;padding:0 18px;
+font-weight:700;}
+.lines{border-collapse:collapse;margin:0 14px 12px;font-size:13.5px;}
+.lines td{padding:2px 16px 2px 0;vertical-align:top;}
+.lines td:first-child{font:13px/19px var(--mono);white-space:nowrap;}
+footer{font-size:13px;color:#45463f;padding:0 22px 16px;max-width:1900px;margin:auto;}
+dialog{border:1px solid var(--edge);border-radius:8px;background:var(--cabinet);color:var(--ink);
+padding:18px 22px;max-width:min(46em, calc(100vw - 24px));box-shadow:0 8px 40px #0008;}
+dialog::backdrop{background:#10171dcc;}
+dialog h2{margin:14px 0 6px;font-size:13px;}
+dialog h2:first-child{margin-top:0;}
+dialog ol{margin:0;padding-left:1.4em;}
+dialog .row{justify-content:flex-end;margin-top:16px;}
+dialog .lines{margin:0;}
+dialog svg{width:100%;height:auto;background:var(--panel);border-radius:6px;}
+dialog dt{font-weight:700;}
+dialog dd{margin:0 0 5px;}
+dialog svg text{fill:#fff;font-size:14px;text-anchor:middle;}
+dialog svg rect{fill:#2e3e4d;stroke:#c3ccd3;}
+dialog svg path{stroke:#ffb238;stroke-width:3;fill:none;}
+@media (max-width:1579px){
+.tape{display:none;}
+.printer{grid-template:minmax(0, 1fr) / minmax(0, 1fr);padding:4px;}
+}
+@media (max-width:1299px){
+.stage{grid-template:"stand" "printer" "console" / minmax(0, 1fr);}
+.printing{position:static;height:max(400px, min(760px, 80vh));}
+.console{min-height:260px;}
+.below{grid-template-columns:minmax(0, 1fr);}
+}
+@media (max-width:640px){
+main{padding:6px;}
+.seats{margin-left:0;}
+.steps li{font-size:11px;}
+.pace{margin-left:0;}
+.title small{margin-left:0;}
+.cell{text-align:left;}
+.pair{grid-template-columns:minmax(0, 1fr);padding:0 10px 10px;}
+.keyboard{padding:7px 4px;}
+.keyboard button{min-width:25px;padding:0 3px;}
+.lines td:first-child{white-space:normal;}
+.lines td{padding-right:8px;}
+}
+@media (prefers-reduced-motion:reduce){
+*{animation:none !important;transition:none !important;scroll-behavior:auto !important;}
+}
+@media (forced-colors:active){
+.core td,.core td.read,.core td.punch,.core td.print{forced-color-adjust:none;background:Canvas;
+color:CanvasText;border-bottom-color:Canvas;border-top-color:Canvas;}
+.core td.mark.mark{border-bottom-color:CanvasText;}
+.core td.next.next{background:Highlight;color:HighlightText;}
+.core td.next.mark.mark{border-bottom-color:HighlightText;}
+.lamp,.bulbs i,header .after i{forced-color-adjust:none;background:Canvas;color:CanvasText;
+border:1px solid CanvasText;}
+.lamp.on,.bulbs i.on{background:Highlight;color:HighlightText;border:3px solid CanvasText;}
+.switches button,.keyboard button,.key,.tabs button,header button{border:1px solid ButtonText;}
+[aria-pressed=true]{forced-color-adjust:none;background:Highlight !important;color:HighlightText !important;}
+.seats a[aria-current]{forced-color-adjust:none;background:Highlight;color:HighlightText;}
+.steps li[aria-current]{border-top-color:Highlight;}
+.sheet span.at{outline:1px solid Highlight;}
+.lit{outline-color:Highlight !important;}
+}
+@page{size:A4 landscape;margin:8mm;}
+@media print{
+body>*{display:none !important;}
+body{background:#fff;}
+body:not(.prints-card)>#sheets-to-print{display:block !important;}
+body.prints-card>#card-to-print{display:block !important;width:187mm;}
+#sheets-to-print .sheet{font:2.5mm/1.14 var(--mono);min-width:0;width:100%;padding:0 10mm;border:0;
+break-after:page;break-inside:avoid;
+background:repeating-linear-gradient(#fff 0 3.42em, var(--bar) 3.42em 6.84em);print-color-adjust:exact;
+-webkit-print-color-adjust:exact;}
+#sheets-to-print .sheet pre{height:75.24em;width:132ch;margin:0 auto;}
+#sheets-to-print .sheet span{height:1.14em;}
+#sheets-to-print .sheet::before,#sheets-to-print .sheet::after{background-size:15px 3.42em;
+background-color:#fff;}
+}
+</style>
+</head>
+<body>
+<a class="skip" href="#feed-key" data-text="skip"></a>
+<header>
+<h1>1401</h1>
+<div class="what"><span data-text="headline"></span><span data-text="subline"></span></div>
+<nav class="seats" id="seats" data-label="seatsLabel"></nav>
+<div class="after lost" id="link"><i></i><span id="after"></span></div>
+<button type="button" id="about-key" data-text="aboutKey"></button>
+<button type="button" id="help-key" data-text="helpKey"></button>
+<button type="button" id="sound-key" data-text="soundKey" aria-pressed="false"></button>
+<select id="language" data-label="languageLabel"></select>
+</header>
+<div class="banner" id="banner" role="alert" hidden></div>
+<div class="notice" id="notice" role="status" hidden><span id="notice-words"></span><span id="notice-left"
+aria-hidden="true"></span></div>
+<noscript><p class="banner">This page needs JavaScript, which it has within itself.</p></noscript>
+<main>
+<div class="stage">
+<div class="stand">
+<section class="guide" id="guide" aria-labelledby="guide-title">
+<div class="title"><h2 id="guide-title" data-text="guideTitle"></h2>
+<button type="button" class="small-key" id="guide-key"></button>
+<button type="button" class="small-key" id="afresh-key" data-text="afreshKey" data-title="afreshTitle"></button>
+</div>
+<ol class="steps" id="guide-steps"></ol>
+<p id="guide-now"></p>
+<form class="row" id="name-form" hidden>
+<label><span data-text="nameLabel"></span> <input id="name" maxlength="40" autocomplete="off"
+spellcheck="false" autocapitalize="characters"></label>
+<button class="small-key main" id="name-key" data-text="nameKey"></button>
+<span class="wrong" id="name-words"></span></form>
+<div class="row" id="guide-end" hidden>
+<button type="button" class="small-key" id="card-print-key" data-text="cardPrintKey"></button></div>
+</section>
+<section class="feeder" id="feeder" aria-labelledby="feeder-title">
+<h2 id="feeder-title" class="unseen" data-text="feeder"></h2>
+<div class="feed">
+<label><span class="unseen" data-text="programLabel"></span><select id="program"></select></label>
+<button type="button" class="small-key main" id="feed-key" data-text="feedKey"></button>
+<button type="button" class="small-key" id="pick-key" data-text="pickKey"></button>
+<input type="file" id="file" hidden>
+</div>
+<div class="transport" id="transport" role="img">
+<div class="stack"><div class="tray"><em id="hopper-pile" class="none"></em></div>
+<span><b id="HOPPER">000</b> <span data-text="hopper"></span></span></div>
+<div class="track"><div class="station"><i id="moving-card" class="none"></i></div>
+<span data-text="readStation"></span></div>
+<div class="stack"><div class="tray"><em id="stacker-pile" class="none"></em></div>
+<span><b id="STACKER">000</b> <span data-text="stacker"></span></span></div>
+</div>
+<div class="row" id="feeding" hidden>
+<progress id="feed-bar" max="1" value="0" data-label="feedingLabel"></progress><span id="feed-count"></span>
+<button type="button" class="small-key" id="feed-stop" data-text="feedStop"></button></div>
+<p class="how" id="deck-words" role="status"></p>
+</section>
+<section class="panel" aria-labelledby="panel-title">
+<div class="title"><h2 id="panel-title" data-text="panel"></h2><small id="running"></small>
+<button type="button" class="small-key" id="view-key" data-text="viewKey" aria-pressed="false"></button></div>
+<div class="board">
+<div class="keys">
+<button type="button" class="key" id="load-key" data-text="loadKey" data-title="loadTitle"></button>
+<button type="button" class="key go" id="run-key" data-text="runKey" data-title="runTitle"></button>
+<button type="button" class="key halt" id="stop-key" data-text="stopKey" data-title="stopTitle"></button>
+<button type="button" class="key" id="step-key" data-text="stepKey" data-title="stepTitle"></button>
+<form class="start" id="start-form">
+<input id="start-at" inputmode="numeric" maxlength="5" value="0001" autocomplete="off"
+data-label="startLabel">
+<button class="key" id="start-key" data-text="startKey" data-title="startTitle"></button>
+</form>
+<label class="pace"><span class="name" data-text="pace"></span><select id="pace"></select></label>
+</div>
+<div class="said" role="status"><p id="said-words"></p><code id="said-reply"></code></div>
+<div class="shown" id="registers">
+<div><span class="name" data-text="registerI"></span><div class="digits" id="I" role="img"></div></div>
+<div><span class="name" data-text="registerA"></span><div class="digits" id="A" role="img"></div></div>
+<div><span class="name" data-text="registerB"></span><div class="digits" id="B" role="img"></div></div>
+</div>
+<div class="shown bulbs" id="bulbs" hidden></div>
+<div class="next" role="group" aria-labelledby="next-name">
+<span class="name" id="next-name" data-text="next"></span>
+<div><span id="next"></span><small id="next-words"></small></div></div>
+<div class="lamps" id="lamps"></div>
+<div><span class="name" id="switches-name" data-text="switches"></span>
+<div class="switches" id="switches" role="group" aria-labelledby="switches-name"></div></div>
+</div>
+</section>
+</div>
+<section class="printing" aria-labelledby="printer-title">
+<div class="title"><h2 id="printer-title" data-text="printer"></h2><small id="paper-at"></small></div>
+<div class="printer">
+<svg class="tape" id="tape" viewBox="0 0 60 330" preserveAspectRatio="none" role="img"></svg>
+<div class="machine"><div class="slot"></div>
+<div class="fold" id="fold" tabindex="0" role="region" data-label="paperLabel"></div></div>
+</div>
+<div class="paper-keys">
+<button type="button" class="small-key" id="tear-key" data-text="tearKey" data-title="tearTitle"></button>
+<button type="button" class="small-key" id="save-key" data-text="saveKey"></button>
+<button type="button" class="small-key" id="print-key" data-text="printKey"></button>
+<button type="button" class="small-key" id="large-key" data-text="largeKey" aria-pressed="false"></button>
+<button type="button" class="small-key" id="to-carriage" data-text="toCarriage" hidden></button>
+<span id="torn-words"></span>
+<button type="button" class="small-key" id="take-stop" data-text="takeStop" hidden></button>
+<button type="button" class="small-key" id="drop-key" data-text="dropKey" hidden></button>
+</div>
+</section>
+<section class="console" aria-labelledby="console-title">
+<div class="title"><h2 id="console-title" data-text="console"></h2><small id="others"></small>
+<button type="button" class="small-key" id="hold-key" data-title="holdTitle" hidden></button></div>
+<div class="log" id="log" role="log" aria-live="off" tabindex="0" data-label="logLabel"></div>
+<form id="line-form">
+<input id="line" maxlength="200" autocomplete="off" autocapitalize="characters" spellcheck="false"
+data-label="lineLabel" data-hint="lineHint"><button id="send-key" data-text="sendKey"></button></form>
+<details id="lines-details"><summary data-text="linesTitle"></summary>
+<table class="lines" id="lines"></table></details>
+</section>
+</div>
+<div class="below">
+<section class="storage" aria-labelledby="core-title">
+<div class="title"><h2 id="core-title" data-text="core"></h2>
+<span class="tabs" id="tabs" role="group" data-label="tabsLabel"></span></div>
+<div class="core" id="core"></div>
+<form class="find" id="find">
+<label><span data-text="findLabel"></span><input type="text" id="find-at" inputmode="numeric" maxlength="5"
+autocomplete="off"></label>
+<button class="small-key" data-text="findKey"></button>
+<label><input type="checkbox" id="follow" checked><span data-text="follow"></span></label>
+<span class="cell" id="cell"></span></form>
+<div class="legend">
+<span><i class="read"></i><span data-text="legendRead"></span></span>
+<span><i class="punch"></i><span data-text="legendPunch"></span></span>
+<span><i class="print"></i><span data-text="legendPrint"></span></span>
+<span><i class="next"></i><span data-text="legendNext"></span></span>
+<span><i class="mark"></i><span data-text="legendMark"></span></span>
+</div>
+<details id="core-details"><summary data-text="coreText"></summary>
+<pre class="as-text" id="core-text" tabindex="0" data-label="coreText"></pre></details>
+<details id="source-details" open><summary id="source-title"></summary>
+<p class="about-program" id="source-about"></p>
+<pre class="as-text" id="source" tabindex="0" role="region" data-label="sourceLabel"></pre></details>
+</section>
+<section class="reader" id="reader" aria-labelledby="cards-title">
+<div class="title"><h2 id="cards-title" data-text="cards"></h2><small data-text="dropHere"></small></div>
+<div class="cards">
+<figure class="card" id="card-read"><figcaption data-text="cardRead"></figcaption></figure>
+</div>
+<div class="pair">
+<figure class="card" id="card-next"><figcaption id="card-next-name"></figcaption></figure>
+<figure class="card" id="card-punched"><figcaption id="card-punched-name"></figcaption></figure>
+</div>
+<div class="feed">
+<button type="button" class="small-key" id="card-key" data-text="cardKey" data-title="cardTitle"></button>
+<button type="button" class="small-key" id="all-cards-key" data-text="allCardsKey"></button>
+<button type="button" class="small-key" id="save-cards-key" data-text="saveCardsKey" hidden></button>
+<button type="button" class="small-key" id="feed-again-key" data-text="feedAgainKey" hidden></button>
+<span class="how" id="taken-words" role="status"></span>
+</div>
+<details class="desk" id="keypunch"><summary data-text="keypunch"></summary><div class="inside">
+<figure class="card" id="card-keyed"></figure>
+<input class="keyed" id="keyed" maxlength="80" spellcheck="false" autocomplete="off" autocapitalize="characters"
+data-label="keyedLabel">
+<div class="keyboard" id="keyboard" role="toolbar" data-label="keyboardLabel"></div>
+<div class="row"><button type="button" class="small-key main" id="release-key" data-text="releaseKey"></button>
+<button type="button" class="small-key" id="program-key" data-text="programKey"></button>
+<span id="keyed-words"></span></div>
+</div></details>
+<details class="desk"><summary data-text="typedDeck"></summary><div class="inside">
+<textarea id="deck" rows="6" spellcheck="false" autocapitalize="characters" data-label="typedDeck"></textarea>
+<div class="row"><button type="button" class="small-key main" id="deck-key" data-text="deckKey"></button></div>
+</div></details>
+</section>
+</div>
+</main>
+<footer data-text="footer"></footer>
+<dialog id="help" aria-labelledby="help-title">
+<h2 id="help-title" data-text="shortcutsTitle"></h2><table class="lines" id="help-shortcuts"></table>
+<div class="row"><button type="button" class="small-key main" id="help-close" data-text="closeKey"></button></div>
+</dialog>
+<dialog id="about" aria-labelledby="about-title">
+<h2 id="about-title" data-text="aboutKey"></h2>
+<p data-text="aboutFirst"></p>
+<svg id="about-drawing" viewBox="0 0 640 190" role="img" data-label="aboutDrawing"></svg>
+<h2 data-text="wordsTitle"></h2><dl id="about-words"></dl>
+<h2 data-text="numbersTitle"></h2><p data-text="aboutNumbers"></p>
+<div class="row"><button type="button" class="small-key main" id="about-close" data-text="closeKey"></button></div>
+</dialog>
+<dialog id="ask" aria-labelledby="ask-text">
+<p id="ask-text"></p>
+<div class="row"><button type="button" class="small-key" id="ask-no" data-text="noKey"></button>
+<button type="button" class="small-key main" id="ask-yes" data-text="yesKey"></button></div>
+</dialog>
+<div id="sheets-to-print"></div>
+<figure class="card" id="card-to-print"></figure>
+<script>
+'use strict';
+const PROGRAM_FILES = {"banner":{"source":"~F* A BANNER: THE LETTERS OF COLUMNS 1 TO 20, EACH SEVEN LINES HIGH\n~PORG  400\n~FPLACE~FEQU  89~SINDEX REGISTER 1: IN THE NAME\n~FSHAPE~FEQU  94~SINDEX REGISTER 2: IN THE TABLE\n~FRIGHT~FEQU  99~SINDEX REGISTER 3: ON THE LINE\n~FSTART~FSW~DPLACE-2,SHAPE-2\n~PSW~DRIGHT-2\n~FNEXT~GR~YSTOPS HERE UNTIL A CARD IS FED\n~PMLC  ZERO,ROW\n~FLINE~GCS~D332\n~PCS\n~PMLC  ZERO,PLACE\n~PMLC  ZERO,RIGHT\n~FLETTER~ESW~D201+X3\n~PMLC  ZERO,SHAPE\n~PMLC  1+X1,KEY\n~FLOOK~GC~EKEY,TABLE+1+X2\n~PBE~DFOUND\n~PA~ESIZE,SHAPE\n~PC~ESHAPE,LAST\n~PBU~DLOOK\n~PB~EAFTER\n~FFOUND~FA~EROW,SHAPE\n~PMLC  TABLE+6+X2,205+X3\n~FAFTER~FA~EONE,PLACE\n~PA~ESIX,RIGHT\n~PC~EPLACE,TWENTY\n~PBU~DLETTER\n~PW\n~PA~EFIVE,ROW\n~PC~EROW,HEIGHT\n~PBU~DLINE\n~PCS~D332\n~PCS\n~PW\n~PB~ENEXT\n~FZERO~GDCW  000\n~FONE~HDCW  001\n~FFIVE~GDCW  005\n~FSIX~HDCW  006\n~FTWENTY~EDCW  020\n~FSIZE~GDCW  036\n~FHEIGHT~EDCW  035\n~FLAST~GDCW  936\n~FROW~HDCW  000\n~FKEY~HDCW  @ @\n~F* EACH ENTRY HAS A LETTER, AND FIVE PLACES FOR EACH OF SEVEN LINES\n~FTABLE~FDCW  @ @\n~PDCW  @A AAA A~DAA~DAAAAAAA~DAA~DAA~DA@\n~PDCW  @BBBBB B~DBB~DBBBBB B~DBB~DBBBBB @\n~PDCW  @C CCC C~DCC~EC~EC~EC~DC CCC @\n~PDCW  @DDDDD D~DDD~DDD~DDD~DDD~DDDDDD @\n~PDCW  @EEEEEEE~EE~EEEEE E~EE~EEEEEE@\n~PDCW  @FFFFFFF~EF~EFFFF F~EF~EF~E@\n~PDCW  @G GGG G~DGG~EG GGGG~DGG~DG GGG @\n~PDCW  @HH~DHH~DHH~DHHHHHHH~DHH~DHH~DH@\n~PDCW  @I III~DI~EI~EI~EI~EI~DIII @\n~PDCW  @J  JJJ~DJ~EJ~EJ~EJ J  J  JJ  @\n~PDCW  @KK~DKK  K K K  KK~DK K  K  K K~DK@\n~PDCW  @LL~EL~EL~EL~EL~EL~ELLLLL@\n~PDCW  @MM~DMMM MMM M MM M MM~DMM~DMM~DM@\n~PDCW  @NN~DNNN  NNN  NN N NN  NNN  NNN~DN@\n~PDCW  @O OOO O~DOO~DOO~DOO~DOO~DO OOO @\n~PDCW  @PPPPP P~DPP~DPPPPP P~EP~EP~E@\n~PDCW  @Q QQQ Q~DQQ~DQQ~DQQ Q QQ  Q  QQ Q@\n~PDCW  @RRRRR R~DRR~DRRRRR R R  R  R R~DR@\n~PDCW  @S SSSSS~ES~FSSS~FS~ESSSSS @\n~PDCW  @TTTTTT  T~ET~ET~ET~ET~ET  @\n~PDCW  @UU~DUU~DUU~DUU~DUU~DUU~DU UUU @\n~PDCW  @VV~DVV~DVV~DVV~DVV~DV V V~DV  @\n~PDCW  @WW~DWW~DWW~DWW W WW W WWW WWW~DW@\n~PDCW  @XX~DXX~DX X X~DX~DX X X~DXX~DX@\n~PDCW  @YY~DYY~DY Y Y~DY~EY~EY~EY  @\n~PDCW  @ZZZZZZ~EZ~DZ~DZ~DZ~DZ~EZZZZZ@\n~PEND  START\n","cards":[",008015,022029,036040,044051,056060/I99H039C039062B036/1001099",",047055,059063,067071,075079)044056,181L199099)060)081)181/039,0011040",",087092,0971M563587/332/M563089M563099 L038437,407,411,412,419,423,424,4311040",",2?1M563094M0'1588C5885R0B491SA578094C0L039476,442,449,456,463,468,475,0401040","94584B456/B505A587094M5R52?5A566089A572M039515,482,487,491,498,505,512,0401040","099C089575B438/2A569587C587581B419//332M039554,519,526,531,532,539,546,5511040","/2B411000001005006020~SL021575,556,557,561,564,567,570,5731040","036035936000  A AAA A~DAA~DAAAAAAA~DL039614,579,582,585,588,589,590,0401040","AA~DAA~DABBBBB B~DBB~DBBBBB B~DBB M039653,626,040,040,040,040,040,0401040","BBBBB C CCC C~DCC~EC~EC~EC~DC CM039694,662,040,040,040,040,040,0401040","CC DDDDD D~DDD~DDD~DDD~DDD~DDDDDD M039733,698,040,040,040,040,040,0401040","EEEEEEE~EE~EEEEE E~EE~EEEEEEFFFL039772,770,040,040,040,040,040,0401040","FFFF~EF~EFFFF F~EF~EF~EG GGG M039811,806,040,040,040,040,040,0401040","G~DGG~EG GGGG~DGG~DG GGG HH~DHH  M039850,842,040,040,040,040,040,0401040","HH~DHHHHHHH~DHH~DHH~DHI III~DI~EM039890,878,040,040,040,040,040,0401040","I~EI~EI~EI~DIII J  JJJ~DJ~EJ M039929,914,040,040,040,040,040,0401040","J~EJ J  J  JJ  KK~DKK  K K K  KK~DKM039971,950,040,040,040,040,040,0401040","K  K  K K~DKLL~EL~EL~EL~EL~EM039'11,986,040,040,040,040,040,0401040","L~ELLLLLMM~DMMM MMM M MM M MM~DMM  M039'50,'22,040,040,040,040,040,0401040","MM~DMNN~DNNN  NNN  NN N NN  NNN  NNN M039'90,'58,040,040,040,040,040,0401040","NO OOO O~DOO~DOO~DOO~DOO~DO OOO PPM039/31,'94,/30,040,040,040,040,0401040","PPP P~DPP~DPPPPP P~EP~EP~EQ QQQM039/70,/66,040,040,040,040,040,0401040","Q~DQQ~DQQ~DQQ Q QQ  Q  QQ QRRRRR R  M039S10,S02,040,040,040,040,040,0401040","RR~DRRRRR R R  R  R R~DRS SSSSS~ES M039S50,S38,040,040,040,040,040,0401040","SSS~FS~ESSSSS TTTTTT  T~ET~ET M039S93,S74,040,040,040,040,040,0401040","T~ET~ET  UU~DUU~DUU~DUU~DUU~DUM039T35,T10,040,040,040,040,040,0401040","U~DU UUU VV~DVV~DVV~DVV~DVV~DV V M039T74,T46,040,040,040,040,040,0401040","V~DV  WW~DWW~DWW~DWW W WW W WWW WWWM039U13,T82,040,040,040,040,040,0401040","WXX~DXX~DX X X~DX~DX X X~DXX~DXYYM039U55,U18,U54,040,040,040,040,0401040","YY~DY Y Y~DY~EY~EY~EY  ZZZZZZ  M039U97,U90,040,040,040,040,040,0401040","Z~DZ~DZ~DZ~DZ~EZZZZZ~NM039V38,040,040,040,040,040,040,0401040","~Z~O/400080","HELLO"]},"calculation":{"source":"~F* THE POWERS OF TWO: A NUMBER IS ADDED TO ITSELF, TWENTY TIMES\n~PORG  400\n~FSTART~FCS~D332\n~PCS\n~PMLC  HEAD,217\n~PW\n~FNEXT~GCS~D332\n~PCS\n~PA~E+1,COUNT\n~PA~EPOWER,POWER\n~PMCS  COUNT,204\n~PLCA  WORD,217\n~PMCE  POWER,217\n~PW\n~PC~ECOUNT,LAST\n~PBU~DNEXT\n~PH~E*-3\n~FHEAD~GDCW  @THE POWERS OF TWO@\n~FCOUNT~FDCW  000\n~FLAST~GDCW  020\n~FPOWER~FDCW  0000001\n~FWORD~GDCW  @ ,~D,  0@\n~PEND  START\n","cards":[",008015,022029,036040,044051,056060/I99H039C039062B036/1001099",",047055,059063,067071,075079)044056,181L199099)060)081)181/039,0011040","/332/M4862172/332/A509489A499499~HL032431,404,405,412,413,417,418,4251040","Z489204L508217E4992172C489492B413/.466TL039470,439,446,453,454,461,466,4701040","HE POWERS OF TWO0000200000001 ,~D,  0AM039509,487,490,493,500,509,040,0401040","~Z~O/400080"]},"game":{"source":"~F* HIGHER AND LOWER: THE FIRST CARD HAS A SECRET NUMBER OF TWO DIGITS,\n~F* EACH OTHER CARD A GUESS\n~PORG  400\n~FSTART~FSW~D1\n~PR\n~PMLC  2,SECRET\n~PCS~D332\n~PCS\n~PMLC  HEAD,237\n~PW\n~FNEXT~GR~YSTOPS HERE UNTIL A CARD IS FED\n~PCS~D332\n~PCS\n~PA~E+1,COUNT\n~PMLC  2,202\n~PC~E2,SECRET\n~PBE~DFOUND\n~PBH~DMORE\n~PMLC  LOWER,224\n~PW\n~PB~ENEXT\n~FMORE~GMLC  HIGHER,225\n~PW\n~PB~ENEXT\n~FFOUND~FMLC  RIGHT,217\n~PMCS  COUNT,221\n~PMLC  TRIES,230\n~PW\n~PH~E*-3\n~FSECRET~EDCW  00\n~FCOUNT~FDCW  000\n~FHEAD~GDCW  @WHICH NUMBER DO I HAVE, FROM 01 TO 99@\n~FLOWER~FDCW  @THE SECRET IS LOWER@\n~FHIGHER~EDCW  @THE SECRET IS HIGHER@\n~FRIGHT~FDCW  @IS RIGHT AFTER@\n~FTRIES~FDCW  @GUESSES@\n~PEND  START\n","cards":[",008015,022029,036040,044051,056060/I99H039C039062B036/1001099",",047055,059063,067071,075079)044056,181L199099)060)081)181/039,0011040",",0011M002513/332/M55323721~NL026425,404,405,412,416,417,424,4251040","/332/A614516M002202C002513B486SB474UM57L039464,430,431,438,445,452,457,4621040","22242B425M5922252B425M606217Z516221~EM035499,469,470,474,481,482,486,4931040","M6132302.50800000WHICH NUMBER DO I HAVEL039538,507,508,512,514,517,040,0401040",", FROM 01 TO 99THE SECRET IS LOWERTHE SM039577,554,573,040,040,040,040,0401040","ECRET IS HIGHERIS RIGHT AFTERGUESSESA  M039616,593,607,614,040,040,040,0401040","~Z~O/400080"]},"payroll":{"source":"~F* PAYROLL: NAME IN COLUMNS 1 TO 20, HOURS IN 21 TO 23, AND THE RATE\n~F* OF AN HOUR IN CENTS IN 24 TO 27; A CARD WITH AN ASTERISK IS THE LAST\n~PORG  400\n~FSTART~FSW~D1,21\n~PSW~D24\n~PCS~D332\n~PCS\n~PMLC  HEAD,247\n~PW\n~FNEXT~GR\n~PBCE  DONE,1,*\n~PCS~D332\n~PCS\n~PMLC  20,220\n~PMCS  23,225\n~PLCA  SMALL,234\n~PMCE  27,234\n~PZA~D+0,PAY\n~PZA~D23,LEFT\n~FHOUR~GC~ELEFT,+000~LHOURS TIMES RATE, BY ADDING\n~PBE~DPAID\n~PA~E27,PAY\n~PS~E+1,LEFT\n~PB~EHOUR\n~FPAID~GA~EPAY,TOTAL\n~PLCA  WORD,247\n~PMCE  PAY,247\n~PW\n~PB~ENEXT\n~FDONE~GCS~D332\n~PCS\n~PMLC  NAME,220\n~PLCA  WORD,247\n~PMCE  TOTAL,247\n~PW\n~PH~E*-3\n~FHEAD~GDCW  @NAME~QHOURS~FRATE~KPAY@\n~FNAME~GDCW  @TOTAL~P@\n~FLEFT~GDCW  000\n~FPAY~HDCW  00000000\n~FTOTAL~FDCW  00000000\n~FSMALL~FDCW  @ 0.  @\n~FWORD~GDCW  @~D,  0.  @\n~PEND  START\n","cards":[",008015,022029,036040,044051,056060/I99H039C039062B036/1001099",",047055,059063,067071,075079)044056,181L199099)060)081)181/039,0011040",",001021,024/332/M61324721B536001*~GL033432,407,411,415,416,423,424,4251040","/332/M020220Z023225L657234E027234?66864L039471,437,438,445,452,459,466,0401040","4?023636C636671B510SA027644S672636B480AM039510,473,480,487,492,499,506,5101040","644652L667247E6442472B424/332/M633220  M037547,517,524,531,532,536,540,5411040","L667247E6522472.563NAME~QL039586,555,562,563,567,040,040,0401040","HOURS~FRATE~KPAYTOTAL~HM039625,614,040,040,040,040,040,0401040","0000000000000000000 0.~F,  0.  ?00?AL039672,637,645,653,658,668,669,6721040","~Z~O/400080","ANDREWS M.~K0400215","BAKER J.~M0380185","CLARK T.~M0420240","DAVIS R.~M0200150","*"]}};
+const LANGUAGES={};
+let TEXTS;
+function languageWanted(){
+const known=navigator.languages.map(name=>name.slice(0,2)).find(name=>name in LANGUAGES);
+return known||'en';
+}
+function chooseLanguage(name){
+TEXTS=LANGUAGES[name];
+putTexts();
+drawAnew();
+}
+LANGUAGES.en={
+language:'en',name:'English',languageLabel:'language',thousands:',',
+documentTitle:'IBM 1401, seat {seat}',
+skip:'To the deck and the keys',
+headline:'Data processing system',subline:'Shared machine room',
+seatsLabel:'The seats of this room',seats:'seats',seat:'seat {n}',thisSeat:'seat {n}, this one',
+takenSeat:'seat {n}, taken',
+after:{one:'1 command',many:'{n} commands'},afterTitle:'how many commands the machine was given, by all seats',
+answers:'The machine answers.',
+aboutKey:'What am I looking at?',soundKey:'Sound',helpKey:'Keys',closeKey:'Close',yesKey:'Yes',noKey:'No',
+panel:'Operator\'s panel',registerI:'I register',registerA:'A register',registerB:'B register',
+lamps:{UNEQUAL:'unequal',LOW:'low',HIGH:'high',OVERFLOW:'overflow'},
+lampLabel:'{name}: {state}',on:'on',off:'off',
+next:'next instruction',nextNone:'none begins at I',nextEnded:'the program has ended',
+viewKey:'Lamps',bulbAddress:'I',
+switches:'sense switches',switchLabel:'sense switch {name}',
+loadKey:'LOAD',loadTitle:'reads the first card of the hopper into 001 to 080 and goes to 001 (Alt+L)',
+startKey:'START AT',startLabel:'address of the next instruction',startTitle:'sets the I register; RUN starts',
+runKey:'RUN',runTitle:'carries out instructions until the program stops (Alt+R)',
+stopKey:'STOP',stopTitle:'ends the run after its present part (Escape)',
+stepKey:'STEP',stepTitle:'carries out one instruction (Alt+N)',
+pace:'pace of RUN',
+paces:['10 steps a second','100 a second','1,000 a second','4,000 a second','1,000,000 a second',
+'the pace of 1960'],
+running:'running: {steps} steps',
+waits:{READER:'The run waits for the next cards.',FORMS:'The run waits: tear the paper off.',
+STACKER:'The run waits: take the punched cards.'},
+core:'Core storage',tabsLabel:'which 600 places are shown',
+findLabel:'address',findKey:'Show',follow:'follow I',
+findWrong:'Core storage has the places 0000 to {last}.',
+coreLabel:'core storage from {from} on; the arrow keys go from place to place',
+operations:{
+A:'add',S:'subtract',ZA:'zero and add',ZS:'zero and subtract',MCW:'move characters',
+LCA:'load characters',MN:'move the digit',MZ:'move the zone',SW:'set word marks',CW:'clear word marks',
+CS:'clear storage',C:'compare',MCS:'move and suppress zeros',MCE:'move and edit',B:'branch',
+BWZ:'branch by word mark or zone',BW:'branch on a word mark',BU:'branch if unequal',BE:'branch if equal',
+BL:'branch if low',BH:'branch if high',BAV:'branch on overflow',BLC:'branch after the last card',
+BC9:'branch at channel 9',BCV:'branch at channel 12',BSS:'branch by a sense switch',
+BCE:'branch if the character is equal',SAR:'store the A register',SBR:'store the B register',
+NOP:'no operation',H:'halt',SS:'select a stacker',R:'read a card',W:'print a line',WM:'print word marks',
+P:'punch a card',WR:'print and read',RP:'read and punch',WP:'print and punch',WRP:'print, read and punch',
+CC:'control the carriage',
+},
+legendRead:'card read 001-080',legendPunch:'card punched 101-180',legendPrint:'line printed 201-332',
+legendNext:'next instruction',legendMark:'word mark',
+coreText:'These places as text (~ before a word mark)',
+blank:'blank',withMark:' with a word mark',cellLabel:'{at} {graphic}{mark}',noBits:'none',noHoles:'no hole',
+cell:'{at}: {graphic}{mark}. Bits {bits}; on a card {holes}.',
+cellHint:'Choose a place to see its bits and its holes.',
+sourceTitle:'The program: {name}',sourceLabel:'the source of the program',
+feeder:'Card reader',programLabel:'program',feedKey:'Feed this program',readStation:'read station',
+transportLabel:'hopper: {hopper} cards; read: {station}; stacker: {stacker} cards',
+cards:'Cards',dropHere:'a deck can be dropped anywhere',hopper:'hopper',stacker:'punched',
+cardRead:'Places 001 to 080 as a card',
+cardNext:'Next card in the hopper',cardNoNext:'The hopper is empty',
+cardPunched:'Card punched last',cardNoPunched:'No punched card waits',
+cardLabel:'punched card: {text}',cardBlank:'blank card',cardNone:'no card',
+cardPrintKey:'Print the card with your name',
+pickKey:'From a file',
+cardKey:'Take a punched card',cardTitle:'takes the oldest card from the stacker, for good',
+allCardsKey:'Take all punched cards',takingCards:'{n} of {all} cards taken',takeStop:'Stop taking',
+takenAll:{one:'1 card was taken.',many:'{n} cards were taken.'},
+saveCardsKey:'Save taken cards',feedAgainKey:'Feed taken cards again',
+taken:'Card taken: {text}',takenBlank:'A blank card was taken.',
+typedDeck:'Type or paste a deck, a card a line',deckKey:'Feed these cards',
+feedingLabel:'cards fed',feedingCount:'{n} of {all} cards fed',feedStop:'Stop feeding',
+feedWaits:'The hopper is full. Feeding goes on when the machine has read some cards. {n} of {all} fed.',
+fedAll:{one:'The card was fed.',many:'{n} cards were fed.'},
+fedName:'The card of {name} is in the hopper.',
+fedPart:'Cards fed: {n} of {all}. Then it ended: {why}',stoppedByYou:'you stopped it',
+alreadyFeeding:'Another deck is being fed.',deckEmpty:'The deck has no cards.',
+deckLarge:'The file is larger than a deck of 10,000 cards.',deckUnread:'The file couldn\'t be read.',
+deckWrong:'Nothing was fed. Line {line}, column {column}: {what}',
+noGraphic:'no card has this character',noAccent:'no card has {letter}; write {spelt}',
+tooLong:'a card has 80 columns',
+keypunch:'Keypunch: make a card',keyedLabel:'the card\'s columns',releaseKey:'RELEASE: feed this card',
+programKey:'The hello card, to change its columns 41 to 80',columnTold:'next column: {n}',
+cardFull:'all 80 columns are full',
+columnWrong:'Column {column}: {what}.',keyboardLabel:'the keypunch\'s keys; the arrow keys go from key to key',
+keys:{space:'SPACE',back:'BACK',dup:'DUP',clear:'CLEAR'},
+dupTitle:'copies this column of the card released last',keyTitle:'key {graphic}',
+printer:'Printer',paperLabel:'the paper in the printer',formLabel:'form {form}',
+paperAt:{one:'form {form}, line {line}; 1 line printed',many:'form {form}, line {line}; {n} lines printed'},
+tapeLabel:'carriage tape: channel 1 at line 4, channel 9 at line 60, channel 12 at line 63; '
++ 'the carriage is at line {line}',
+tearKey:'Tear off',tearTitle:'takes the printed lines from the printer, for good (Alt+T)',
+tearAsk:{one:'This takes the printed line from the printer, and no other seat sees it any more. '
++ 'This page keeps it, to be saved or printed. Tear the paper off?',
+many:'This takes {n} printed lines from the printer, and no other seat sees them any more. '
++ 'This page keeps them, to be saved or printed. Tear the paper off?'},
+tearing:'{n} of {all} lines taken',noPaper:'There is no printed line.',
+torn:{one:'torn off, and here to be saved: 1 line',many:'torn off, and here to be saved: {n} lines'},
+dropKey:'Throw away',dropAsk:'Throw away the torn-off paper?',
+saveKey:'Save as text',printKey:'Print',largeKey:'Larger',toCarriage:'To the carriage',
+console:'Console',logLabel:'lines and replies',lineLabel:'a line of the console',lineHint:'EXAMINE 0500 11',
+sendKey:'SEND',linesTitle:'The lines, and what they do (or type HELP)',
+others:{one:'others gave 1 command since you came',many:'others gave {n} commands since you came'},
+othersNow:'Another seat is at work, on this machine too.',
+othersRun:'Another seat runs a program: LOAD, RUN, STEP and START AT would act in the middle of it.',
+othersRunning:'another seat runs a program',
+seatNow:'Seat {seat} is at work ({line}), on this machine too.',
+seatRun:'Seat {seat} runs a program: LOAD, RUN, STEP and START AT would act in the middle of it.',
+seatRunning:'seat {seat} runs a program',seatLast:'; the last command is of seat {seat}: {line}',
+holdKey:'Hold the machine',releaseHold:'Let others go on',
+holdTitle:'for a minute no other page gives the machine lines; consoles still do',
+holder:'You hold the machine: the keys of the other pages are off.',
+keptOff:'Seat {seat} holds the machine, so the keys are off here.',secondsLeft:'({n} s)',
+fedInLog:{one:'(1 card fed)',many:'({n} cards fed)'},tornInLog:{one:'(1 line taken)',
+many:'({n} lines taken)'},
+cardsInLog:{one:'(1 card taken)',many:'({n} cards taken)'},
+notText:'A line has only letters, digits and signs of the 1401.',
+footer:'A simulated IBM 1401. All that you see is of one moment, after the number of commands at the top.',
+lost:'The machine doesn\'t answer, so the keys are off. This page tries again.',
+closed:'The room is closed: the machine has been put away. This page tries again.',
+taken503:'Somebody sits at this seat with a console. This page goes on when that operator has left.',
+busy:'Too many requests wait at this page. It tries again.',
+unkept:'The journal\'s file can\'t be written, so the machine takes no more commands. Please call the staff.',
+renewal:{one:'This machine is put away in 1 second, and a new one follows.',
+many:'This machine is put away in {n} seconds, and a new one follows.'},
+full:'The journal is full, so the machine takes no more commands. Please call the staff.',
+nearlyFull:'The journal has {n} of its 100,000 entries. Please call the staff.',
+refusedStatus:'The server refused what this page asked for ({status}).',
+unread:'This page doesn\'t understand what the server shows. Is the page of another version?',
+noMemory:'The server had no memory for a picture. This page tries again.',
+outcomes:{
+off:'Not sent: the machine doesn\'t take commands now.',
+broken:'Not sent: it was meant for the machine before the connection broke.',
+409:'Not carried out: this seat has given another command meanwhile, perhaps in another window. '
++ 'Look, and send it again.',
+403:'Not carried out: the server doesn\'t take lines from this page.',
+410:'Not carried out: the room is closed.',
+423:'Not carried out: seat {seat} holds the machine for {left} more seconds.',
+503:'Not carried out: a console sits at this seat.',
+busy:'Not carried out: too many requests wait at this page.',
+507:'Carried out, but there was no memory for its reply.',
+500:'Carried out, but its entry wasn\'t kept in the journal\'s file.',
+other:'Not carried out: the server refused it ({status}).',
+},
+lostAsking:'The connection failed while this line was sent. This page doesn\'t send it again; it looks first.',
+lostDone:'It was carried out; its reply was lost.',
+lostNotDone:'It was not carried out so far.',
+lostNewRoom:'The room was opened again since, so this page can\'t say whether it was carried out.',
+lostUnclear:'This seat has given {n} commands since, so this page can\'t tell whether it was carried out.',
+said:{
+firstNote:'Here is each line that you and the keys send to the machine, with its reply.',
+welcome:'Choose a program and feed it, press LOAD, then RUN.',
+welcomeCards:{one:'There is 1 card in the hopper. LOAD reads it.',
+many:'There are {n} cards in the hopper. LOAD reads the first one.'},
+welcomeProgram:'A program is in core storage. RUN carries it out.',
+welcomePrepared:'The staff has put a program into core storage. START AT its address, then RUN.',
+load:'The first card was read into 001 to 080. RUN carries it out.',
+start:'The I register is set. RUN begins there.',
+step:'One instruction was carried out.',
+limit:{one:'1 instruction was carried out, as asked. RUN goes on.',
+many:'{n} instructions were carried out, as asked. RUN goes on.'},
+stopped:{one:'Stopped by you after 1 step. RUN goes on.',many:'Stopped by you after {n} steps. RUN goes on.'},
+pause:'Paused after {steps} steps, since the journal is nearly full. Please call the staff.',
+afterEnd:'The program has ended. Feed another one and press LOAD. (Press again to go on after its halt.)',
+newRoom:'The staff has started another machine. What you did before isn\'t in it.',
+resumed:'The room was opened again; its machine is as you see it.',
+renewing:'A new machine is asked for ..',
+clearing:'The machine is being cleared ..',clear:'The machine is clear: no card, no paper, nothing in core.',
+prepared:'A new machine is here, with what the staff has prepared.',
+notClear:'The machine isn\'t clear. Perhaps somebody else is at work. Try again.',
+},
+stops:{
+HALT:'The program has ended. Its result is on the paper; feed another program and press LOAD.',
+READER:'The reader is empty: feed cards, then RUN.',
+FORMS:'The printer has 500 lines: tear the paper off, then RUN.',
+STACKER:'The stacker has 500 cards: take the punched cards, then RUN.',
+NOMARK:'No instruction begins at I: there is no word mark at that place.',
+OPCODE:'The character at I is no operation.',
+NOTFITTED:'The operation at I belongs to a feature that this machine hasn\'t got.',
+LENGTH:'The instruction at I has a length that its operation doesn\'t have. Is a word mark missing?',
+ADDRESS:'The instruction at I needs a place that isn\'t in core, or a field without an end.',
+OVERLAP:'The fields of the instruction at I share places.',
+CARRIAGE:'A skip to a channel without a hole in the carriage tape: it has 1, 9 and 12.',
+DCHAR:'The last character of the instruction at I asks for nothing that it can do.',
+},
+replies:{
+'REFUSED 1':'That place isn\'t in core.',
+'REFUSED 2':'The hopper holds 500 cards, and is full.',
+'REFUSED 3':'There is no card in the hopper. Feed a deck first.',
+'REFUSED 4':'There is nothing to take.',
+'REFUSED 5':'RUN takes 1 to 1,000,000 instructions.',
+'REFUSED 6':'EXAMINE shows 1 to 40 places.',
+'ERROR 1':'A word isn\'t known. HELP shows the lines.',
+'ERROR 2':'A number or an address is missing, or isn\'t one.',
+'ERROR 3':'A character that no card and no place has, or a ~ with none after it.',
+'ERROR 4':'The text is empty or too long.',
+'ERROR 5':'Something follows the end of the line\'s command.',
+'FAULT 1':'The memory for the journal\'s next entry was refused.',
+'FAULT 2':'The journal is full.',
+'FAULT 3':'The command wasn\'t carried out: the seat couldn\'t be compared with the journal.',
+'FAULT 4':'The journal\'s file can\'t be written.',
+'GLANCE FAULT 1':'That place isn\'t in core.',
+'GLANCE FAULT 2':'There was nothing to read.',
+BYE:'The seat stays; the next line takes it up again.',
+},
+lines:[
+['DEPOSIT 0500 ~ABC','puts characters into core from 0500 on; ~ sets a word mark on the next one'],
+['EXAMINE 0500 11','shows 11 places from 0500 on, 40 at most'],
+['REGS','shows registers, indicators, switches, cards and paper'],
+['START 0600','sets the I register'],
+['SWITCH A ON','turns a sense switch on, or OFF; A to G'],
+['FEED HELLO','puts a card into the hopper; FEED alone a blank one'],
+['LOAD','the load key'],
+['RUN 1000','carries out 1,000 instructions at most; 1,000,000 are the most'],
+['LINE','takes the oldest printed line'],
+['CARD','takes the oldest punched card'],
+['GLANCE 0500','shows a place without a command'],
+['HELP','shows this list; it isn\'t sent'],
+],
+guideTitle:'Your first program',guideOn:'Begin the guide',guideOff:'Without the guide',
+guideSteps:['Feed','LOAD','STEP','RUN','Your name'],stepDone:'step {n}, {name}: done',
+stepOpen:'step {n}, {name}',
+guideWords:[
+'Press "Feed this program": a card with the program Hello goes into the hopper. One card is a whole program.',
+'Press LOAD: the machine reads the card into its places 001 to 080.',
+'Press STEP: the machine carries out one instruction. The first ones set word marks, which divide the '
++ 'card into instructions.',
+'Press RUN: the machine carries out the others, prints a line, and halts. Watch the paper.',
+'The line is on the paper. Now your name: write it here, and punch a card of your own.',
+'Your card is in the hopper. Press LOAD to read it.',
+'Press RUN, and look at the paper.',
+],
+guide:{
+off:'The guide leads you to a printed line with your name, in about two minutes.',
+left:'Somebody has left cards, paper or a program in the machine. Press "Start afresh" to clear it; or go on '
++ 'with it.',
+prepared:'The staff has prepared this machine: it was begun with a program or with cards. Press LOAD if there are '
++ 'cards, then RUN. "Start afresh" would clear it.',
+preparedAgain:'The staff has prepared this machine: it was begun with a program or with cards. Press LOAD if '
++ 'there are cards, then RUN. "Start afresh" brings a new one, prepared in the same way.',
+aside:'The guide has stepped aside. It begins again when you like.',
+done:'Your name is on the paper. Save it, print the card to take home, or choose another program.',
+attract:'Nobody is here, so the machine runs by itself. Touch the screen or a key to take over.',
+waits:'(The guide waits here.)',
+},
+nameLabel:'Your name',nameKey:'Punch and feed',nameEmpty:'Write a name first.',
+nameWrong:'No card has {letter}.',
+afreshKey:'Start afresh',afreshTitle:'clears the machine: cards, paper, switches and core storage',
+afreshAsk:'This clears the machine for everybody: cards, paper, switches and core storage. What this page has torn '
++ 'off and taken goes too. Start afresh?',
+afreshOthers:'Another seat is at work at this moment, and would lose its cards, paper and program. Start '
++ 'afresh all the same?',
+programs:{
+hello:{name:'Hello',about:'One card: its first columns are instructions, the rest is the text that they print.',
+fed:'The card is in the hopper. Press LOAD, then RUN, and look at the printer.'},
+banner:{name:'Banner',about:'Reads cards, and prints the letters of columns 1 to 20, each seven lines high.',
+fed:'Press LOAD, then RUN. Then punch a card with a name, and RUN.'},
+calculation:{name:'Calculation',about:'A table of the powers of two, each added to itself.',
+fed:'Press LOAD, then RUN. At a pace of 100 steps a second you can watch it add.'},
+payroll:{name:'Payroll',about:'Reads a card for each worker, with hours and the rate in cents; multiplies '
++ 'by adding, '
++ 'edits the amounts, and prints the total.',fed:'Press LOAD, then RUN.'},
+game:{name:'Higher and lower',about:'The last card of the deck has a secret number from 01 to 99. Punch '
++ 'your guess, two '
++ 'digits, on a card, press RELEASE and RUN: the machine prints whether the secret is higher or lower.',
+fed:'Press LOAD, then RUN. Then punch a card with your guess, two digits, and RUN again.'},
+listing:{name:'Listing',about:'Lists and copies the cards after it. Turn sense switch A on before RUN; '
++ 'then it halts '
++ 'after the last card.',fed:'Turn sense switch A on, press LOAD, then RUN. At 100 steps a second you can '
++ 'watch it.'},
+},
+aboutFirst:'This is a simulated IBM 1401, a computer of 1959, with its card reader, its punch and its printer. '
++ 'All that you '
++ 'see is one machine, which everybody in this room shares.',
+aboutDrawing:'Cards go from the reader to the processing unit, and results from there to the printer and the punch.',
+aboutParts:{reader:['Card reader','and punch'],unit:['Processing unit','with core storage'],
+printer:['Printer','132 columns'],
+below:['800 cards a minute','1,400 to 16,000 places','600 lines a minute']},
+wordsTitle:'Ten words',
+aboutWords:[
+['card','a piece of cardboard with 80 columns; the holes in a column are a letter, a digit or a sign'],
+['hopper','where the cards lie that are read next'],
+['LOAD','the key that reads the first card into places 001 to 080 and begins there'],
+['core storage','the memory, of small magnetic rings: each place has one character'],
+['word mark','a bit next to a character; it says where a field or an instruction begins'],
+['instruction','a character for the operation, and addresses of what it works on'],
+['I register','the place of the next instruction'],
+['sense switch','a switch that a program can ask for'],
+['form','a page of the endless paper, with 66 lines'],
+['carriage tape','a loop of paper with holes, which says where the paper stops'],
+],
+numbersTitle:'Where the numbers come from',
+aboutNumbers:'The page asks the machine four times a second, and each picture is of one moment. At the pace of '
++ '1960 it waits '
++ 'as long as the reader, the punch and the printer took. Each operation of the simulator was proved correct.',
+shortcutsTitle:'Keys',
+shortcuts:[
+['Alt+F','feeds the chosen program'],['Alt+L','LOAD'],['Alt+R','RUN'],['Escape','STOP'],['Alt+N',
+'STEP'],['Alt+T','tear the paper off'],
+['Alt+C','to the console line; the arrow keys up and down bring back earlier lines'],
+['Alt+A','to the address of core storage'],['Alt+K','to the keypunch; Enter releases the card'],
+['Alt+P','to the paper; the arrow keys move it'],
+['Tab, arrow keys','from part to part; in core storage the arrow keys go from place to place'],
+],
+};
+LANGUAGES.de={
+language:'de',name:'Deutsch',languageLabel:'Sprache',thousands:'.',
+documentTitle:'IBM 1401, Platz {seat}',
+skip:'Zum Stapel und zu den Tasten',
+headline:'Datenverarbeitungssystem',subline:'Gemeinsamer Maschinenraum',
+seatsLabel:'Die Pl\xe4tze dieses Raums',seats:'Pl\xe4tze',seat:'Platz {n}',thisSeat:'Platz {n}, dieser hier',
+takenSeat:'Platz {n}, besetzt',
+after:{one:'1 Befehl',many:'{n} Befehle'},afterTitle:'wie viele Befehle die Maschine von allen Pl\xe4tzen bekam',
+answers:'Die Maschine antwortet.',
+aboutKey:'Was sehe ich hier?',soundKey:'Ton',helpKey:'Tasten',closeKey:'Schlie\xdfen',yesKey:'Ja',
+noKey:'Nein',
+panel:'Bedienfeld',registerI:'I-Register',registerA:'A-Register',registerB:'B-Register',
+lamps:{UNEQUAL:'ungleich',LOW:'kleiner',HIGH:'gr\xf6\xdfer',OVERFLOW:'\xdcberlauf'},
+lampLabel:'{name}: {state}',on:'an',off:'aus',
+next:'n\xe4chster Befehl',nextNone:'bei I beginnt keiner',nextEnded:'das Programm ist zu Ende',
+viewKey:'Lampen',bulbAddress:'I',
+switches:'Schalter',switchLabel:'Schalter {name}',
+loadKey:'LOAD',loadTitle:'liest die erste Karte des Magazins nach 001 bis 080 und geht zu 001 (Alt+L)',
+startKey:'START AT',startLabel:'Adresse des n\xe4chsten Befehls',startTitle:'setzt das I-Register; RUN startet',
+runKey:'RUN',runTitle:'f\xfchrt Befehle aus, bis das Programm anh\xe4lt (Alt+R)',
+stopKey:'STOP',stopTitle:'beendet den Lauf nach seinem jetzigen Teil (Escape)',
+stepKey:'STEP',stepTitle:'f\xfchrt einen Befehl aus (Alt+N)',
+pace:'Tempo von RUN',
+paces:['10 Schritte je Sekunde','100 je Sekunde','1.000 je Sekunde','4.000 je Sekunde','1.000.000 je Sekunde',
+'das Tempo von 1960'],
+running:'l\xe4uft: {steps} Schritte',
+waits:{READER:'Der Lauf wartet auf die n\xe4chsten Karten.',FORMS:'Der Lauf wartet: Papier abrei\xdfen.',
+STACKER:'Der Lauf wartet: gestanzte Karten nehmen.'},
+core:'Kernspeicher',tabsLabel:'welche 600 Stellen gezeigt werden',
+findLabel:'Adresse',findKey:'Zeigen',follow:'I folgen',
+findWrong:'Der Kernspeicher hat die Stellen 0000 bis {last}.',
+coreLabel:'Kernspeicher ab {from}; die Pfeiltasten gehen von Stelle zu Stelle',
+operations:{
+A:'addieren',S:'subtrahieren',ZA:'l\xf6schen und addieren',ZS:'l\xf6schen und subtrahieren',
+MCW:'Zeichen \xfcbertragen',LCA:'Zeichen laden',MN:'Ziffer \xfcbertragen',MZ:'Zone \xfcbertragen',
+SW:'Wortmarken setzen',CW:'Wortmarken l\xf6schen',CS:'Speicher l\xf6schen',C:'vergleichen',
+MCS:'\xfcbertragen, Nullen unterdr\xfccken',MCE:'\xfcbertragen und aufbereiten',B:'springen',
+BWZ:'springen bei Wortmarke oder Zone',BW:'springen bei Wortmarke',BU:'springen, wenn ungleich',
+BE:'springen, wenn gleich',BL:'springen, wenn kleiner',BH:'springen, wenn gr\xf6\xdfer',
+BAV:'springen bei \xdcberlauf',BLC:'springen nach der letzten Karte',BC9:'springen bei Kanal 9',
+BCV:'springen bei Kanal 12',BSS:'springen nach einem Schalter',BCE:'springen, wenn das Zeichen gleich ist',
+SAR:'A-Register speichern',SBR:'B-Register speichern',NOP:'keine Operation',H:'anhalten',
+SS:'Ablage w\xe4hlen',R:'Karte lesen',W:'Zeile drucken',WM:'Wortmarken drucken',P:'Karte stanzen',
+WR:'drucken und lesen',RP:'lesen und stanzen',WP:'drucken und stanzen',WRP:'drucken, lesen und stanzen',
+CC:'Vorschub steuern',
+},
+legendRead:'gelesene Karte 001-080',legendPunch:'gestanzte Karte 101-180',legendPrint:'Druckzeile 201-332',
+legendNext:'n\xe4chster Befehl',legendMark:'Wortmarke',
+coreText:'Diese Stellen als Text (~ vor einer Wortmarke)',
+blank:'leer',withMark:' mit Wortmarke',cellLabel:'{at} {graphic}{mark}',noBits:'keine',noHoles:'kein Loch',
+cell:'{at}: {graphic}{mark}. Bits {bits}; auf einer Karte {holes}.',
+cellHint:'Eine Stelle zeigt ihre Bits und ihre L\xf6cher.',
+sourceTitle:'Das Programm: {name}',sourceLabel:'der Quelltext des Programms',
+feeder:'Kartenleser',programLabel:'Programm',feedKey:'Programm einlegen',readStation:'Lesestation',
+transportLabel:'Magazin: {hopper} Karten; gelesen: {station}; Ablage: {stacker} Karten',
+cards:'Karten',dropHere:'ein Stapel kann \xfcberall abgelegt werden',hopper:'Magazin',stacker:'gestanzt',
+cardRead:'Stellen 001 bis 080 als Karte',
+cardNext:'N\xe4chste Karte im Magazin',cardNoNext:'Das Magazin ist leer',
+cardPunched:'Zuletzt gestanzte Karte',cardNoPunched:'Keine gestanzte Karte wartet',
+cardLabel:'Lochkarte: {text}',cardBlank:'leere Karte',cardNone:'keine Karte',
+cardPrintKey:'Karte mit Ihrem Namen drucken',
+pickKey:'Aus einer Datei',
+cardKey:'Gestanzte Karte nehmen',cardTitle:'nimmt die \xe4lteste Karte aus der Ablage, endg\xfcltig',
+allCardsKey:'Alle gestanzten Karten nehmen',takingCards:'{n} von {all} Karten genommen',takeStop:'Aufh\xf6ren',
+takenAll:{one:'1 Karte wurde genommen.',many:'{n} Karten wurden genommen.'},
+saveCardsKey:'Genommene Karten sichern',feedAgainKey:'Genommene Karten wieder einlegen',
+taken:'Karte genommen: {text}',takenBlank:'Eine leere Karte wurde genommen.',
+typedDeck:'Einen Stapel tippen oder einf\xfcgen, eine Karte je Zeile',deckKey:'Diese Karten einlegen',
+feedingLabel:'eingelegte Karten',feedingCount:'{n} von {all} Karten eingelegt',feedStop:'Aufh\xf6ren',
+feedWaits:'Das Magazin ist voll. Es geht weiter, wenn die Maschine Karten gelesen hat. {n} von {all} eingelegt.',
+fedAll:{one:'Die Karte wurde eingelegt.',many:'{n} Karten wurden eingelegt.'},
+fedName:'Die Karte von {name} liegt im Magazin.',
+fedPart:'Eingelegte Karten: {n} von {all}. Dann war Schluss: {why}',stoppedByYou:'Sie haben aufgeh\xf6rt',
+alreadyFeeding:'Ein anderer Stapel wird gerade eingelegt.',deckEmpty:'Der Stapel hat keine Karten.',
+deckLarge:'Die Datei ist gr\xf6\xdfer als ein Stapel von 10.000 Karten.',deckUnread:'Die Datei lie\xdf sich nicht lesen.',
+deckWrong:'Nichts wurde eingelegt. Zeile {line}, Spalte {column}: {what}',
+noGraphic:'keine Karte hat dieses Zeichen',noAccent:'keine Karte hat {letter}; schreiben Sie {spelt}',
+tooLong:'eine Karte hat 80 Spalten',
+keypunch:'Kartenlocher: eine Karte machen',keyedLabel:'die Spalten der Karte',
+releaseKey:'RELEASE: Karte einlegen',
+programKey:'Die Hallo-Karte, um ihre Spalten 41 bis 80 zu \xe4ndern',columnTold:'n\xe4chste Spalte: {n}',
+cardFull:'alle 80 Spalten sind voll',columnWrong:'Spalte {column}: {what}.',
+keyboardLabel:'die Tasten des Lochers; die Pfeiltasten gehen von Taste zu Taste',
+keys:{space:'LEER',back:'ZUR\xdcCK',dup:'DUP',clear:'L\xd6SCHEN'},
+dupTitle:'kopiert diese Spalte der letzten Karte',keyTitle:'Taste {graphic}',
+printer:'Drucker',paperLabel:'das Papier im Drucker',formLabel:'Blatt {form}',
+paperAt:{one:'Blatt {form}, Zeile {line}; 1 Zeile gedruckt',many:'Blatt {form}, Zeile {line}; {n} Zeilen '
++ 'gedruckt'},
+tapeLabel:'Vorschubstreifen: Kanal 1 bei Zeile 4, Kanal 9 bei Zeile 60, Kanal 12 bei Zeile 63; '
++ 'der Vorschub ist bei Zeile {line}',
+tearKey:'Abrei\xdfen',tearTitle:'nimmt die gedruckten Zeilen aus dem Drucker, endg\xfcltig (Alt+T)',
+tearAsk:{one:'Das nimmt die gedruckte Zeile aus dem Drucker, und kein anderer Platz sieht sie mehr. '
++ 'Diese Seite beh\xe4lt sie, zum Sichern oder Drucken. Abrei\xdfen?',
+many:'Das nimmt {n} gedruckte Zeilen aus dem Drucker, und kein anderer Platz sieht sie mehr. '
++ 'Diese Seite beh\xe4lt sie, zum Sichern oder Drucken. Abrei\xdfen?'},
+tearing:'{n} von {all} Zeilen genommen',noPaper:'Es gibt keine gedruckte Zeile.',
+torn:{one:'abgerissen und noch hier: 1 Zeile',many:'abgerissen und noch hier: {n} Zeilen'},
+dropKey:'Wegwerfen',dropAsk:'Das abgerissene Papier wegwerfen?',
+saveKey:'Als Text sichern',printKey:'Drucken',largeKey:'Gr\xf6\xdfer',toCarriage:'Zum Vorschub',
+console:'Konsole',logLabel:'Zeilen und Antworten',lineLabel:'eine Zeile der Konsole',
+lineHint:'EXAMINE 0500 11',
+sendKey:'SENDEN',linesTitle:'Die Zeilen, und was sie tun (oder HELP)',
+others:{one:'andere gaben 1 Befehl, seit Sie da sind',many:'andere gaben {n} Befehle, seit Sie da sind'},
+othersNow:'Ein anderer Platz arbeitet auch an dieser Maschine.',
+othersRun:'Ein anderer Platz l\xe4sst ein Programm laufen: LOAD, RUN, STEP und START AT w\xfcrden mitten darin wirken.',
+othersRunning:'ein anderer Platz l\xe4sst ein Programm laufen',
+seatNow:'Platz {seat} arbeitet auch an dieser Maschine ({line}).',
+seatRun:'Platz {seat} l\xe4sst ein Programm laufen: LOAD, RUN, STEP und START AT w\xfcrden mitten darin wirken.',
+seatRunning:'Platz {seat} l\xe4sst ein Programm laufen',seatLast:'; der letzte Befehl ist von Platz {seat}: {line}',
+holdKey:'Maschine halten',releaseHold:'Andere weitermachen lassen',
+holdTitle:'eine Minute lang gibt keine andere Seite der Maschine Zeilen; Konsolen schon',
+holder:'Sie halten die Maschine: die Tasten der anderen Seiten sind aus.',
+keptOff:'Platz {seat} h\xe4lt die Maschine, darum sind die Tasten hier aus.',secondsLeft:'({n} s)',
+fedInLog:{one:'(1 Karte eingelegt)',many:'({n} Karten eingelegt)'},
+tornInLog:{one:'(1 Zeile genommen)',many:'({n} Zeilen genommen)'},
+cardsInLog:{one:'(1 Karte genommen)',many:'({n} Karten genommen)'},
+notText:'Eine Zeile hat nur Buchstaben, Ziffern und Zeichen der 1401.',
+footer:'Eine simulierte IBM 1401. Alles, was Sie sehen, ist von einem Augenblick, nach so vielen Befehlen wie oben.',
+lost:'Die Maschine antwortet nicht, darum sind die Tasten aus. Diese Seite versucht es weiter.',
+closed:'Der Raum ist geschlossen: die Maschine wurde wegger\xe4umt. Diese Seite versucht es weiter.',
+taken503:'An diesem Platz sitzt jemand mit einer Konsole. Diese Seite geht weiter, wenn er gegangen ist.',
+busy:'Zu viele Anfragen warten bei dieser Seite. Sie versucht es weiter.',
+unkept:'Die Datei des Journals l\xe4sst sich nicht schreiben; die Maschine nimmt keine Befehle an. Bitte das '
++ 'Personal rufen.',
+renewal:{one:'Diese Maschine wird in 1 Sekunde wegger\xe4umt, und eine neue folgt.',
+many:'Diese Maschine wird in {n} Sekunden wegger\xe4umt, und eine neue folgt.'},
+full:'Das Journal ist voll; die Maschine nimmt keine Befehle mehr an. Bitte das Personal rufen.',
+nearlyFull:'Das Journal hat {n} seiner 100.000 Eintr\xe4ge. Bitte das Personal rufen.',
+refusedStatus:'Der Server hat abgelehnt, was diese Seite wollte ({status}).',
+unread:'Diese Seite versteht nicht, was der Server zeigt. Ist sie von einer anderen Version?',
+noMemory:'Der Server hatte keinen Speicher f\xfcr ein Bild. Diese Seite versucht es weiter.',
+outcomes:{
+off:'Nicht gesendet: die Maschine nimmt jetzt keine Befehle an.',
+broken:'Nicht gesendet: es war f\xfcr die Maschine vor dem Abbruch der Verbindung gemeint.',
+409:'Nicht ausgef\xfchrt: dieser Platz hat inzwischen etwas anderes befohlen, vielleicht in einem anderen Fenster. '
++ 'Sehen Sie nach, und senden Sie es noch einmal.',
+403:'Nicht ausgef\xfchrt: der Server nimmt keine Zeilen von dieser Seite.',
+410:'Nicht ausgef\xfchrt: der Raum ist geschlossen.',
+423:'Nicht ausgef\xfchrt: Platz {seat} h\xe4lt die Maschine noch {left} Sekunden lang.',
+503:'Nicht ausgef\xfchrt: an diesem Platz sitzt eine Konsole.',
+busy:'Nicht ausgef\xfchrt: zu viele Anfragen warten bei dieser Seite.',
+507:'Ausgef\xfchrt, aber f\xfcr die Antwort war kein Speicher da.',
+500:'Ausgef\xfchrt, aber der Eintrag steht nicht in der Datei des Journals.',
+other:'Nicht ausgef\xfchrt: der Server hat es abgelehnt ({status}).',
+},
+lostAsking:'Die Verbindung brach ab, als diese Zeile gesendet wurde. Diese Seite sendet sie nicht noch einmal, '
++ 'sie sieht erst nach.',
+lostDone:'Sie wurde ausgef\xfchrt; ihre Antwort ging verloren.',
+lostNotDone:'Sie wurde bis jetzt nicht ausgef\xfchrt.',
+lostNewRoom:'Der Raum wurde seitdem neu ge\xf6ffnet; ob sie ausgef\xfchrt wurde, l\xe4sst sich nicht sagen.',
+lostUnclear:'Dieser Platz hat seitdem {n} Befehle gegeben; ob sie ausgef\xfchrt wurde, l\xe4sst sich nicht sagen.',
+said:{
+firstNote:'Hier steht jede Zeile, die Sie und die Tasten an die Maschine senden, mit ihrer Antwort.',
+welcome:'W\xe4hlen Sie ein Programm und legen Sie es ein; dann LOAD, dann RUN.',
+welcomeCards:{one:'Im Magazin liegt 1 Karte. LOAD liest sie.',
+many:'Im Magazin liegen {n} Karten. LOAD liest die erste.'},
+welcomeProgram:'Ein Programm ist im Kernspeicher. RUN f\xfchrt es aus.',
+welcomePrepared:'Das Museum hat ein Programm in den Kernspeicher gelegt. START AT seine Adresse, dann RUN.',
+load:'Die erste Karte wurde nach 001 bis 080 gelesen. RUN f\xfchrt sie aus.',
+start:'Das I-Register ist gesetzt. RUN beginnt dort.',
+step:'Ein Befehl wurde ausgef\xfchrt.',
+limit:{one:'1 Befehl wurde ausgef\xfchrt, wie verlangt. RUN geht weiter.',
+many:'{n} Befehle wurden ausgef\xfchrt, wie verlangt. RUN geht weiter.'},
+stopped:{one:'Von Ihnen angehalten nach 1 Schritt. RUN geht weiter.',
+many:'Von Ihnen angehalten nach {n} Schritten. RUN geht weiter.'},
+pause:'Pause nach {steps} Schritten, denn das Journal ist fast voll. Bitte das Personal rufen.',
+afterEnd:'Das Programm ist zu Ende. Legen Sie ein anderes ein und dr\xfccken Sie LOAD. (Noch einmal: weiter '
++ 'nach dem Halt.)',
+newRoom:'Das Personal hat eine andere Maschine gestartet. Was Sie vorher taten, ist nicht darin.',
+resumed:'Der Raum wurde neu ge\xf6ffnet; seine Maschine ist, wie Sie sie sehen.',
+renewing:'Eine neue Maschine wird verlangt ..',
+clearing:'Die Maschine wird geleert ..',clear:'Die Maschine ist leer: keine Karte, kein Papier, nichts im '
++ 'Speicher.',
+prepared:'Eine neue Maschine ist da, mit dem, was das Museum vorbereitet hat.',
+notClear:'Die Maschine ist nicht leer. Vielleicht arbeitet jemand anders. Versuchen Sie es noch einmal.',
+},
+stops:{
+HALT:'Das Programm ist zu Ende. Sein Ergebnis ist auf dem Papier; f\xfcr ein anderes: einlegen, LOAD.',
+READER:'Der Leser ist leer: Karten einlegen, dann RUN.',
+FORMS:'Der Drucker hat 500 Zeilen: Papier abrei\xdfen, dann RUN.',
+STACKER:'Die Ablage hat 500 Karten: Karten nehmen, dann RUN.',
+NOMARK:'Bei I beginnt kein Befehl: dort ist keine Wortmarke.',
+OPCODE:'Das Zeichen bei I ist keine Operation.',
+NOTFITTED:'Die Operation bei I geh\xf6rt zu einer Einrichtung, die diese Maschine nicht hat.',
+LENGTH:'Der Befehl bei I hat eine L\xe4nge, die seine Operation nicht hat. Fehlt eine Wortmarke?',
+ADDRESS:'Der Befehl bei I braucht eine Stelle, die es nicht gibt, oder ein Feld ohne Ende.',
+OVERLAP:'Die Felder des Befehls bei I teilen sich Stellen.',
+CARRIAGE:'Ein Sprung zu einem Kanal ohne Loch im Vorschubstreifen: er hat 1, 9 und 12.',
+DCHAR:'Das letzte Zeichen des Befehls bei I verlangt nichts, was er kann.',
+},
+replies:{
+'REFUSED 1':'Diese Stelle gibt es nicht.',
+'REFUSED 2':'Das Magazin fasst 500 Karten und ist voll.',
+'REFUSED 3':'Im Magazin ist keine Karte. Legen Sie erst einen Stapel ein.',
+'REFUSED 4':'Es gibt nichts zu nehmen.',
+'REFUSED 5':'RUN nimmt 1 bis 1.000.000 Befehle.',
+'REFUSED 6':'EXAMINE zeigt 1 bis 40 Stellen.',
+'ERROR 1':'Ein Wort ist nicht bekannt. HELP zeigt die Zeilen.',
+'ERROR 2':'Eine Zahl oder Adresse fehlt oder ist keine.',
+'ERROR 3':'Ein Zeichen, das keine Karte und keine Stelle hat, oder ein ~ ohne Zeichen danach.',
+'ERROR 4':'Der Text ist leer oder zu lang.',
+'ERROR 5':'Nach dem Ende des Befehls kommt noch etwas.',
+'FAULT 1':'F\xfcr den n\xe4chsten Eintrag des Journals war kein Speicher da.',
+'FAULT 2':'Das Journal ist voll.',
+'FAULT 3':'Nicht ausgef\xfchrt: der Platz lie\xdf sich nicht mit dem Journal vergleichen.',
+'FAULT 4':'Die Datei des Journals l\xe4sst sich nicht schreiben.',
+'GLANCE FAULT 1':'Diese Stelle gibt es nicht.',
+'GLANCE FAULT 2':'Es gab nichts zu lesen.',"##;
+
+/// The rest of the page.
+pub const REST: &[u8] = br##"
+BYE:'Der Platz bleibt; die n\xe4chste Zeile nimmt ihn wieder ein.',
+},
+lines:[
+['DEPOSIT 0500 ~ABC','schreibt Zeichen ab 0500; ~ setzt eine Wortmarke beim n\xe4chsten'],
+['EXAMINE 0500 11','zeigt 11 Stellen ab 0500, h\xf6chstens 40'],
+['REGS','zeigt Register, Anzeigen, Schalter, Karten und Papier'],
+['START 0600','setzt das I-Register'],
+['SWITCH A ON','legt einen Schalter um, ON oder OFF; A bis G'],
+['FEED HELLO','legt eine Karte ein; FEED allein eine leere'],
+['LOAD','die Taste LOAD'],
+['RUN 1000','f\xfchrt h\xf6chstens 1.000 Befehle aus; mehr als 1.000.000 gehen nicht'],
+['LINE','nimmt die \xe4lteste gedruckte Zeile'],
+['CARD','nimmt die \xe4lteste gestanzte Karte'],
+['GLANCE 0500','zeigt eine Stelle ohne einen Befehl'],
+['HELP','zeigt diese Liste; es wird nicht gesendet'],
+],
+guideTitle:'Ihr erstes Programm',guideOn:'F\xfchrung beginnen',guideOff:'Ohne F\xfchrung',
+guideSteps:['Einlegen','LOAD','STEP','RUN','Ihr Name'],stepDone:'Schritt {n}, {name}: getan',
+stepOpen:'Schritt {n}, {name}',
+guideWords:[
+'Dr\xfccken Sie "Programm einlegen": eine Karte mit dem Programm Hallo kommt ins Magazin. Sie ist ein ganzes '
++ 'Programm.',
+'Dr\xfccken Sie LOAD: die Maschine liest die Karte in ihre Stellen 001 bis 080.',
+'Dr\xfccken Sie STEP: die Maschine f\xfchrt einen Befehl aus. Die ersten setzen Wortmarken, die die '
++ 'Karte in Befehle teilen.',
+'Dr\xfccken Sie RUN: die Maschine f\xfchrt die anderen aus, druckt eine Zeile und h\xe4lt an. Sehen Sie aufs Papier.',
+'Die Zeile ist auf dem Papier. Nun Ihr Name: schreiben Sie ihn hier, und stanzen Sie eine eigene Karte.',
+'Ihre Karte ist im Magazin. Dr\xfccken Sie LOAD, um sie zu lesen.',
+'Dr\xfccken Sie RUN, und sehen Sie aufs Papier.',
+],
+guide:{
+off:'Die F\xfchrung bringt Sie in etwa zwei Minuten zu einer gedruckten Zeile mit Ihrem Namen.',
+left:'Jemand hat Karten, Papier oder ein Programm in der Maschine gelassen. "Von vorn" leert sie; '
++ 'oder machen Sie damit weiter.',
+prepared:'Das Museum hat diese Maschine vorbereitet: sie begann mit einem Programm oder mit Karten. Dr\xfccken Sie '
++ 'LOAD, wenn Karten da sind, dann RUN. "Von vorn" w\xfcrde sie leeren.',
+preparedAgain:'Das Museum hat diese Maschine vorbereitet: sie begann mit einem Programm oder mit Karten. Dr\xfccken '
++ 'Sie LOAD, wenn Karten da sind, dann RUN. "Von vorn" bringt eine neue, die genauso vorbereitet ist.',
+aside:'Die F\xfchrung ist zur Seite getreten. Sie beginnt wieder, wenn Sie wollen.',
+done:'Ihr Name ist auf dem Papier. Sichern Sie es, drucken Sie die Karte, oder w\xe4hlen Sie ein anderes Programm.',
+attract:'Niemand ist hier, darum l\xe4uft die Maschine allein. Ein Druck auf den Bildschirm oder eine Taste '
++ '\xfcbernimmt sie.',
+waits:'(Die F\xfchrung wartet hier.)',
+},
+nameLabel:'Ihr Name',nameKey:'Stanzen und einlegen',nameEmpty:'Schreiben Sie erst einen Namen.',
+nameWrong:'Keine Karte hat {letter}.',
+afreshKey:'Von vorn',afreshTitle:'leert die Maschine: Karten, Papier, Schalter und Kernspeicher',
+afreshAsk:'Das leert die Maschine f\xfcr alle: Karten, Papier, Schalter und Kernspeicher. Was diese Seite abgerissen '
++ 'und genommen hat, ist auch fort. Von vorn beginnen?',
+afreshOthers:'Ein anderer Platz arbeitet gerade und verl\xf6re Karten, Papier und Programm. Trotzdem von vorn '
++ 'beginnen?',
+programs:{
+hello:{name:'Hallo',about:'Eine Karte: die ersten Spalten sind Befehle, der Rest ist der Text, den sie '
++ 'drucken.',
+fed:'Die Karte ist im Magazin. Dr\xfccken Sie LOAD, dann RUN, und sehen Sie auf den Drucker.'},
+banner:{name:'Banner',about:'Liest Karten und druckt die Buchstaben der Spalten 1 bis 20 sieben Zeilen hoch.',
+fed:'Dr\xfccken Sie LOAD, dann RUN. Stanzen Sie dann eine Karte mit einem Namen, und RUN.'},
+calculation:{name:'Rechnung',about:'Eine Tafel der Zweierpotenzen, jede zu sich selbst addiert.',
+fed:'Dr\xfccken Sie LOAD, dann RUN. Bei 100 Schritten je Sekunde sehen Sie zu.'},
+payroll:{name:'Lohnliste',about:'Liest f\xfcr jeden Arbeiter eine Karte mit Stunden und Stundenlohn in Cent, '
++ 'multipliziert durch Addieren, bereitet die Betr\xe4ge auf und druckt die Summe.',
+fed:'Dr\xfccken Sie LOAD, dann RUN.'},
+game:{name:'Gr\xf6\xdfer oder kleiner',about:'Die letzte Karte des Stapels hat eine geheime Zahl von 01 bis 99. '
++ 'Stanzen '
++ 'Sie Ihren Tipp, zwei Ziffern, dann RELEASE und RUN: die Maschine druckt, ob die Zahl gr\xf6\xdfer oder kleiner ist.',
+fed:'Dr\xfccken Sie LOAD, dann RUN. Stanzen Sie dann eine Karte mit zwei Ziffern, und wieder RUN.'},
+listing:{name:'Liste',about:'Druckt und kopiert die Karten nach ihm. Mit Schalter A h\xe4lt es nach der '
++ 'letzten Karte an.',
+fed:'Schalter A an, LOAD, dann RUN. Bei 100 Schritten je Sekunde sehen Sie zu.'},
+},
+aboutFirst:'Das ist eine simulierte IBM 1401, ein Rechner von 1959, mit Kartenleser, Stanzer und Drucker. '
++ 'Alles, was '
++ 'Sie sehen, ist eine Maschine, die alle in diesem Raum teilen.',
+aboutDrawing:'Karten gehen vom Leser zur Recheneinheit, Ergebnisse von dort zum Drucker und zum Stanzer.',
+aboutParts:{reader:['Kartenleser','und Stanzer'],unit:['Recheneinheit','mit Kernspeicher'],
+printer:['Drucker','132 Spalten'],
+below:['800 Karten je Minute','1.400 bis 16.000 Stellen','600 Zeilen je Minute']},
+wordsTitle:'Zehn W\xf6rter',
+aboutWords:[
+['Karte','ein St\xfcck Karton mit 80 Spalten; die L\xf6cher einer Spalte sind ein Buchstabe, eine Ziffer oder ein '
++ 'Zeichen'],
+['Magazin','wo die Karten liegen, die als n\xe4chste gelesen werden'],
+['LOAD','die Taste, die die erste Karte nach 001 bis 080 liest und dort beginnt'],
+['Kernspeicher','der Speicher aus kleinen Magnetringen: jede Stelle hat ein Zeichen'],
+['Wortmarke','ein Bit neben einem Zeichen; es sagt, wo ein Feld oder ein Befehl beginnt'],
+['Befehl','ein Buchstabe f\xfcr die Operation und Adressen, mit denen sie arbeitet'],
+['I-Register','die Stelle des n\xe4chsten Befehls'],
+['Schalter','nach ihm kann ein Programm fragen'],
+['Blatt','eine Seite des endlosen Papiers, mit 66 Zeilen'],
+['Vorschubstreifen','eine Schleife aus Papier mit L\xf6chern, die sagt, wo das Papier anh\xe4lt'],
+],
+numbersTitle:'Woher die Zahlen kommen',
+aboutNumbers:'Die Seite fragt die Maschine viermal in der Sekunde, und jedes Bild ist von einem Augenblick. Im '
++ 'Tempo von '
++ '1960 wartet sie so lange, wie Leser, Stanzer und Drucker brauchten. Jede Operation des Simulators wurde '
++ 'bewiesen.',
+shortcutsTitle:'Tasten',
+shortcuts:[
+['Alt+F','legt das gew\xe4hlte Programm ein'],['Alt+L','LOAD'],['Alt+R','RUN'],['Escape','STOP'],
+['Alt+N','STEP'],['Alt+T','rei\xdft das Papier ab'],
+['Alt+C','zur Konsole; die Pfeiltasten bringen fr\xfchere Zeilen zur\xfcck'],
+['Alt+A','zur Adresse des Kernspeichers'],['Alt+K','zum Locher; Enter legt die Karte ein'],
+['Alt+P','zum Papier; die Pfeiltasten bewegen es'],
+['Tab, Pfeiltasten','von Teil zu Teil; im Kernspeicher gehen die Pfeiltasten von Stelle zu Stelle'],
+],
+};
+const PLACES_SHOWN=600;
+const FORM_LINES=66;
+const FORMS=10000;
+const CARD_COLUMNS=80;
+const MOST_CARDS=500;
+const DECK_CARDS=10000;
+const JOURNAL_ENTRIES=100000;
+const JOURNAL_NEARLY=95000;
+const CHANNELS=[[1,4],[9,60],[12,63]];
+const SWITCHES='ABCDEFG';
+const GRAPHICS=' 1234567890#@:>(^/STUVWXYZ\',%=\\+-JKLMNOPQR!$*];_&ABCDEFGHI?.)[<"';
+const KEYBOARD=['1234567890-&','QWERTYUIOP','ASDFGHJKL','ZXCVBNM,./','#@$*%+=:;\'"','()<>[]^_?!\\'];
+const OWN_PACE='own';
+const OWN_STEPS=12;
+const PACES=[1,10,100,400,100000,OWN_PACE];
+const FASTEST=4;
+const SLICE_MS=100;
+const CHUNK=100;
+const GROW_AFTER_MS=60000;
+const GROW_MS=3000;
+const MOST_GROWN=60;
+const MOST_STEPS=1000000;
+const POLL_MS=250;
+const WAIT_MS=50;
+const HIDDEN_POLL_MS=1000;
+const RETRY_MS=1000;
+function rowsOf(graphic){
+const code=GRAPHICS.indexOf(graphic),zone=code>>4,low=code&15;
+const zoneRows=[[],[0],[11],[12]][zone];
+if(code===16)return[2,8];
+if(low===10)return zone===1?[0,2,8]:zone===0?[0]:[...zoneRows,0];
+if(low===0)return zoneRows;
+return low<10?[...zoneRows,low]:[...zoneRows,low - 8,8];
+}
+function bitsOf(graphic){
+const code=GRAPHICS.indexOf(graphic);
+return['B','A','8','4','2','1'].filter((_,at)=>code&(32>>at)).join(' ');
+}
+function instructionLength(cells,at){
+if(!cells[at]||!cells[at].mark)return 0;
+let length=1;
+while(length<8&&cells[at + length]&&!cells[at + length].mark)length++;
+const operation=cells[at].graphic;
+if(operation===','||operation==='/')return Math.min(length,7);
+if(operation==='B'&&length>4&&cells[at + 4].graphic===' ')return 4;
+return length;
+}
+const HELLO=',008015,022029,036037,038041M0802402.   HELLO FROM AN IBM 1401';
+const NAME_COLUMN=40;
+const LISTING=[
+',008015,022029,036040,047054,061068,072/047499/054399/061299/0681991040',
+'                                       )008015)022029)036036N0000001040',
+',001F1FS/332/M4792192                  L021420,404406,408412,4134201040',
+'/332/1M080280M080180FT6                L023443,425426,427434,4414431040',
+'B460AB404@B421  .LISTING OF THE DECK   L036479,449454,460461,4614611040',
+'                                       /400080',
+'0001 CARD READ PUNCH     1402','0002 PROCESSING UNIT     1401','0003 PRINTER             1403',
+'0004 MAGNETIC TAPE UNIT   729','0005 DISK STORAGE        1405','0006 PAPER TAPE READER   1011',
+'0007 CONSOLE INQUIRY     1407','0008 STORAGE UNIT        1406','0009 MAGNETIC READER     1412',
+'0010 OPTICAL READER      1418','0011 CARD SORTER          083','0012 CARD COLLATOR        088',
+'0013 KEY PUNCH            026','0014 VERIFIER             056','0015 INTERPRETER          557',
+'0016 REPRODUCING PUNCH    519','0017 ACCOUNTING MACHINE   407','0018 CALCULATING PUNCH    604',
+'0019 STATISTICAL MACHINE  101','0020 CARD PUNCH           024','0021 THE LAST CARD',
+];
+const HELLO_SOURCE=`,008015        SW   8,15        word marks for the next two
+,022029        SW   22,29
+,036037        SW   36,37
+,038041        SW   38,41       and where the text begins
+M080240        MLC  80,240      041 to 080 into the print area
+2              W                print the line
+.              H                halt`;
+const secretCard=()=>[pad(1 + Math.floor(Math.random()*99),2)];
+const widened=text=>text.replace(/~([D-Z])/g,(_,letter)=>' '.repeat(letter.charCodeAt()- 65));
+function assembled(name){
+const{source,cards}=PROGRAM_FILES[name];
+return{source:widened(source),cards:cards.map(widened)};
+}
+const PROGRAMS=[
+{name:'hello',cards:[HELLO],source:HELLO_SOURCE,alone:true},
+{name:'banner',...assembled('banner')},
+{name:'calculation',...assembled('calculation'),alone:true},
+{name:'payroll',...assembled('payroll'),alone:true},
+{name:'game',...assembled('game'),extra:secretCard},
+{name:'listing',cards:LISTING,source:LISTING.join('\n'),switches:'A',alone:true},
+];
+const byId=id=>document.getElementById(id);
+const pad=(number,width)=>String(number).padStart(width,'0');
+const delay=ms=>new Promise(done=>setTimeout(done,ms));
+const still=matchMedia('(prefers-reduced-motion: reduce)');
+function filled(text,values={}){
+return text.replace(/\{(\w+)\}/g,(whole,name)=>name in values?String(values[name]):whole);
+}
+function counted(forms,n,values={}){
+const{one,many}=forms;
+return filled(n===1?one:many,{n:withCommas(n),...values});
+}
+function withCommas(number){
+return String(number).replace(/\B(?=(\d{3})+$)/g,TEXTS.thousands);
+}
+function setText(element,text){
+if(element.textContent !==text)element.textContent=text;
+}
+function setAttribute(element,name,value){
+if(element.getAttribute(name)!==value)element.setAttribute(name,value);
+}
+function added(parent,name,properties={}){
+const element=Object.assign(document.createElement(name),properties);
+parent.append(element);
+return element;
+}
+function drawn(parent,name,attributes){
+const element=document.createElementNS('http://www.w3.org/2000/svg',name);
+for(const[key,value]of Object.entries(attributes))element.setAttribute(key,value);
+parent.append(element);
+return element;
+}
+function setOff(key,off){
+setAttribute(key,'aria-disabled',String(off));
+}
+const isOff=key=>key.getAttribute('aria-disabled')==='true';
+function glow(element){
+if(!still.matches)element.animate([{backgroundColor:'#ffb238'},{}],1400);
+}
+function saveFile(name,text){
+const address=URL.createObjectURL(new Blob([text],{type:'text/plain'}));
+const link=added(document.body,'a',{href:address,download:name});
+link.click();
+link.remove();
+setTimeout(()=>URL.revokeObjectURL(address),RETRY_MS);
+}
+class Unreadable extends Error{}
+function partsOf(line,form){
+const parts=form.exec(line===undefined?'':line);
+if(!parts)throw new Unreadable(line);
+return parts.slice(1);
+}
+function afterWord(line,word){
+if(line===word)return null;
+return partsOf(line,new RegExp(`^${word} (.*)$`))[0];
+}
+function cellsOf(line,cells){
+for(let at=0;at<line.length;at++){
+const mark=line[at]==='~';
+if(mark)at++;
+cells.push({graphic:line[at],mark});
+}
+}
+function registersOf(line){
+const values={};
+for(const[,name,value]of line.matchAll(/(\w+)=(\S+)/g)){
+values[name]=name==='SWITCHES'?value:Number(value);
+}
+return values;
+}
+function pictureOf(text){
+const[head,...lines]=text.split('\n'),[room]=partsOf(head,/^ROOM (\w+)$/);
+const[seat,seats,made]=partsOf(lines[0],/^SEAT (\d+) OF (\d+) MADE (\d+)$/).map(Number);
+const after=Number(partsOf(lines[1],/^AFTER (\d+)$/)[0]);
+const[from,size]=partsOf(lines[7],/^CORE (\d+) OF (\d+)$/).map(Number);
+const picture={
+room,seat,seats,made,after,from,size,cells:[],lines:[],registers:registersOf(lines[2]),
+next:afterWord(lines[3],'NEXT'),read:afterWord(lines[4],'READ')||'',
+hopper:afterWord(lines[5],'HOPPER'),punched:afterWord(lines[6],'PUNCHED'),
+};
+for(const line of lines.slice(8,23))cellsOf(line,picture.cells);
+if(picture.cells.length !==PLACES_SHOWN)throw new Unreadable('cells');
+picture.first=Number(partsOf(lines[23],/^PAPER (\d+)$/)[0]);
+for(const line of lines.slice(24,-1))picture.lines.push(printedLineOf(line));
+return picture;
+}
+function printedLineOf(line){
+const[form,at,text]=partsOf(line,/^LINE (\d{4}) (\d\d) (.*)$/);
+return{form:Number(form),line:Number(at),text};
+}
+const sameLine=(one,other)=>one.form===other.form&&one.line===other.line&&one.text===other.text;
+const view={
+core:0,
+picture:null,
+paper:[],
+made:null,
+link:'lost',
+status:0,
+breaks:0,
+unkept:false,full:false,
+since:null,
+others:{count:0,at:-Infinity,began:-Infinity,gap:0,last:null},
+changed:0,
+ended:null,
+};
+const OTHERS_MS=8000;
+const PAUSE_MS=800;
+const LONGEST_PART_MS=7000;
+const torn=[];
+const taken=[];
+class Refused extends Error{
+constructor(status){
+super(`status ${status}`);
+this.status=status;
+}
+}
+function statusOf(response){
+return response.status===503&&response.headers.has('Retry-After')?'busy':response.status;
+}
+let queue=Promise.resolve();
+function inTurn(task){
+const result=queue.then(task);
+queue=result.catch(()=>{});
+return result;
+}
+async function askForPicture(kept,after){
+const room=view.picture?view.picture.room:'';
+const part=`room=${room}&core=${pad(view.core, 4)}&paper=${Math.max(0, kept.length - 1)}`;
+const query=after===null?part:`${part}&after=${after}`;
+const response=await fetch(`/picture?${query}`,{cache:'no-store',signal:AbortSignal.timeout(10*RETRY_MS)});
+const text=await response.text();
+if(response.status===204)return null;
+if(response.status !==200)throw new Refused(statusOf(response));
+return pictureOf(text);
+}
+function joined(kept,picture){
+if(picture.first===0)return picture.lines;
+const goesOn=kept.length===picture.first + 1&&picture.lines.length>0
+&&sameLine(kept[picture.first],picture.lines[0]);
+return goesOn?[...kept.slice(0,picture.first),...picture.lines]:null;
+}
+async function takeIn(picture){
+const isNewRoom=view.picture !==null&&picture.room !==view.picture.room;
+let lines=joined(isNewRoom?[]:view.paper,picture);
+for(let turns=0;turns<2*MOST_CARDS / FORM_LINES;turns++){
+if(lines !==null&&lines.length===picture.registers.PAPER)break;
+picture=await askForPicture(lines||[],null);
+lines=joined(lines||[],picture);
+}
+if(isNewRoom||view.since===null)view.since={after:picture.after,made:picture.made};
+const shown=view.picture;
+if(isNewRoom)enterRoom();
+noteOthers(picture);
+view.paper=lines||[];
+view.made=picture.made;
+view.picture=picture;
+draw();
+noteNewState(shown,isNewRoom);
+}
+function noteNewState(shown,isNewRoom){
+if(!shown)return;
+const{newRoom,resumed,clear}=TEXTS.said,words=view.picture.after<shown.after?newRoom:resumed;
+if(isNewRoom)note('words',words);
+if(isClearing)return;
+if(isNewRoom)beginAnew(words);
+else if(isClear(view.picture)&&!isClear(shown))beginAnew(clear);
+}
+function enterRoom(){
+Object.assign(view,{full:false,unkept:false,ended:null,breaks:view.breaks + 1});
+view.others.count=0;
+forgetRenewal();
+forgetHold();
+}
+function noteOthers({after,made}){
+const count=after - view.since.after -(made - view.since.made),now=performance.now();
+if(count>view.others.count){
+const gap=now - view.others.at;
+if(gap>PAUSE_MS)view.others.began=now;
+Object.assign(view.others,{at:now,gap:gap>LONGEST_PART_MS||!isPart(lastOfOthers())?0:gap});
+leaveClear('');
+yieldToOthers();
+}
+view.others.count=count;
+if(!view.picture||after !==view.picture.after)view.changed=now;
+}
+const othersAtWork=()=>performance.now()- view.others.at<OTHERS_MS;
+function lastOfOthers(){
+const{last}=view.others;
+return last&&view.picture&&last.seat !==view.picture.seat?last:null;
+}
+const isPart=last=>last !==null&&/^RUN (?!1$)/.test(last.line);
+function othersRun(){
+const{at,began,gap}=view.others,since=performance.now()- at;
+if(isPart(lastOfOthers()))return since<PAUSE_MS + 2*gap;
+return since<PAUSE_MS&&at - began>2*PAUSE_MS;
+}
+async function look(){
+const shown=view.picture;
+const isCurrent=shown&&view.link==='fine'&&view.made !==null&&shown.from===view.core;
+try{
+const picture=await askForPicture(view.paper,isCurrent?shown.after:null);
+if(picture !==null)await takeIn(picture);
+setLink('fine');
+return true;
+}catch(why){
+blame(why);
+return false;
+}
+}
+const LINK_OF_STATUS={410:'closed',503:'taken503',busy:'busy',507:'noMemory'};
+function blame(why){
+if(why instanceof Unreadable)setLink('unread');
+else if(!(why instanceof Refused))setLink('lost');
+else{
+if(why.status===404)view.core=0;
+view.status=why.status;
+setLink(LINK_OF_STATUS[why.status]||'refusedStatus');
+}
+}
+function setLink(link){
+if(link==='lost'&&view.link==='fine')view.breaks++;
+view.link=link;
+drawBanner();
+drawKeys();
+}
+const COMMANDS=/^ *(DEPOSIT|START|SWITCH|FEED|LOAD|RUN|LINE|CARD)( |$)/;
+const RECORDED=/^(OK|STOP |LINE |CARD |REFUSED )/;
+function madeAfter(line,reply,count){
+if(!COMMANDS.test(line))return null;
+return RECORDED.test(reply)?count + 1:count;
+}
+async function post(path,body,breaks){
+if(breaks !==view.breaks)return{failed:TEXTS.outcomes.broken};
+if(view.made===null&&!(await look()))return{failed:bannerText()};
+const count=view.made,{room}=view.picture;
+view.made=null;
+let response,text;
+try{
+const headers={'Content-Type':'text/plain','X-1401-Line':String(count),'X-1401-Room':room};
+response=await fetch(path,{method:'POST',body,cache:'no-store',headers});
+text=await response.text();
+}catch{
+return lostLine(count,room);
+}
+if(response.status===423)takeHold(text);
+return response.status===200?{text,count}:refusedLine(statusOf(response));
+}
+async function send(line,breaks=view.breaks){
+const{failed,text,count}=await post('/line',line,breaks);
+if(failed)return{failed};
+const reply=text.replace(/\n$/,'');
+view.made=madeAfter(line,reply,count);
+noteFault(reply);
+return{reply};
+}
+async function sendAll(lines,breaks){
+const{failed,text,count}=await post('/lines',lines.join('\n'),breaks);
+if(failed)return{failed,replies:[]};
+const replies=text.split('\n').slice(0,-1);
+view.made=count + replies.filter(reply=>RECORDED.test(reply)).length;
+noteFault(replies[replies.length - 1]);
+return{replies};
+}
+function noteFault(reply){
+if(reply==='FAULT 2 JOURNAL FULL')view.full=true;
+if(reply==='FAULT 4 UNKEPT')view.unkept=true;
+drawBanner();
+}
+function refusedLine(status){
+if(status===500)view.unkept=true;
+if(LINK_OF_STATUS[status]&&status !==507)setLink(LINK_OF_STATUS[status]);
+drawBanner();
+const{seat,left}=hold;
+return{failed:filled(TEXTS.outcomes[status]||TEXTS.outcomes.other,{status,seat,left})};
+}
+async function lostLine(count,room){
+note('bad',TEXTS.lostAsking);
+setLink('lost');
+while(!(await look()))await delay(RETRY_MS);
+const since=view.made - count;
+if(view.picture.room !==room)return{failed:TEXTS.lostNewRoom};
+if(since===0)return{failed:TEXTS.lostNotDone};
+return{failed:since===1?TEXTS.lostDone:filled(TEXTS.lostUnclear,{n:since})};
+}
+async function say(line){
+note('you',line);
+const{breaks}=view;
+const outcome=view.link==='fine'?await inTurn(()=>send(line,breaks)):{failed:TEXTS.outcomes.off};
+noteOutcome(outcome);
+await inTurn(look);
+return outcome;
+}
+const onHappened=[];
+function happened(event){
+for(const call of onHappened)call(event);
+}
+function stopOf(reply){
+const parts=/^STOP \d\d ([A-Z]+) STEPS (\d+) I (\d{5})$/.exec(reply||'');
+return parts&&{name:parts[1],steps:Number(parts[2]),next:Number(parts[3])};
+}
+function wordsOf(reply){
+const stop=stopOf(reply);
+if(stop)return TEXTS.stops[stop.name]||'';
+const known=/^(BYE$|(REFUSED|ERROR|FAULT|GLANCE FAULT) \d(?= [A-Z]))/.exec(reply);
+return known?TEXTS.replies[known[0]]||'':'';
+}
+function noteOutcome(outcome){
+if(outcome.failed)return note('bad',outcome.failed);
+const reply=outcome.reply;
+if(/^LINE \d{4} \d\d /.test(reply))torn.push(printedLineOf(reply));
+if(reply.startsWith('CARD '))taken.push(reply.slice(5));
+if(reply !=='')note(/^(REFUSED|ERROR|FAULT|GLANCE FAULT) \d/.test(reply)?'bad':'',reply);
+if(wordsOf(reply))note('words',wordsOf(reply));
+drawTaken();
+}
+function note(kind,text){
+const log=byId('log');
+added(log,'p',{className:kind,textContent:text});
+while(log.childElementCount>400)log.firstElementChild.remove();
+log.scrollTop=log.scrollHeight;
+}
+function tell(words,reply=''){
+setText(byId('said-words'),words);
+setText(byId('said-reply'),reply);
+}
+function tellOutcome(outcome,words){
+if(outcome.failed)tell(outcome.failed);
+else tell(wordsOf(outcome.reply)||words,outcome.reply);
+}
+function welcomeWords(){
+const{picture}=view;
+if(!picture)return TEXTS.said.welcome;
+const{HOPPER}=picture.registers;
+if(HOPPER>0)return counted(TEXTS.said.welcomeCards,HOPPER);
+if(TEXTS.operations[(picture.next||'').split(' ')[0]])return TEXTS.said.welcomeProgram;
+return hold.isPrepared&&!isClear(picture)?TEXTS.said.welcomePrepared:TEXTS.said.welcome;
+}
+function moveCard(){
+const card=byId('moving-card');
+card.classList.remove('none');
+if(still.matches)return;
+card.animate([{transform:'translateX(-260px)',opacity:.3},{transform:'none',opacity:1}],260);
+}
+function movePaper(lines){
+if(still.matches)return;
+const by=`translateY(${Math.min(lines, 6) * 1.18}em)`;
+for(const sheet of sheets.values())sheet.element.animate([{transform:by},{transform:'none'}],140);
+tapePointer.animate([{opacity:.2},{opacity:1}],140);
+}
+function showChanges(before,now){
+if(!before||before.size !==now.size)return;
+const from=before.registers,to=now.registers;
+const isRead=to.HOPPER<from.HOPPER||now.read !==before.read&&now.read !=='';
+if(isRead)moveCard();
+const lines=to.LINE - from.LINE + FORM_LINES*(to.FORM - from.FORM);
+if(lines>0)movePaper(lines);
+if(to.STACKER>from.STACKER)sound('punch');
+else if(to.PAPER>from.PAPER)sound('print');
+else if(to.HOPPER<from.HOPPER)sound('read');
+}
+let run=null;
+function mayCommand(){
+const isFull=view.full||view.picture !==null&&view.picture.after>=JOURNAL_ENTRIES;
+return view.link==='fine'&&!view.unkept&&!isFull&&!isKeptOff();
+}
+function warnsOfEnd(){
+const{picture,ended}=view;
+if(ended===null||!picture||picture.registers.I !==ended)return false;
+view.ended=null;
+if(TEXTS.operations[(picture.next||'').split(' ')[0]])return false;
+tell(TEXTS.said.afterEnd);
+return true;
+}
+function noteStop(stop){
+view.ended=stop&&stop.name==='HALT'?stop.next:null;
+if(view.ended !==null)happened('halt');
+}
+async function pressLoad(){
+if(run||!mayCommand())return;
+view.ended=null;
+const outcome=await say('LOAD');
+tellOutcome(outcome,TEXTS.said.load);
+if(outcome.reply !=='OK')return;
+tellDeck('');
+sound('read');
+happened('load');
+}
+async function pressStep(){
+if(run||!mayCommand()||warnsOfEnd())return;
+const outcome=await say('RUN 1'),stop=stopOf(outcome.reply);
+tellOutcome(outcome,TEXTS.said.step);
+noteStop(stop);
+if(stop)happened('step');
+drawPanel();
+}
+async function pressStart(event){
+event.preventDefault();
+if(run||!mayCommand())return;
+view.ended=null;
+tellOutcome(await say(`START ${byId('start-at').value.trim()}`),TEXTS.said.start);
+}
+function pressStop(){
+stopRun();
+}
+function stopRun(){
+if(!run)return;
+run.stop=true;
+run.wake();
+}
+async function pressRun(){
+if(run||!mayCommand()||warnsOfEnd())return;
+run={stop:false,slices:0,steps:0,waits:'',began:performance.now(),grown:1,wake:()=>{}};
+view.ended=null;
+tell('');
+drawKeys();
+happened('run');
+const outcome=await runParts();
+const ended=run,stop=stopOf(outcome.reply);
+run=null;
+drawKeys();
+noteOutcome(outcome);
+tellRun(ended,outcome,stop);
+noteStop(stop);
+await inTurn(look);
+drawPanel();
+}
+function tellRun(ended,outcome,stop){
+const counts={steps:withCommas(ended.steps)};
+if(!stop)return tellOutcome(outcome,'');
+const reply=outcome.reply.replace(/STEPS \d+/,`STEPS ${ended.steps}`);
+if(stop.name !=='LIMIT')return tellOutcome({reply},'');
+tell(ended.stop?counted(TEXTS.said.stopped,ended.steps,counts):filled(TEXTS.said.pause,counts));
+}
+async function runParts(){
+for(;;){
+const outcome=await runPart(),stop=stopOf(outcome.reply);
+if(!stop||run.stop)return outcome;
+const hasWaited=await waitsFor(stop.name);
+if(hasWaited&&!run.stop)continue;
+if(stop.name !=='LIMIT'||view.picture.after>=JOURNAL_NEARLY||run.stop)return outcome;
+}
+}
+async function runPart(){
+const pace=PACES[byId('pace').selectedIndex];
+run.grown=grownBy(performance.now()- Math.max(run.began,attract.pressed));
+const steps=Math.min(MOST_STEPS,run.grown*(pace===OWN_PACE?OWN_STEPS:pace)),line=`RUN ${steps}`;
+if(run.slices===0)note('you',line);
+const began=performance.now(),before=view.picture,{breaks}=view;
+const outcome=await inTurn(()=>send(line,breaks)),stop=stopOf(outcome.reply);
+run.slices++;
+run.steps +=stop?stop.steps:0;
+drawRun();
+const wanted=pace===OWN_PACE&&stop?await ownTime(before,stop.steps):SLICE_MS*run.grown;
+const rest=attract.pressed>began?SLICE_MS:wanted + began - performance.now();
+if(stop&&stop.name==='LIMIT')await napInRun(rest);
+return outcome;
+}
+function grownBy(idle){
+return Math.min(MOST_GROWN,Math.max(1,1 + Math.floor((idle - GROW_AFTER_MS)/ GROW_MS)));
+}
+function napInRun(ms){
+return run.stop?null:new Promise(done=>{
+run.wake=done;
+setTimeout(done,Math.max(0,ms));
+});
+}
+async function ownTime(before,steps){
+await inTurn(look);
+const{registers}=view.picture;
+const more=(name,by)=>Math.max(0,by*(registers[name]- before.registers[name]));
+return Math.max(SLICE_MS,steps*.2 + 75*more('HOPPER',-1)+ 240*more('STACKER',1)+ 100*more('PAPER',1));
+}
+async function waitsFor(stop){
+const waiting={
+READER:()=>feed !==null&&view.picture.registers.HOPPER===0,
+FORMS:()=>taking !==null||view.paper.length>=MOST_CARDS,
+STACKER:()=>taking !==null||view.picture.registers.STACKER>=MOST_CARDS,
+}[stop];
+await inTurn(look);
+if(!waiting||!mayCommand()||stop==='READER'&&!feed)return false;
+run.waits=stop;
+tell(TEXTS.waits[stop]);
+while(!run.stop&&mayCommand()&&waiting()){
+drawRun();
+await delay(WAIT_MS);
+await inTurn(look);
+}
+run.waits='';
+tell('');
+return true;
+}
+const COMMAND_KEYS=['load-key','run-key','step-key','start-key','feed-key','pick-key','card-key',
+'all-cards-key','tear-key','send-key','release-key','deck-key','name-key','afresh-key','feed-again-key'];
+function drawKeys(){
+const may=mayCommand(),{PAPER,STACKER}=view.picture?view.picture.registers:{PAPER:0,STACKER:0};
+for(const id of COMMAND_KEYS)setOff(byId(id),!may);
+for(const id of['load-key','run-key','step-key','start-key'])setOff(byId(id),!may||run !==null);
+for(const button of byId('switches').children)setOff(button,!may);
+setOff(byId('stop-key'),run===null);
+setOff(byId('tear-key'),!may||taking !==null||PAPER===0);
+for(const id of['card-key','all-cards-key'])setOff(byId(id),!may||taking !==null||STACKER===0);
+drawRun();
+}
+function runWords(){
+if(!run)return othersRun()?othersWords('Running'):'';
+return run.waits?TEXTS.waits[run.waits]:filled(TEXTS.running,{steps:withCommas(run.steps)});
+}
+function drawRun(){
+setText(byId('running'),runWords());
+}
+let feed=null;
+let fedAt=null;
+function plain(text){
+const own={'\xe4':'AE','\xf6':'OE','\xfc':'UE','\xdf':'SS','\xe6':'AE','\xf8':'OE','\xe5':'AA','\u2019':'\'','\u2018':'\''};
+const spelt=[...text].map(letter=>own[letter.toLowerCase()]||letter).join('');
+return spelt.normalize('NFD').replace(/[\u0300-\u036f]/g,'').toUpperCase();
+}
+function deckOf(text){
+const lines=text.replace(/^\ufeff/,'').split('\n');
+if(lines[lines.length - 1]==='')lines.pop();
+const cards=[];
+for(const[at,line]of lines.entries()){
+const card=line.replace(/\r$/,'').replace(/[a-z]/g,letter=>letter.toUpperCase());
+for(let column=0;column<card.length;column++){
+const what=column>=CARD_COLUMNS?TEXTS.tooLong:GRAPHICS.includes(card[column])?'':noCard(card[column]);
+if(what)return{fault:filled(TEXTS.deckWrong,{line:at + 1,column:column + 1,what})};
+}
+cards.push(card.trimEnd());
+}
+return cards.length?{cards}:{fault:TEXTS.deckEmpty};
+}
+function noCard(letter){
+const spelt=plain(letter);
+const isSpelt=spelt !==letter&&[...spelt].every(each=>GRAPHICS.includes(each));
+return isSpelt?filled(TEXTS.noAccent,{letter,spelt}):TEXTS.noGraphic;
+}
+function tellDeck(text,isWrong=false){
+byId('deck-words').classList.toggle('wrong',isWrong);
+setText(byId('deck-words'),text);
+}
+async function feedText(text){
+const deck=deckOf(text);
+if(deck.fault)return tellDeck(deck.fault,true);
+return feedDeck(deck.cards);
+}
+function textOf(bytes){
+try{
+return new TextDecoder('utf-8',{fatal:true}).decode(bytes);
+}catch{
+return new TextDecoder('latin1').decode(bytes);
+}
+}
+async function feedFile(file){
+if(file.size>DECK_CARDS*(CARD_COLUMNS + 2))return tellDeck(TEXTS.deckLarge,true);
+try{
+await feedText(textOf(await file.arrayBuffer()));
+}catch{
+tellDeck(TEXTS.deckUnread,true);
+}
+}
+async function feedDeck(cards,words){
+if(feed)return tellDeck(TEXTS.alreadyFeeding,true);
+if(!mayCommand())return tellDeck(TEXTS.outcomes.off,true);
+feed={fed:0,all:cards.length,stop:false,waits:false,drawn:0};
+note('you',feedLine(cards[0]));
+const why=await feedAll(cards);
+const{fed,all}=feed;
+endFeed();
+note('',counted(TEXTS.fedInLog,fed));
+await inTurn(look);
+tellDeck(why?filled(TEXTS.fedPart,{n:fed,all,why}):words||counted(TEXTS.fedAll,all),why !=='');
+if(why)return;
+fedAt=words?view.picture.registers.HOPPER:null;
+leaveClear(welcomeWords());
+happened('fed');
+}
+async function feedAll(cards){
+const{breaks}=view;
+let why='';
+while(!why&&feed.fed<feed.all){
+drawFeed();
+if(feed.stop)why=TEXTS.stoppedByYou;
+else if(feed.waits)await waitForRoom();
+else why=await feedSome(cards.slice(feed.fed,feed.fed + CHUNK),breaks);
+}
+return why;
+}
+const feedLine=card=>card===''?'FEED':`FEED ${card}`;
+async function feedSome(cards,breaks){
+const{failed,replies}=await inTurn(()=>sendAll(cards.map(feedLine),breaks));
+if(failed)return failed;
+const reply=replies[replies.length - 1];
+feed.fed +=replies.filter(each=>each==='OK').length;
+feed.waits=reply==='REFUSED 2 HOPPER';
+return reply==='OK'||feed.waits?'':wordsOf(reply)||reply;
+}
+async function waitForRoom(){
+await delay(WAIT_MS);
+await inTurn(look);
+feed.waits=view.picture.registers.HOPPER>=MOST_CARDS;
+}
+function endFeed(){
+const hadFocus=document.activeElement===byId('feed-stop');
+feed=null;
+byId('feeding').hidden=true;
+if(hadFocus)byId('feed-key').focus();
+}
+function drawFeed(){
+const now=performance.now();
+if(feed.fed>0&&now - feed.drawn<SLICE_MS)return;
+feed.drawn=now;
+byId('feeding').hidden=feed.all===1;
+byId('feed-bar').value=feed.fed / feed.all;
+setText(byId('feed-count'),filled(feed.waits?TEXTS.feedWaits:TEXTS.feedingCount,{n:feed.fed,all:feed.all}));
+}
+function chosenProgram(){
+return PROGRAMS.find(program=>program.name===byId('program').value)||PROGRAMS[0];
+}
+function feedChosen(){
+const program=chosenProgram(),words=TEXTS.programs[program.name];
+const cards=program.extra?[...program.cards,...program.extra()]:program.cards;
+return feedDeck(cards,words.fed);
+}
+function drawProgram(){
+const program=chosenProgram(),words=TEXTS.programs[program.name];
+setText(byId('source-title'),filled(TEXTS.sourceTitle,{name:words.name}));
+setText(byId('source-about'),words.about);
+setText(byId('source'),program.source);
+}
+let taking=null;
+async function takeMany(line,begins,all,each,drawn){
+const{breaks}=view;
+taking={stop:false};
+drawKeys();
+byId('take-stop').hidden=all<=CHUNK;
+let n=0,outcome={replies:[]},isRefused=false;
+while(n<all&&!isRefused&&!taking.stop){
+outcome=await inTurn(()=>sendAll(Array(Math.min(CHUNK,all - n)).fill(line),breaks));
+const found=outcome.replies.filter(reply=>reply.startsWith(begins));
+found.forEach(each);
+n +=found.length;
+isRefused=found.length===0||found.length<outcome.replies.length;
+drawn(n);
+}
+taking=null;
+endTaking();
+if(isRefused)noteOutcome(outcome.failed?outcome:{reply:outcome.replies[outcome.replies.length - 1]});
+return n;
+}
+function endTaking(){
+if(document.activeElement===byId('take-stop'))byId('tear-key').focus();
+byId('take-stop').hidden=true;
+drawKeys();
+}
+async function takeCard(){
+if(!mayCommand()||taking)return;
+const outcome=await say('CARD');
+const text=outcome.reply&&outcome.reply.startsWith('CARD ')?outcome.reply.slice(5):null;
+if(text===null)tellTaken(outcome.failed||wordsOf(outcome.reply),true);
+else tellTaken(text===''?TEXTS.takenBlank:filled(TEXTS.taken,{text}));
+}
+async function takeAllCards(){
+if(!mayCommand()||taking)return;
+const all=view.picture.registers.STACKER;
+note('you','CARD');
+const n=await takeMany('CARD','CARD ',all,reply=>taken.push(reply.slice(5)),
+n=>tellTaken(filled(TEXTS.takingCards,{n,all})));
+note('',counted(TEXTS.cardsInLog,n));
+tellTaken(counted(TEXTS.takenAll,n));
+drawTaken();
+await inTurn(look);
+}
+function tellTaken(text,isWrong=false){
+byId('taken-words').classList.toggle('wrong',isWrong);
+setText(byId('taken-words'),text);
+}
+async function tearOff(){
+if(!mayCommand()||taking)return;
+const all=view.paper.length;
+if(all===0)return tell(TEXTS.noPaper);
+if(!(await confirmed(counted(TEXTS.tearAsk,all))))return;
+note('you','LINE');
+const n=await takeLines(all);
+note('',counted(TEXTS.tornInLog,n));
+drawTaken();
+byId('tear-key').focus();
+await inTurn(look);
+}
+function takeLines(all){
+return takeMany('LINE','LINE ',all,reply=>torn.push(printedLineOf(reply)),
+n=>setText(byId('torn-words'),filled(TEXTS.tearing,{n,all})));
+}
+async function dropTorn(){
+if(!(await confirmed(TEXTS.dropAsk)))return;
+torn.length=0;
+drawTaken();
+byId('tear-key').focus();
+}
+function drawTaken(){
+byId('save-cards-key').hidden=byId('feed-again-key').hidden=taken.length===0;
+byId('drop-key').hidden=torn.length===0;
+setText(byId('torn-words'),torn.length?counted(TEXTS.torn,torn.length):'');
+}
+function keepsPaper(event){
+if(torn.length||taken.length)event.preventDefault();
+}
+function paperText(lines){
+let text='',form=1,line=1;
+for(const printed of lines){
+if(printed.form !==form){
+text +='\f'.repeat((printed.form - form + FORMS)% FORMS);
+form=printed.form;
+line=1;
+}
+text +='\n'.repeat(Math.max(0,printed.line - line))+ printed.text + '\n';
+line=printed.line + 1;
+}
+return text;
+}
+function confirmed(question){
+const dialog=byId('ask');
+setText(byId('ask-text'),question);
+dialog.returnValue='';
+dialog.showModal();
+return new Promise(done=>{
+dialog.addEventListener('close',()=>done(dialog.returnValue==='yes'),{once:true});
+});
+}
+const RENEWAL_MS=5000;
+const renewal={mode:'',seconds:null,asked:-Infinity};
+async function askRenewal(method){
+const headers=method==='POST'?{'X-1401-Room':view.picture.room}:{};
+const response=await fetch('/renewal',{method,headers,cache:'no-store'});
+const found=/^RENEWAL (?:(OFF|ON)|IN (\d+))\n$/.exec(await response.text());
+if(response.status !==200||!found)return;
+const{mode}=renewal;
+renewal.mode=found[1]||'ON';
+renewal.seconds=found[2]===undefined?null:Number(found[2]);
+drawNotice();
+if(mode !==renewal.mode)guide.draw();
+}
+async function lookForRenewal(){
+const now=performance.now();
+if(view.link !=='fine'||renewal.mode==='OFF'||now - renewal.asked<RENEWAL_MS)return;
+renewal.asked=now;
+try{
+await askRenewal('GET');
+}catch{
+renewal.mode='';
+}
+}
+async function renewRoom(){
+const{room}=view.picture;
+tell(TEXTS.said.renewing);
+try{
+await askRenewal('POST');
+}catch{
+setLink('lost');
+}
+for(let looks=0;looks<2*RENEWAL_MS / POLL_MS&&view.picture.room===room;looks++){
+await delay(POLL_MS);
+await inTurn(look);
+}
+return view.picture.room !==room;
+}
+function forgetRenewal(){
+Object.assign(renewal,{seconds:null,asked:-Infinity});
+drawNotice();
+}
+const HOLD_MS=1000;
+const hold={asked:-Infinity,seat:0,left:0,until:0,isPrepared:false};
+const HOLD_FORM=/^HOLD (?:FREE|(\d+) FOR (\d+))\nLAST (?:NONE|(\d+) (.+))\nTAKEN([ \d]*)\nBEGAN (PLAIN|PREPARED)\n$/;
+const isHeld=()=>hold.seat !==0&&performance.now()<hold.until;
+const isHolder=()=>isHeld()&&view.picture !==null&&view.picture.seat===hold.seat;
+const isKeptOff=()=>isHeld()&&!isHolder();
+function takeHold(text){
+const found=HOLD_FORM.exec(text);
+if(!found)return;
+const[,seat,left,last,line,taken,began]=found;
+Object.assign(hold,{seat:Number(seat||0),left:Number(left||0),isPrepared:began==='PREPARED'});
+hold.until=performance.now()+ 1000*hold.left;
+view.others.last=last?{seat:Number(last),line}:null;
+drawTakenSeats(taken.split(' '));
+drawHold();
+}
+function drawTakenSeats(taken){
+for(const link of byId('seats').querySelectorAll('a:not([aria-current])')){
+const n=link.textContent,isTaken=taken.includes(n);
+link.classList.toggle('taken',isTaken);
+setAttribute(link,'aria-label',filled(isTaken?TEXTS.takenSeat:TEXTS.seat,{n}));
+}
+}
+function forgetHold(){
+Object.assign(hold,{asked:-Infinity,seat:0,left:0,until:0});
+view.others.last=null;
+drawHold();
+}
+async function askForHold(path,method){
+const headers=method==='POST'?{'X-1401-Room':view.picture.room}:{};
+const response=await fetch(path,{method,headers,cache:'no-store'});
+const text=await response.text();
+if(response.status===200||response.status===423)takeHold(text);
+}
+async function lookForHold(){
+const now=performance.now();
+if(view.link !=='fine'||now - hold.asked<(view.picture.seats===1?Infinity:HOLD_MS))return;
+hold.asked=now;
+try{
+await askForHold('/hold','GET');
+}catch{
+hold.seat=0;
+}
+}
+async function pressHold(){
+try{
+await askForHold(isHolder()?'/release':'/hold','POST');
+}catch{
+setLink('lost');
+}
+}
+function holdWords(){
+if(!isHeld())return '';
+return isHolder()?TEXTS.holder:filled(TEXTS.keptOff,{seat:hold.seat});
+}
+function drawHold(){
+const isOne=!view.picture||view.picture.seats===1;
+byId('hold-key').hidden=isOne;
+setText(byId('hold-key'),isHolder()?TEXTS.releaseHold:TEXTS.holdKey);
+setOff(byId('hold-key'),view.link !=='fine'||isKeptOff());
+drawNotice();
+drawKeys();
+}
+function drawNotice(){
+const{seconds}=renewal,words=seconds===null?holdWords():counted(TEXTS.renewal,seconds);
+setText(byId('notice-words'),words);
+setText(byId('notice-left'),seconds===null&&words?` ${filled(TEXTS.secondsLeft, {n: hold.left})}`:'');
+byId('notice').hidden=words==='';
+}
+const CLEARED_AT_ONCE=4000;
+let isClearing=false;
+function addressOf(place){
+const digits=pad(place % 1000,3),thousands=Math.floor(place / 1000);
+const zoned=(digit,zone)=>GRAPHICS[zone*16 +(Number(digit)||10)];
+return zoned(digits[0],thousands % 4)+ digits[1]+ zoned(digits[2],Math.floor(thousands / 4));
+}
+function clearingLines(size){
+const program='~/' .repeat(39)+ '~.',lines=[];
+for(let top=size;top>0;top -=CLEARED_AT_ONCE){
+lines.push(`DEPOSIT 0001 ~/${addressOf(top - 1)}${program.slice(0, 72)}`,`DEPOSIT 0041 ${program.slice(72)}`,
+'START 0001',`RUN ${Math.min(top, CLEARED_AT_ONCE) / 100}`);
+}
+return[...lines,'START 0000'];
+}
+function isClear({registers,cells,next}){
+const{I,HOPPER,STACKER,PAPER,SWITCHES}=registers;
+return I + HOPPER + STACKER + PAPER===0&&!/[A-G]/.test(SWITCHES)&&next===null
+&&cells.every(cell=>cell.graphic===' '&&!cell.mark);
+}
+async function pressAfresh(){
+if(!mayCommand()||taking||feed)return;
+const question=othersAtWork()?TEXTS.afreshOthers:TEXTS.afreshAsk;
+if(!(await confirmed(question)))return;
+stopRun();
+while(run)await delay(SLICE_MS);
+await startAfresh(renewal.mode==='ON'?renewRoom:clearMachine);
+guide.begin();
+}
+async function startAfresh(clear=clearMachine){
+isClearing=true;
+note('words',TEXTS.said.clearing);
+tell(TEXTS.said.clearing);
+const isDone=await clear(),{clear:empty,prepared,notClear}=TEXTS.said;
+const words=isDone&&isClear(view.picture)?empty:isDone&&clear===renewRoom?prepared:notClear;
+isClearing=false;
+torn.length=taken.length=0;
+drawTaken();
+forgetWords();
+followsPaper=true;
+view.ended=null;
+byId('name').value=byId('keyed').value='';
+drawKeyed();
+tell(words);
+note('words',words);
+}
+function forgetWords(){
+fedAt=null;
+tellDeck('');
+tellTaken('');
+}
+function leaveClear(words){
+if(byId('said-words').textContent===TEXTS.said.clear)tell(words);
+}
+function beginAnew(words){
+forgetWords();
+tell(words);
+if(guide.state !=='off'&&guide.state !=='attract')guide.begin();
+}
+async function sendInTurn(lines,wanted){
+const{breaks}=view;
+for(let sent=0;sent<lines.length;){
+const{replies}=await inTurn(()=>sendAll(lines.slice(sent),breaks));
+if(replies.length===0||!replies.every(reply=>wanted.test(reply)))return false;
+sent +=replies.length;
+}
+return true;
+}
+async function clearMachine(){
+const{HOPPER,PAPER,STACKER,SWITCHES}=view.picture.registers,{size}=view.picture;
+const lines=[...SWITCHES.replace(/-/g,'')].map(name=>`SWITCH ${name} OFF`);
+const drawn=()=>{};
+if(HOPPER)await takeMany('LOAD','OK',HOPPER,drawn,drawn);
+if(PAPER)await takeMany('LINE','LINE ',PAPER,drawn,drawn);
+if(STACKER)await takeMany('CARD','CARD ',STACKER,drawn,drawn);
+if(!(await sendInTurn([...lines,...clearingLines(size)],/^(OK|STOP 01)/)))return false;
+view.core=0;
+await inTurn(look);
+return true;
+}
+const GUIDE_STEPS=[
+{until:'fed',key:'feed-key',shown:0},{until:'load',key:'load-key',shown:1},
+{until:'step',key:'step-key',shown:2},{until:'halt',key:'run-key',shown:3},
+{until:'named',key:'name-key',shown:4},{until:'load',key:'load-key',shown:4},
+{until:'halt',key:'run-key',shown:4},
+];
+const GUIDE_WAITS_MS=120000;
+const MOST_DETOURS=3;
+const guide={
+at:0,state:'off',detours:0,since:0,
+begin(){
+const isLeft=view.picture !==null&&!isClear(view.picture),left=hold.isPrepared?'prepared':'left';
+Object.assign(this,{at:0,detours:0,since:performance.now(),state:isLeft?left:'on'});
+byId('program').value='hello';
+drawProgram();
+this.draw();
+},
+on(event){
+if(this.state==='done'&&event==='fed'){
+this.state='aside';
+this.draw();
+}
+if(this.state !=='on'&&this.state !=='left')return;
+const next=GUIDE_STEPS.slice(this.at,this.at +(this.step()?.until==='named'?1:2));
+const ahead=next.findIndex(step=>step.until===event);
+this.since=performance.now();
+if(event==='fed'&&this.state==='left')this.state='on';
+if(ahead>=0&&this.state==='on'){
+this.at +=ahead + 1;
+this.detours=0;
+if(this.at===GUIDE_STEPS.length)this.state='done';
+}else if(event !=='run'&&++this.detours>MOST_DETOURS)this.state='aside';
+this.draw();
+},
+look(){
+const isLeft=run !==null&&!attract.on&&performance.now()- attract.touched>IDLE.attractMs;
+if(isLeft&&this.state !=='left'&&this.state !=='prepared')this.begin();
+const isLate=performance.now()- this.since>GUIDE_WAITS_MS;
+if((this.state==='on'&&this.at>0||this.state==='left')&&isLate&&!run){
+this.state='aside';
+this.draw();
+}
+},
+press(){
+if(this.state==='on'||this.state==='left'){
+this.state='off';
+this.draw();
+}else this.begin();
+},
+step(){
+return this.state==='on'?GUIDE_STEPS[this.at]:null;
+},
+draw(){
+const step=this.step(),lit=this.state==='left'?'afresh-key':step?step.key:'';
+for(const element of document.querySelectorAll('.lit'))element.classList.remove('lit');
+if(lit)byId(lit).classList.add('lit');
+[...byId('guide-steps').children].forEach((element,at)=>{
+const isDone=this.state==='done'||step !==null&&at<step.shown;
+element.classList.toggle('done',isDone);
+element.toggleAttribute('aria-current',step !==null&&at===step.shown);
+if(step !==null&&at===step.shown)element.setAttribute('aria-current','step');
+setAttribute(element,'aria-label',filled(isDone?TEXTS.stepDone:TEXTS.stepOpen,
+{n:at + 1,name:TEXTS.guideSteps[at]}));
+});
+byId('name-form').hidden=!step||step.until !=='named';
+byId('guide-end').hidden=this.state !=='done';
+setText(byId('guide-now'),this.words());
+setText(byId('guide-key'),this.state==='on'||this.state==='left'?TEXTS.guideOff:TEXTS.guideOn);
+},
+words(){
+if(this.state==='prepared'&&renewal.mode==='ON')return TEXTS.guide.preparedAgain;
+if(this.state !=='on')return TEXTS.guide[this.state];
+return TEXTS.guideWords[this.at]+(this.detours>1?` ${TEXTS.guide.waits}`:'');
+},
+};
+onHappened.push(event=>guide.on(event));
+let nameCard=HELLO;
+async function punchName(event){
+event.preventDefault();
+const name=plain(byId('name').value).trim().slice(0,CARD_COLUMNS - NAME_COLUMN);
+const wrong=[...name].find(letter=>!GRAPHICS.includes(letter));
+setText(byId('name-words'),name===''?TEXTS.nameEmpty:wrong?filled(TEXTS.nameWrong,{letter:wrong}):'');
+if(name===''||wrong||!mayCommand()||feed)return;
+byId('name').value=name;
+nameCard=released=HELLO.slice(0,NAME_COLUMN)+ name;
+await feedDeck([nameCard],filled(TEXTS.fedName,{name}));
+sound('punch');
+happened('named');
+byId('load-key').focus();
+}
+function printCard(){
+cards.toPrint(nameCard);
+document.body.classList.add('prints-card');
+print();
+document.body.classList.remove('prints-card');
+}
+const IDLE={attractMs:180000,pauseMs:90000,seatMs:20000,mostAfter:JOURNAL_ENTRIES / 2};
+const attract={on:false,stop:false,yields:false,touched:performance.now(),pressed:performance.now(),
+ended:-Infinity};
+function touch(event){
+attract.touched=attract.pressed=performance.now();
+if(run)run.wake();
+if(guide.state !=='attract'||event.isTrusted===false)return;
+if(attract.on)attract.stop=true;
+else takeOver();
+stopRun();
+if(event.key==='Tab')return;
+event.preventDefault();
+event.stopPropagation();
+}
+function noteHand(){
+attract.touched=performance.now();
+}
+function isIdle(){
+const now=performance.now(),{picture}=view;
+if(!picture||hold.isPrepared||!mayCommand()||run||feed||taking||document.hidden)return false;
+if(document.querySelector('dialog[open]')||picture.after>IDLE.mostAfter)return false;
+const wanted=IDLE.attractMs + picture.seat*IDLE.seatMs;
+return now - attract.touched>wanted&&now - view.changed>wanted - IDLE.attractMs + IDLE.pauseMs
+&&now - attract.ended>IDLE.pauseMs&&now - view.others.at>wanted;
+}
+async function attractIfIdle(){
+if(attract.on||!isIdle())return;
+Object.assign(attract,{on:true,stop:false,yields:false});
+document.body.classList.add('attracts');
+guide.state='attract';
+guide.draw();
+await playDeck();
+if(attract.stop)return takeOver();
+Object.assign(attract,{on:false,ended:performance.now()});
+if(attract.yields)stepAside();
+}
+async function takeOver(){
+Object.assign(attract,{on:true,stop:true});
+if(!attract.yields)await startAfresh();
+Object.assign(attract,{on:false,ended:performance.now()});
+document.body.classList.remove('attracts');
+guide.begin();
+}
+function yieldToOthers(){
+attract.yields=true;
+if(attract.on)stopRun();
+else if(guide.state==='attract')stepAside();
+}
+function stepAside(){
+document.body.classList.remove('attracts');
+guide.state='aside';
+guide.draw();
+}
+async function playDeck(){
+const ends=()=>attract.stop||attract.yields;
+await startAfresh();
+if(ends())return;
+const shown=PROGRAMS.filter(program=>program.alone);
+const program=shown[Math.floor(Math.random()*shown.length)],pace=byId('pace').selectedIndex;
+byId('program').value=program.name;
+drawProgram();
+await feedDeck(program.cards);
+if(ends())return;
+if(program.switches)await say(`SWITCH ${program.switches} ON`);
+await pressLoad();
+if(ends())return;
+byId('pace').selectedIndex=PACES.indexOf(OWN_PACE);
+await pressRun();
+byId('pace').selectedIndex=pace;
+}
+const SOUNDS={read:{ms:90,hertz:700},print:{ms:130,hertz:1900},punch:{ms:160,hertz:350}};
+let speaker=null;
+function pressSound(){
+if(speaker)speaker.close();
+speaker=speaker?null:new AudioContext();
+byId('sound-key').setAttribute('aria-pressed',String(speaker !==null));
+sound('print');
+}
+function sound(name){
+if(!speaker)return;
+const{ms,hertz}=SOUNDS[name],length=Math.floor(speaker.sampleRate*ms / 1000);
+const burst=speaker.createBuffer(1,length,speaker.sampleRate),samples=burst.getChannelData(0);
+for(let at=0;at<length;at++)samples[at]=(Math.random()*2 - 1)*(1 - at / length)**2;
+const source=speaker.createBufferSource(),filter=speaker.createBiquadFilter();
+source.buffer=burst;
+Object.assign(filter,{type:'bandpass'}).frequency.value=hertz;
+source.connect(filter).connect(speaker.destination);
+source.start();
+}
+function draw(){
+drawHead();
+drawPanel();
+drawCore();
+drawCards();
+drawPaper();
+drawKeys();
+followI();
+showChanges(drawnLast,view.picture);
+drawnLast=view.picture;
+}
+let drawnLast=null;
+function drawAnew(){
+seatsDrawn='';
+core.size=0;
+core.from=null;
+for(const sheet of sheets.values())sheet.element.remove();
+sheets.clear();
+tell(welcomeWords());
+drawProgram();
+guide.draw();
+drawKeyed();
+drawTaken();
+drawBanner();
+if(view.picture)draw();
+}
+function bannerText(){
+if(view.unkept)return TEXTS.unkept;
+if(view.link !=='fine')return filled(TEXTS[view.link],{status:view.status});
+const after=view.picture?view.picture.after:0;
+if(view.full||after>=JOURNAL_ENTRIES)return TEXTS.full;
+return after>=JOURNAL_NEARLY&&renewal.mode !=='ON'?filled(TEXTS.nearlyFull,{n:withCommas(after)}):'';
+}
+function drawBanner(){
+const text=bannerText();
+setText(byId('banner'),text);
+byId('banner').hidden=text==='';
+byId('link').classList.toggle('lost',view.link !=='fine');
+setAttribute(byId('link'),'title',view.link==='fine'?TEXTS.answers:text);
+}
+let seatsDrawn='';
+function drawHead(){
+const{seat,seats,after}=view.picture;
+setText(byId('after'),counted(TEXTS.after,after));
+drawOthers();
+if(seatsDrawn===`${seat} ${seats}`)return;
+seatsDrawn=`${seat} ${seats}`;
+document.title=filled(TEXTS.documentTitle,{seat});
+byId('seats').replaceChildren();
+added(byId('seats'),'span',{textContent:TEXTS.seats});
+const{protocol,hostname}=location;
+const port=Number(location.port||(protocol==='https:'?443:80))- seat;
+for(let n=1;n<=seats;n++){
+const address=`${protocol}//${hostname}:${port + n}/`;
+const link=added(byId('seats'),'a',{href:address,textContent:n});
+link.setAttribute('aria-label',filled(n===seat?TEXTS.thisSeat:TEXTS.seat,{n}));
+if(n===seat)link.setAttribute('aria-current','page');
+}
+}
+function othersWords(what){
+const last=lastOfOthers();
+return last?filled(TEXTS[`seat${what}`],last):TEXTS[`others${what}`];
+}
+function drawOthers(){
+const{count}=view.others;
+const now=othersWords(othersRun()?'Run':'Now'),before=count>0?counted(TEXTS.others,count):'';
+setText(byId('others'),othersAtWork()?now:before +(before&&lastOfOthers()?othersWords('Last'):''));
+byId('others').classList.toggle('wrong',othersAtWork());
+for(const id of['load-key','step-key','start-key','run-key']){
+const why=isKeptOff()?holdWords():othersRun()?othersWords('Run'):'';
+setAttribute(byId(id),'title',why||TEXTS[byId(id).dataset.title]);
+}
+drawRun();
+}
+function drawPanel(){
+const registers=view.picture.registers;
+for(const name of['I','A','B']){
+const digits=pad(registers[name],5),element=byId(name);
+[...digits].forEach((digit,at)=>setText(element.children[at],digit));
+setAttribute(element,'aria-label',`${TEXTS[`register${name}`]} ${digits}`);
+}
+for(const[name,lamp]of lamps){
+lamp.classList.toggle('on',registers[name]===1);
+const state=registers[name]===1?TEXTS.on:TEXTS.off;
+setAttribute(lamp,'aria-label',filled(TEXTS.lampLabel,{name:TEXTS.lamps[name],state}));
+}
+const hasEnded=view.ended !==null&&registers.I===view.ended;
+const next=hasEnded?'':(view.picture.next||'').trim();
+setText(byId('next'),next||(hasEnded?TEXTS.nextEnded:TEXTS.nextNone));
+setText(byId('next-words'),TEXTS.operations[next.split(' ')[0]]||'');
+for(const button of byId('switches').children){
+setAttribute(button,'aria-pressed',String(registers.SWITCHES.includes(button.value)));
+}
+drawBulbs();
+}
+function bitsWithCheck(graphic){
+const code=GRAPHICS.indexOf(graphic),bits=[32,16,8,4,2,1].map(bit=>(code&bit)>0);
+return[bits.filter(Boolean).length % 2===0,...bits];
+}
+function bulbRows(){
+const{registers,from,cells}=view.picture;
+const at=place=>cells[place - from]?cells[place - from].graphic:' ';
+const rows=[['B',at(registers.B)],['A',at(registers.A)],['OP',at(registers.I)]];
+const address=[...pad(registers.I,5)].map(digit=>[TEXTS.bulbAddress,digit]);
+return[...rows,...address];
+}
+function drawBulbs(){
+const isShown=byId('view-key').getAttribute('aria-pressed')==='true';
+byId('bulbs').hidden=!isShown;
+byId('registers').hidden=isShown;
+if(!isShown||!view.picture)return;
+byId('bulbs').replaceChildren();
+for(const[name,graphic]of bulbRows()){
+const row=added(byId('bulbs'),'div');
+added(row,'b',{textContent:name});
+bitsWithCheck(graphic).forEach((isOn,at)=>{
+added(row,'i',{textContent:'CBA8421'[at],className:isOn?'on':''}).setAttribute('aria-hidden','true');
+});
+row.setAttribute('role','img');
+row.setAttribute('aria-label',`${name} ${graphic === ' ' ? TEXTS.blank : graphic}`);
+}
+}
+function pressView(){
+const isShown=byId('view-key').getAttribute('aria-pressed')!=='true';
+byId('view-key').setAttribute('aria-pressed',String(isShown));
+drawBulbs();
+}
+const core={columns:0,heads:[],cells:[],shown:[],from:null,size:0,chosen:0};
+function columnsWanted(){
+return byId('core').clientWidth<560?20:50;
+}
+function buildCore(){
+core.columns=columnsWanted();
+Object.assign(core,{heads:[],cells:[],shown:[],from:null});
+byId('core').classList.toggle('narrow',core.columns===20);
+byId('core').replaceChildren();
+const table=added(byId('core'),'table');
+table.setAttribute('role','grid');
+table.id='grid';
+const head=added(added(table,'thead'),'tr');
+added(head,'th');
+for(let ten=0;ten<core.columns;ten +=10)added(head,'th',{colSpan:10,textContent:pad(ten,2)});
+const body=added(table,'tbody');
+for(let at=0;at<PLACES_SHOWN;at++){
+if(at % core.columns===0)core.heads.push(added(added(body,'tr'),'th',{scope:'row'}));
+const row=core.heads[core.heads.length - 1].parentElement;
+core.cells.push(added(row,'td',{tabIndex:at===core.chosen?0:-1}));
+}
+}
+function areaOf(place){
+if(place>=1&&place<=80)return 'read ';
+if(place>=101&&place<=180)return 'punch ';
+return place>=201&&place<=332?'print ':'';
+}
+function drawCore(){
+const{from,cells,registers}=view.picture;
+const moved=core.from !==from;
+core.from=from;
+const begin=registers.I - from,end=begin + instructionLength(cells,begin);
+if(moved)core.heads.forEach((head,row)=>setText(head,pad(from + row*core.columns,4)));
+cells.forEach((cell,at)=>{
+const name=areaOf(from + at)+(cell.mark?'mark ':'')+(at>=begin&&at<end?'next ':'')
++(at % 10===0&&at % core.columns>0?'ten':'');
+const known=core.shown[at],text=cell.graphic + cell.mark;
+if(!moved&&known&&known.name===name&&known.text===text)return;
+const element=core.cells[at];
+element.className=name;
+setText(element,cell.graphic===' '?'\u00a0':cell.graphic);
+const isOther=!known||known.text !==text;
+if(moved||isOther)element.setAttribute('aria-label',filled(TEXTS.cellLabel,cellWords(at)));
+if(!moved&&known&&isOther)glow(element);
+core.shown[at]={name,text};
+});
+setAttribute(byId('grid'),'aria-label',filled(TEXTS.coreLabel,{from:pad(from,4)}));
+drawTabs();
+drawChosen();
+if(byId('core-details').open)drawCoreText();
+}
+function cellWords(at){
+const{graphic,mark}=view.picture.cells[at];
+return{at:pad(view.picture.from + at,4),graphic:graphic===' '?TEXTS.blank:graphic,
+mark:mark?TEXTS.withMark:''};
+}
+let hasChosen=false;
+function drawChosen(){
+if(!hasChosen)return setText(byId('cell'),TEXTS.cellHint);
+const graphic=view.picture.cells[core.chosen].graphic;
+const rows=rowsOf(graphic).join('-');
+setText(byId('cell'),filled(TEXTS.cell,{...cellWords(core.chosen),bits:bitsOf(graphic)||TEXTS.noBits,
+holes:rows||TEXTS.noHoles}));
+}
+function choose(at){
+core.cells[core.chosen].tabIndex=-1;
+core.chosen=at;
+core.cells[at].tabIndex=0;
+hasChosen=true;
+if(view.picture)drawChosen();
+}
+function drawCoreText(){
+const{from,cells}=view.picture;
+const rows=[];
+for(let at=0;at<PLACES_SHOWN;at +=40){
+const row=cells.slice(at,at + 40).map(cell=>(cell.mark?'~':'')+ cell.graphic).join('');
+rows.push(`${pad(from + at, 4)}  ${row.trimEnd()}`);
+}
+setText(byId('core-text'),rows.join('\n'));
+}
+function windowsOf(size){
+const windows=[];
+for(let at=0;at + PLACES_SHOWN<size;at +=PLACES_SHOWN)windows.push(at);
+return[...windows,size - PLACES_SHOWN];
+}
+function drawTabs(){
+const{size}=view.picture;
+if(core.size !==size){
+core.size=size;
+byId('tabs').replaceChildren();
+for(const at of windowsOf(size)){
+added(byId('tabs'),'button',{type:'button',textContent:pad(at,4),value:at});
+}
+}
+for(const tab of byId('tabs').children)setAttribute(tab,'aria-pressed',String(Number(tab.value)===view.core));
+}
+function windowWith(place){
+const{size}=view.picture;
+return Math.min(Math.floor(place / PLACES_SHOWN)*PLACES_SHOWN,size - PLACES_SHOWN);
+}
+function showWindow(from){
+view.core=from;
+drawTabs();
+return inTurn(look);
+}
+function followI(){
+const{registers,from,size}=view.picture;
+const place=registers.I;
+const isShown=place>=from&&place<from + PLACES_SHOWN;
+if(byId('follow').checked&&!isShown&&place<size)view.core=windowWith(place);
+}
+async function findPlace(event){
+event.preventDefault();
+const place=Number(byId('find-at').value.trim()||NaN);
+if(!view.picture)return;
+if(!(Number.isInteger(place)&&place>=0&&place<view.picture.size)){
+return setText(byId('cell'),filled(TEXTS.findWrong,{last:pad(view.picture.size - 1,4)}));
+}
+byId('follow').checked=false;
+await showWindow(windowWith(place));
+choose(place - view.picture.from);
+core.cells[core.chosen].focus();
+}
+function moveInCore(event){
+const by={ArrowLeft:-1,ArrowRight:1,ArrowUp:-core.columns,ArrowDown:core.columns,
+Home:-(core.chosen % core.columns),End:core.columns - 1 - core.chosen % core.columns}[event.key];
+const to=core.chosen + by;
+if(by===undefined||event.altKey||event.ctrlKey)return;
+event.preventDefault();
+if(to<0||to>=PLACES_SHOWN)return;
+choose(to);
+core.cells[to].focus();
+}
+const CARD={width:516,height:176,left:20,column:6,top:17,row:12.6};
+const rowOrder=[12,11,0,1,2,3,4,5,6,7,8,9];
+const columnsAt=Array.from({length:CARD_COLUMNS},(_,at)=>CARD.left + at*CARD.column).join(' ');
+function cardIn(figure){
+const{width,height}=CARD;
+const picture=drawn(figure,'svg',{viewBox:`0 0 ${width} ${height}`,role:'img'});
+const edge=`M17 .5H${width - 6}q5.5 0 5.5 5.5V${height - 6}q0 5.5-5.5 5.5H6q-5.5 0-5.5-5.5V17z`;
+drawn(picture,'path',{class:'edge',d:edge});
+rowOrder.slice(2).forEach((row,at)=>{
+const y=CARD.top +(at + 2)*CARD.row + 8.5;
+const line=drawn(picture,'text',{class:'rows','text-anchor':'middle',x:columnsAt,y});
+line.textContent=String(row).repeat(CARD_COLUMNS);
+});
+for(let column=10;column<=CARD_COLUMNS;column +=10){
+const label=drawn(picture,'text',{class:'columns','text-anchor':'middle',
+x:CARD.left +(column - 1)*CARD.column,y:height - 3});
+label.textContent=column;
+}
+const print=drawn(picture,'text',{class:'typed','text-anchor':'middle',x:columnsAt,y:12.5});
+const holes=drawn(picture,'path',{class:'holes'});
+let shown;
+return text=>{
+if(shown===text)return;
+shown=text;
+figure.classList.toggle('none',text===null);
+const columns=(text||'').padEnd(CARD_COLUMNS).slice(0,CARD_COLUMNS);
+setText(print,columns);
+holes.setAttribute('d',holesOf(columns));
+picture.setAttribute('aria-label',cardLabel(text));
+};
+}
+function cardLabel(text){
+if(text===null)return TEXTS.cardNone;
+return text.trim()===''?TEXTS.cardBlank:filled(TEXTS.cardLabel,{text});
+}
+function holesOf(columns){
+let path='';
+[...columns].forEach((graphic,column)=>{
+if(!GRAPHICS.includes(graphic))return;
+const x=CARD.left + column*CARD.column - 1.7;
+for(const row of rowsOf(graphic)){
+const y=CARD.top + rowOrder.indexOf(row)*CARD.row + 1.8;
+path +=`M${x.toFixed(1)} ${y.toFixed(1)}h3.4v9h-3.4z`;
+}
+});
+return path;
+}
+function drawCards(){
+const{registers,read,hopper,punched}=view.picture;
+for(const[name,pile]of[['HOPPER',byId('hopper-pile')],['STACKER',byId('stacker-pile')]]){
+setText(byId(name),pad(registers[name],3));
+pile.classList.toggle('none',registers[name]===0);
+pile.style.setProperty('--cards',registers[name]);
+}
+if(fedAt !==null&&registers.HOPPER<fedAt){
+fedAt=null;
+tellDeck('');
+}
+cards.read(read);
+cards.next(hopper);
+cards.punched(punched);
+setText(byId('card-next-name'),hopper===null?TEXTS.cardNoNext:TEXTS.cardNext);
+setText(byId('card-punched-name'),punched===null?TEXTS.cardNoPunched:TEXTS.cardPunched);
+const station=read.trim()===''?TEXTS.cardBlank:filled(TEXTS.cardLabel,{text:read.trim()});
+setAttribute(byId('transport'),'aria-label',
+filled(TEXTS.transportLabel,{hopper:registers.HOPPER,station,stacker:registers.STACKER}));
+}
+let released='';
+const keyed=()=>byId('keyed').value.replace(/[a-z]/g,letter=>letter.toUpperCase());
+function drawKeyed(){
+const text=keyed(),wrong=[...text].findIndex(graphic=>!GRAPHICS.includes(graphic));
+cards.keyed(text);
+byId('keyed-words').classList.toggle('wrong',wrong>=0);
+setText(byId('keyed-words'),wrong>=0
+?filled(TEXTS.columnWrong,{column:wrong + 1,what:noCard(text[wrong])})
+:text.length>=CARD_COLUMNS?TEXTS.cardFull:filled(TEXTS.columnTold,{n:text.length + 1}));
+}
+function keyIn(graphic){
+const field=byId('keyed');
+if(field.value.length<CARD_COLUMNS)field.setRangeText(graphic,field.selectionStart,field.selectionEnd,'end');
+drawKeyed();
+}
+const KEY_ACTIONS={
+space:()=>keyIn(' '),
+back:()=>{
+const field=byId('keyed'),at=field.selectionStart;
+if(at>0)field.setRangeText('',at - 1,at,'end');
+drawKeyed();
+},
+dup:()=>keyIn(released[byId('keyed').selectionStart]||' '),
+clear:()=>{
+byId('keyed').value='';
+drawKeyed();
+},
+};
+async function releaseCard(){
+const deck=deckOf(`${keyed()}\n`);
+if(deck.fault)return drawKeyed();
+if(feed)return tellDeck(TEXTS.alreadyFeeding,true);
+released=keyed();
+KEY_ACTIONS.clear();
+sound('punch');
+await feedDeck(deck.cards);
+}
+function takeProgram(){
+byId('keyed').value=HELLO;
+drawKeyed();
+byId('keyed').focus();
+byId('keyed').setSelectionRange(NAME_COLUMN,HELLO.length);
+}
+function buildKeyboard(){
+byId('keyboard').replaceChildren();
+for(const row of KEYBOARD){
+const line=added(byId('keyboard'),'div');
+for(const graphic of row){
+const onclick=()=>keyIn(graphic);
+const key=added(line,'button',{type:'button',textContent:graphic,tabIndex:-1,onclick});
+key.setAttribute('aria-label',filled(TEXTS.keyTitle,{graphic}));
+}
+}
+const line=added(byId('keyboard'),'div');
+for(const[name,action]of Object.entries(KEY_ACTIONS)){
+const key=added(line,'button',{type:'button',className:'wide',tabIndex:-1,onclick:action});
+key.textContent=TEXTS.keys[name];
+if(name==='dup')key.title=TEXTS.dupTitle;
+}
+keysOf(byId('keyboard'))[0].tabIndex=0;
+}
+const keysOf=keyboard=>[...keyboard.querySelectorAll('button')];
+function moveOnKeyboard(event){
+const keys=keysOf(byId('keyboard')),at=keys.indexOf(event.target);
+const by={ArrowLeft:-1,ArrowRight:1,ArrowUp:-10,ArrowDown:10}[event.key];
+if(at<0||by===undefined||event.altKey)return;
+event.preventDefault();
+const to=Math.max(0,Math.min(keys.length - 1,at + by));
+keys[at].tabIndex=-1;
+keys[to].tabIndex=0;
+keys[to].focus();
+}
+const sheets=new Map();
+let followsPaper=true,handOnPaper=-Infinity;
+function sheetIn(parent,form){
+const element=added(parent,'div',{className:'sheet'});
+element.setAttribute('role','group');
+element.setAttribute('aria-label',filled(TEXTS.formLabel,{form:pad(form,4)}));
+const text=added(element,'pre');
+return{element,rows:Array.from({length:FORM_LINES},()=>added(text,'span'))};
+}
+function formsShown(){
+const{FORM}=view.picture.registers;
+return[...new Set([...view.paper.map(line=>line.form),FORM,(FORM + 1)% FORMS])];
+}
+function drawPaper(){
+const{registers}=view.picture;
+const forms=formsShown();
+const isOther=[...sheets.keys()].some((form,at)=>forms[at]!==form);
+if(isOther){
+for(const sheet of sheets.values())sheet.element.remove();
+sheets.clear();
+}
+const isFirst=sheets.size===0;
+for(const form of forms)if(!sheets.has(form))sheets.set(form,sheetIn(byId('fold'),form));
+const texts=textsByForm(view.paper);
+for(const[form,sheet]of sheets){
+drawSheet(sheet,texts.get(form)||[],form===registers.FORM?registers.LINE:0,!isFirst);
+}
+const place={form:pad(registers.FORM,4),line:registers.LINE};
+setText(byId('paper-at'),counted(TEXTS.paperAt,view.paper.length,place));
+drawTape(registers.LINE);
+followPaper();
+}
+function textsByForm(lines){
+const texts=new Map();
+for(const{form,line,text}of lines){
+if(!texts.has(form))texts.set(form,[]);
+texts.get(form)[line - 1]=text;
+}
+return texts;
+}
+function drawSheet(sheet,texts,carriage,glows){
+sheet.rows.forEach((row,at)=>{
+const text=texts[at]||'';
+row.classList.toggle('at',at + 1===carriage);
+if(row.textContent===text)return;
+row.textContent=text;
+if(glows)glow(row);
+});
+}
+function followPaper(){
+byId('to-carriage').hidden=followsPaper;
+if(!followsPaper)return;
+const fold=byId('fold'),{registers}=view.picture;
+const{element,rows}=sheets.get(registers.FORM);
+const line=rows[0].offsetHeight*registers.LINE;
+fold.scrollTop=element.offsetTop + line - fold.clientHeight*.85;
+}
+function notePaperMoved(){
+if(performance.now()- handOnPaper<RETRY_MS)followsPaper=false;
+byId('to-carriage').hidden=followsPaper;
+}
+function goToCarriage(){
+followsPaper=true;
+followPaper();
+}
+function enlargePaper(){
+const isLarge=byId('fold').classList.toggle('large');
+byId('large-key').setAttribute('aria-pressed',String(isLarge));
+goToCarriage();
+}
+function buildTape(){
+const tape=byId('tape');
+drawn(tape,'rect',{class:'strip',x:6,y:.5,width:48,height:329});
+for(let line=1;line<=FORM_LINES;line +=2){
+drawn(tape,'rect',{class:'feed-hole',x:29,y:line*5 - 3.5,width:2,height:2});
+}
+for(const[channel,line]of CHANNELS){
+drawn(tape,'rect',{class:'hole',x:8 + channel*3.5 - 3.5,y:line*5 - 4.4,width:4,height:3.8});
+}
+return drawn(tape,'path',{class:'pointer',d:'M0 -3.4L6 0L0 3.4zM60 -3.4L54 0L60 3.4z'});
+}
+function drawTape(line){
+tapePointer.setAttribute('transform',`translate(0 ${line * 5 - 2.5})`);
+setAttribute(byId('tape'),'aria-label',filled(TEXTS.tapeLabel,{line}));
+}
+function layOutForPrint(){
+const target=byId('sheets-to-print');
+target.replaceChildren();
+for(const[form,texts]of textsByForm([...torn,...view.paper]))drawSheet(sheetIn(target,form),texts,0,false);
+}
+const typed={lines:[],at:0};
+async function sendLine(event){
+event.preventDefault();
+if(!mayCommand())return;
+const line=byId('line').value.replace(/[a-z]/g,letter=>letter.toUpperCase());
+if(line.trim()==='')return;
+byId('line').value='';
+typed.lines.push(line);
+typed.at=typed.lines.length;
+if(!/^[ -~]*$/.test(line)){
+note('you',line);
+return note('bad',TEXTS.notText);
+}
+if(line.trim()==='HELP'){
+byId('lines-details').open=true;
+byId('lines-details').scrollIntoView({block:'nearest'});
+return;
+}
+view.ended=null;
+const outcome=await say(line);
+const stop=stopOf(outcome.reply);
+if(stop)tellOutcome(outcome,counted(TEXTS.said.limit,stop.steps));
+if(stop)noteStop(stop);
+}
+function recallLine(event){
+const by={ArrowUp:-1,ArrowDown:1}[event.key];
+const to=typed.at + by;
+if(by===undefined||event.altKey||to<0||to>typed.lines.length)return;
+event.preventDefault();
+typed.at=to;
+byId('line').value=typed.lines[to]||'';
+}
+const ABOUT_PARTS=[[20,'reader'],[235,'unit'],[450,'printer']];
+function showAbout(){
+byId('about').showModal();
+byId('about').scrollTop=0;
+}
+function buildAbout(){
+byId('about-drawing').replaceChildren();
+for(const[x,name]of ABOUT_PARTS){
+drawn(byId('about-drawing'),'rect',{x,y:40,width:170,height:90,rx:6});
+for(const[at,text]of TEXTS.aboutParts[name].entries()){
+drawn(byId('about-drawing'),'text',{x:x + 85,y:76 + 24*at}).textContent=text;
+}
+}
+drawn(byId('about-drawing'),'path',{d:'M192 85h38m-8-6l8 6l-8 6M407 85h38m-8-6l8 6l-8 6'});
+for(const[at,text]of TEXTS.aboutParts.below.entries()){
+drawn(byId('about-drawing'),'text',{x:ABOUT_PARTS[at][0]+ 85,y:158}).textContent=text;
+}
+byId('about-words').replaceChildren();
+for(const[word,meaning]of TEXTS.aboutWords){
+added(byId('about-words'),'dt',{textContent:word});
+added(byId('about-words'),'dd',{textContent:meaning});
+}
+}
+function openKeypunch(){
+byId('keypunch').open=true;
+byId('keyed').focus();
+}
+const SHORTCUTS={
+KeyF:feedChosen,KeyL:pressLoad,KeyR:pressRun,KeyN:pressStep,KeyT:tearOff,KeyK:openKeypunch,
+KeyC:()=>byId('line').focus(),KeyA:()=>byId('find-at').select(),KeyP:()=>byId('fold').focus(),
+};
+function pressKey(event){
+if(document.querySelector('dialog[open]'))return;
+if(event.key==='Escape')return pressStop();
+const action=SHORTCUTS[event.code];
+if(!action||!event.altKey||event.ctrlKey||event.metaKey||event.getModifierState('AltGraph'))return;
+event.preventDefault();
+if(!event.repeat)action();
+}
+function putTexts(){
+document.documentElement.lang=TEXTS.language;
+for(const element of document.querySelectorAll('[data-text], [data-label], [data-title], [data-hint]')){
+const{text,label,title,hint}=element.dataset;
+if(text)element.textContent=TEXTS[text];
+if(label)element.setAttribute('aria-label',TEXTS[label]);
+if(title)element.title=TEXTS[title];
+if(hint)element.placeholder=TEXTS[hint];
+}
+byId('after').title=TEXTS.afterTitle;
+putChoices();
+for(const[table,rows]of[['lines',TEXTS.lines],['help-shortcuts',TEXTS.shortcuts]]){
+byId(table).replaceChildren();
+for(const row of rows){
+const line=added(byId(table),'tr');
+for(const text of row)added(line,'td',{textContent:text});
+}
+}
+byId('guide-steps').replaceChildren();
+for(const step of TEXTS.guideSteps)added(byId('guide-steps'),'li',{textContent:step});
+buildAbout();
+buildKeyboard();
+namePanel();
+}
+function putChoices(){
+const pace=byId('pace').selectedIndex,program=byId('program').value;
+byId('pace').replaceChildren();
+for(const name of TEXTS.paces)added(byId('pace'),'option',{textContent:name});
+byId('pace').selectedIndex=pace<0?FASTEST:pace;
+byId('program').replaceChildren();
+for(const{name}of PROGRAMS){
+added(byId('program'),'option',{value:name,textContent:TEXTS.programs[name].name});
+}
+byId('program').value=program||'hello';
+byId('language').replaceChildren();
+for(const[name,texts]of Object.entries(LANGUAGES)){
+added(byId('language'),'option',{value:name,textContent:texts.name,lang:name});
+}
+byId('language').value=TEXTS.language;
+}
+function namePanel(){
+for(const button of byId('switches').children){
+button.setAttribute('aria-label',filled(TEXTS.switchLabel,{name:button.value}));
+}
+for(const[name,lamp]of lamps)setText(lamp.previousElementSibling,TEXTS.lamps[name]);
+}
+function buildPanel(){
+for(const name of['I','A','B']){
+for(let digit=0;digit<5;digit++)added(byId(name),'b',{textContent:'0'});
+}
+for(const name of SWITCHES){
+const button=added(byId('switches'),'button',{type:'button',value:name,textContent:name});
+button.setAttribute('aria-pressed','false');
+button.addEventListener('click',()=>turnSwitch(button));
+}
+return['UNEQUAL','LOW','HIGH','OVERFLOW'].map(name=>{
+const part=added(byId('lamps'),'div');
+added(part,'span',{className:'name'}).setAttribute('aria-hidden','true');
+const lamp=added(part,'div',{className:'lamp'});
+lamp.setAttribute('role','img');
+return[name,lamp];
+});
+}
+function turnSwitch(button){
+const isOn=button.getAttribute('aria-pressed')==='true';
+if(!isOff(button))say(`SWITCH ${button.value} ${isOn ? 'OFF' : 'ON'}`);
+}
+function listenForClicks(){
+const clicks={
+'load-key':pressLoad,'run-key':pressRun,'stop-key':pressStop,'step-key':pressStep,
+'pick-key':()=>byId('file').click(),'card-key':takeCard,'deck-key':()=>feedText(byId('deck').value),
+'feed-key':feedChosen,'all-cards-key':takeAllCards,'afresh-key':pressAfresh,'guide-key':()=>guide.press(),
+'view-key':pressView,'hold-key':pressHold,'sound-key':pressSound,'card-print-key':printCard,
+'about-key':showAbout,'about-close':()=>byId('about').close(),
+'feed-again-key':()=>feedDeck([...taken]),
+'save-cards-key':()=>saveFile('taken.cards',`${taken.join('\n')}\n`),
+'release-key':releaseCard,'program-key':takeProgram,'tear-key':tearOff,'drop-key':dropTorn,
+'save-key':()=>saveFile('paper.txt',paperText([...torn,...view.paper])),'print-key':()=>print(),
+'to-carriage':goToCarriage,'large-key':enlargePaper,
+'help-key':()=>byId('help').showModal(),'help-close':()=>byId('help').close(),
+'ask-yes':()=>byId('ask').close('yes'),'ask-no':()=>byId('ask').close(),
+};
+for(const[id,action]of Object.entries(clicks)){
+byId(id).addEventListener('click',event=>{if(!isOff(byId(id)))action(event);});
+}
+byId('feed-stop').addEventListener('click',()=>{if(feed)feed.stop=true;});
+byId('take-stop').addEventListener('click',()=>{if(taking)taking.stop=true;});
+}
+function listen(){
+byId('file').addEventListener('change',()=>{
+const[file]=byId('file').files;
+byId('file').value='';
+if(file)feedFile(file);
+});
+byId('program').addEventListener('change',drawProgram);
+byId('language').addEventListener('change',()=>chooseLanguage(byId('language').value));
+byId('name-form').addEventListener('submit',punchName);
+byId('keyboard').addEventListener('keydown',moveOnKeyboard);
+byId('start-form').addEventListener('submit',pressStart);
+byId('find').addEventListener('submit',findPlace);
+byId('line-form').addEventListener('submit',sendLine);
+byId('line').addEventListener('keydown',recallLine);
+byId('keyed').addEventListener('input',drawKeyed);
+byId('keyed').addEventListener('keydown',event=>{if(event.key==='Enter')releaseCard();});
+byId('tabs').addEventListener('click',event=>{
+if(event.target.value===''||event.target.tagName !=='BUTTON')return;
+byId('follow').checked=false;
+showWindow(Number(event.target.value));
+});
+byId('core-details').addEventListener('toggle',()=>{if(view.picture)drawCoreText();});
+byId('fold').addEventListener('scroll',notePaperMoved);
+for(const hand of['wheel','touchmove','pointerdown','keydown']){
+byId('fold').addEventListener(hand,()=>{handOnPaper=performance.now();},{passive:true});
+}
+document.addEventListener('keydown',pressKey);
+document.addEventListener('visibilitychange',()=>{if(!document.hidden)inTurn(look);});
+window.addEventListener('beforeprint',layOutForPrint);
+window.addEventListener('beforeunload',keepsPaper);
+for(const hand of['keydown','pointerdown','click'])window.addEventListener(hand,touch,{capture:true});
+for(const hand of['pointermove','wheel'])window.addEventListener(hand,noteHand,{passive:true});
+window.addEventListener('resize',resized);
+}
+function listenForPlaces(places){
+places.addEventListener('keydown',moveInCore);
+places.addEventListener('focusin',event=>{
+const at=core.cells.indexOf(event.target);
+if(at>=0)choose(at);
+});
+places.addEventListener('click',event=>{if(event.target.tagName==='TD')event.target.focus();});
+}
+function listenForFiles(){
+document.addEventListener('dragover',event=>{
+event.preventDefault();
+byId('feeder').classList.add('over');
+});
+for(const name of['dragleave','drop']){
+document.addEventListener(name,()=>byId('feeder').classList.remove('over'));
+}
+document.addEventListener('drop',event=>{
+event.preventDefault();
+const[file]=event.dataTransfer.files;
+if(file)feedFile(file);
+});
+}
+function resized(){
+if(columnsWanted()!==core.columns)buildCore();
+if(view.picture)draw();
+}
+async function poll(){
+for(;;){
+if(!taking&&!(feed&&!feed.waits))await inTurn(look);
+if(view.picture)drawOthers();
+guide.look();
+lookForRenewal();
+lookForHold();
+attractIfIdle();
+await delay(view.link !=='fine'?RETRY_MS:document.hidden?HIDDEN_POLL_MS:POLL_MS);
+}
+}
+async function begin(){
+tell(TEXTS.said.welcome);
+note('words',TEXTS.said.firstNote);
+while(!(await inTurn(look)))await delay(RETRY_MS);
+await lookForHold();
+tell(welcomeWords());
+guide.begin();
+poll();
+}
+TEXTS=LANGUAGES[languageWanted()];
+const lamps=buildPanel();
+const tapePointer=buildTape();
+const cards={read:cardIn(byId('card-read')),next:cardIn(byId('card-next')),punched:cardIn(byId('card-punched')),
+keyed:cardIn(byId('card-keyed')),toPrint:cardIn(byId('card-to-print'))};
+for(const card of[cards.read,cards.next,cards.punched])card(null);
+putTexts();
+buildCore();
+drawKeyed();
+drawProgram();
+guide.draw();
+drawKeys();
+listenForClicks();
+listen();
+listenForPlaces(byId('core'));
+listenForFiles();
+begin();
+</script>
+</body>
+</html>
+"##;
+
+/// The `content-security-policy` of the page: its own script and style by their SHA-256, exchanges with its own server,
+/// and nothing else.
+pub const POLICY: &str = "default-src 'none'; \
+    script-src 'sha256-tqMbHj6xofwiHSZTpQ9YJ8jJ7aMctRWpeaDKCjL7ObU='; \
+    style-src 'sha256-59aFZCQciM0a7kK5TsM8yNoux63Ji81fTk2rUPrgvQE='; \
+    img-src data:; \
+    connect-src 'self'; \
+    form-action 'none'; \
+    base-uri 'none'; \
+    frame-ancestors 'none'";
+
+/// The page and its policy.
+pub fn document() -> Document
+    ensures { IsTrue (is_visible_text result.policy.now) }
+{
+    Document {
+        first: PAGE,
+        rest: REST,
+        policy: POLICY,
+    }
+}

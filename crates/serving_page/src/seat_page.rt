@@ -1,0 +1,166 @@
+//! The page of a seat: a service of HTTP over the seat.
+ghost use Rattle.std.specs.Prelude.{◌≡◌, ◌++◌, IsTrue};
+ghost use Rattle.http_header.specs.FieldValue.{is_visible_text};
+
+use crate::elsewhere::tell_address;
+use crate::many_lines::take_lines;
+use crate::showing::show_picture;
+use crate::taking::take_line;
+use bytes::Bytes;
+use http::{Request, StatusCode};
+use http_server::{Response, Service};
+use room_1401::{Keeper, RoomId, Seat, SharedRoom};
+use serving_http::{
+    Document, MOST_LINE_BYTES, Route, Site, is_ambiguous, is_for_site, put_page, refuse, route_of,
+};
+use std::alloc::{AllocError, Global};
+use std::marker::Model;
+use std::sync::Wait;
+
+/// The page of a seat, at a port of the loopback, and perhaps at an origin outside. Contracts see how many seats there
+/// are, the port, that origin, the room's name, the page with what its browser may do with it, and what the seat knows.
+#[derive(Drop)]
+pub struct SeatPage<'a, J: RoomId, R: Wait + Drop, P: Keeper + Drop, W: Wait> {
+    alloc: Global,
+    wait: &'a W,
+    room: &'a SharedRoom<J, R, P>,
+    seat: Seat<J>,
+    seats: u8,
+    site: &'a Site,
+    name: &'a [u8],
+    document: Document,
+}
+
+impl<'a, J: RoomId, R: Wait + Drop, P: Keeper + Drop, W: Wait> Model for SeatPage<'a, J, R, P, W> {
+    ghost use Rattle.std.specs.Prelude.{◌++◌, IsTrue};
+    ghost use Rattle.http_header.specs.FieldValue.{is_visible_text};
+    ghost use Rattle.serving_page.specs.SeatPage.{PageView};
+
+    ghost Value = { PageView };
+
+    ghost view = { λ s. record {
+      seats = s.seats;
+      port = s.site.now.port;
+      outside = s.site.now.outside;
+      name = s.name.now;
+      page = s.document.first.now ++ s.document.rest.now;
+      policy = s.document.policy.now;
+      seat = s.seat;
+    } };
+
+    ghost invariant = { λ s. IsTrue (is_visible_text s.document.policy.now) };
+}
+
+impl<'a, J: RoomId, R: Wait + Drop, P: Keeper + Drop, W: Wait> SeatPage<'a, J, R, P, W> {
+    /// The page of one of the `seats` seats of the room of this name, which is served where this site is, and nowhere
+    /// else.
+    pub fn new(
+        alloc: Global,
+        wait: &'a W,
+        room: &'a SharedRoom<J, R, P>,
+        seat: Seat<J>,
+        seats: u8,
+        site: &'a Site,
+        name: &'a [u8],
+        document: &Document,
+    ) -> SeatPage<'a, J, R, P, W>
+        requires { IsTrue (is_visible_text document.now.policy.now) }
+        ensures { result ≡ record {
+          seats = seats;
+          port = site.now.port;
+          outside = site.now.outside;
+          name = name.now;
+          page = document.now.first.now ++ document.now.rest.now;
+          policy = document.now.policy.now;
+          seat = seat;
+        } }
+    {
+        SeatPage {
+            alloc,
+            wait,
+            room,
+            seat,
+            seats,
+            site,
+            name,
+            document: *document,
+        }
+    }
+
+    /// The seat, with all that it made at its page.
+    pub fn into_seat(self) -> Seat<J>
+        ensures { result ≡ self.entry.seat }
+    {
+        let SeatPage {
+            alloc: _,
+            wait: _,
+            room: _,
+            seat,
+            seats: _,
+            site: _,
+            name: _,
+            document: _,
+        } = self;
+        seat
+    }
+}
+
+impl<J: RoomId, R: Wait + Drop, P: Keeper + Drop, W: Wait> Service for SeatPage<'_, J, R, P, W> {
+    ghost use Rattle.serving_page.specs.SeatPage.{Answers};
+    ghost use Rattle.serving_page.specs.Taking.{HasLost};
+
+    ghost answers = { Answers J.size (HasLost P.has_failed P.kept P.first P.form J.size) };
+
+    fn call(
+        &mut self,
+        request: &Request<Bytes>,
+        response: &mut Response,
+    ) -> Result<(), AllocError> {
+        if !is_for_site(request, self.site) {
+            return tell_address(self.alloc, self.site, response);
+        }
+        if is_ambiguous(request) {
+            return refuse(response, StatusCode::BAD_REQUEST);
+        }
+        match route_of(request.method().as_str(), request.uri().path()) {
+            Route::Page => put_page(response, &self.document),
+            Route::Picture => {
+                show_picture(
+                    self.alloc,
+                    &mut self.seat,
+                    self.seats,
+                    self.name,
+                    request.uri().query(),
+                    response,
+                )
+            }
+            Route::Line => {
+                if request.body().len() > MOST_LINE_BYTES {
+                    return refuse(response, StatusCode::PAYLOAD_TOO_LARGE);
+                }
+                take_line(
+                    self.alloc,
+                    self.wait,
+                    self.room,
+                    &mut self.seat,
+                    self.site,
+                    self.name,
+                    request,
+                    response,
+                )
+            }
+            Route::Lines => take_lines(
+                self.alloc,
+                self.wait,
+                self.room,
+                &mut self.seat,
+                self.site,
+                self.name,
+                request,
+                response,
+            ),
+            Route::WrongMethod => refuse(response, StatusCode::METHOD_NOT_ALLOWED),
+            Route::Unknown => refuse(response, StatusCode::NOT_FOUND),
+        }
+    }
+}

@@ -1,0 +1,6 @@
+-- The numbers grow fewer.
+use Rattle.std.proofs.Common.{length}
+use Rattle.serving_room.proofs.hold_text.+put_numbers.Given as goal
+
+abbrev pub decreases-put_numbers : goal.decreases-put_numbers
+decreases-put_numbers l = length l.numbers.now

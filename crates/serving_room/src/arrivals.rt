@@ -1,0 +1,229 @@
+//! The connections that come to a page. Each has a thread of its own, in which its request comes and its answer is
+//! sent; so a connection that sends nothing, as browsers open ahead, or that takes nothing, delays no other.
+
+use crate::crowd::{Crowd, NAPS, Stage};
+use crate::room_pages::{Answered, PageOfRoom};
+use crossbeam_channel::{Sender, bounded};
+use room_1401::RoomId;
+use serving_page::{WholeRequest, has_begun, linger, read_request, send_answer};
+use serving_seats::{SeatsFault, Service};
+use std::alloc::{AllocGlobal, Global};
+use std::io::{Read, Write};
+use std::net::{Shutdown, TcpListener, TcpStream};
+use std::random::RandomSource;
+use std::sync::{Arc, Wait};
+use std::thread;
+use std::thread::{Scope, Threads};
+use std::time::Clock;
+
+/// What a connection is answered if all that have a thread wait for their answers.
+const BUSY: &[u8] =
+    b"HTTP/1.1 503 Service Unavailable\r\ncontent-type: text/plain; charset=utf-8\r\n\
+cache-control: no-store\r\nx-content-type-options: nosniff\r\nreferrer-policy: no-referrer\r\nconnection: close\r\n\
+retry-after: 1\r\ncontent-length: 28\r\n\r\ntoo many requests wait here\n";
+
+/// How many reads are made of what a connection has sent that is too many.
+const MOST_READS: usize = 16;
+
+/// A request that waits to be answered.
+#[derive(Drop)]
+pub(crate) struct Asked {
+    /// The request.
+    pub request: WholeRequest,
+    /// Where its answer goes.
+    pub reply: Sender<Vec<u8>>,
+}
+
+/// Accepts the connections of a page, until the room is being closed or one can't be accepted, and waits until each has
+/// ended.
+pub(crate) fn accept_arrivals<J, R>(
+    alloc: Global,
+    rt: &R,
+    service: &Service<J>,
+    listener: &TcpListener,
+    page: PageOfRoom<'_>,
+    crowd: &Crowd,
+    asked: Sender<Asked>,
+)
+where
+    J: RoomId + Send + Sync,
+    R: Threads + Wait + Sync + Clock + AllocGlobal + RandomSource,
+{
+    thread::scope(thread::scope_env(), rt, move |scope| {
+        accept_each_arrival(scope, alloc, rt, service, listener, page, crowd, asked)
+    });
+}
+
+/// Accepts connections, and starts the thread of each.
+fn accept_each_arrival<'s, E: 's, J, R>(
+    scope: &Scope<'s, E>,
+    alloc: Global,
+    rt: &'s R,
+    service: &'s Service<J>,
+    listener: &TcpListener,
+    page: PageOfRoom<'s>,
+    crowd: &'s Crowd,
+    asked: Sender<Asked>,
+)
+where
+    J: RoomId + Send + Sync + 's,
+    R: Threads + Wait + Sync + Clock + AllocGlobal + RandomSource + 's,
+{
+    let mut number = 0;
+    let mut looks = NAPS;
+    for _ in rt.forever() {
+        let Some(stream) = service.accept(rt, listener) else {
+            break;
+        };
+        number = next_after(number);
+        match let_in(
+            scope, alloc, rt, service, page, crowd, stream, number, looks, &asked,
+        ) {
+            // Once one was refused, the next one isn't waited for until there is a place again.
+            Ok(is_inside) => looks = if is_inside { NAPS } else { 1 },
+            Err(fault) => service.note(rt, fault),
+        }
+    }
+    crowd.close_idle(rt);
+}
+
+/// The next number. Nobody counts to the last one.
+fn next_after(number: u64) -> u64 {
+    number.wrapping_add(1)
+}
+
+/// Lets a connection in, and starts its thread; or answers that too many wait, if they do each time that it looks.
+/// Returns whether it was let in.
+///
+/// # Errors
+///
+/// `Memory` if there is none for its handles, `Thread` if its thread was refused. The connection is closed.
+fn let_in<'s, E: 's, J, R>(
+    scope: &Scope<'s, E>,
+    alloc: Global,
+    rt: &'s R,
+    service: &'s Service<J>,
+    page: PageOfRoom<'s>,
+    crowd: &'s Crowd,
+    stream: TcpStream,
+    number: u64,
+    looks: usize,
+    asked: &Sender<Asked>,
+) -> Result<bool, SeatsFault>
+where
+    J: RoomId + Send + Sync + 's,
+    R: Threads + Wait + Sync + Clock + AllocGlobal + RandomSource + 's,
+{
+    let Ok(stream) = Arc::new(alloc, stream) else {
+        return Err(SeatsFault::Memory);
+    };
+    let Ok(second) = Arc::try_clone(&stream) else {
+        return Err(SeatsFault::Memory);
+    };
+    let Ok(asked) = asked.clone() else {
+        return Err(SeatsFault::Memory);
+    };
+    if !crowd.enter(rt, number, second, looks) {
+        refuse(&stream);
+        return Ok(false);
+    }
+    let started = scope.spawn(move || {
+        attend_arrival(alloc, rt, service, page, crowd, &stream, number, asked);
+        crowd.leave(rt, number);
+    });
+    if started.is_err() {
+        crowd.leave(rt, number);
+        return Err(SeatsFault::Thread);
+    }
+    Ok(true)
+}
+
+/// Reads the request of a connection, has it answered, and sends the answer.
+fn attend_arrival<J, R>(
+    alloc: Global,
+    rt: &R,
+    service: &Service<J>,
+    page: PageOfRoom<'_>,
+    crowd: &Crowd,
+    stream: &TcpStream,
+    number: u64,
+    asked: Sender<Asked>,
+)
+where
+    J: RoomId,
+    R: Wait + Clock + AllocGlobal + RandomSource,
+{
+    if !has_begun(rt, stream) {
+        return;
+    }
+    let Ok(Some(request)) = read_request(rt, page.site, stream) else {
+        return;
+    };
+    if !crowd.go_on(rt, number, Stage::Asking) {
+        refuse(stream);
+        return;
+    }
+    let Some(answer) = answer_to(alloc, rt, service, page, request, asked) else {
+        return;
+    };
+    let _open = crowd.go_on(rt, number, Stage::Writing);
+    if send_answer(rt, stream, answer.as_slice()).is_err() {
+        return;
+    }
+    let _open = crowd.go_on(rt, number, Stage::Lingering);
+    linger(rt, stream);
+}
+
+/// The answer to a request: here if it is about the room, and else at the page's seat.
+fn answer_to<J: RoomId, R: Wait + Clock + AllocGlobal + RandomSource>(
+    alloc: Global,
+    rt: &R,
+    service: &Service<J>,
+    page: PageOfRoom<'_>,
+    request: WholeRequest,
+    asked: Sender<Asked>,
+) -> Option<Vec<u8>> {
+    match page.answer(rt, service, request) {
+        Answered::Here(answer) => answer,
+        Answered::AtSeat(request) => ask(alloc, rt, request, asked),
+    }
+}
+
+/// Has a request answered; there is no answer if the room is being closed, or if memory was refused.
+fn ask<R: Wait>(
+    alloc: Global,
+    rt: &R,
+    request: WholeRequest,
+    asked: Sender<Asked>,
+) -> Option<Vec<u8>> {
+    let Ok((reply, answer)) = bounded(alloc, 1) else {
+        return None;
+    };
+    if asked.send(rt, Asked { request, reply }).is_err() {
+        return None;
+    }
+
+    // Requests are answered as long as somebody may send one.
+    drop(asked);
+    answer.recv(rt).ok()
+}
+
+/// Answers a connection that too many requests wait. Nothing here waits for the peer: what it has sent is read, since a
+/// socket that is closed over unread bytes may take its answer back.
+fn refuse(stream: &TcpStream) {
+    if stream.set_nonblocking(true).is_err() {
+        return;
+    }
+    let mut peer = stream;
+    if peer.write_all(BUSY).is_err() || stream.shutdown(Shutdown::Write).is_err() {
+        return;
+    }
+    let mut buffer = [0; 1024];
+    for _ in 0..MOST_READS {
+        match peer.read(&mut buffer) {
+            Ok(0) => return,
+            Ok(_) => {}
+            Err(_) => return,
+        }
+    }
+}

@@ -1,0 +1,86 @@
+//! What was last done at a machine.
+ghost use Rattle.std.specs.Prelude.{◌≡◌, ◌++◌, OnOk};
+ghost use Rattle.serving_room.specs.Lasts.{act_of, act_text};
+
+use machine_commands::Command;
+use machine_notation::put_digits;
+use std::alloc::AllocError;
+
+/// What a command does, without what it does it with.
+#[derive(Clone, Copy, Debug, PartialEq, Eq)]
+pub(crate) enum Act {
+    /// Cells were deposited.
+    Deposit,
+    /// Cells were shown.
+    Examine,
+    /// The registers were shown.
+    Registers,
+    /// The I register was set.
+    Start,
+    /// A sense switch was turned.
+    Switch,
+    /// A card was fed.
+    Feed,
+    /// The load key was pressed.
+    Load,
+    /// Up to this many instructions were carried out.
+    Run(u32),
+    /// A printed line was taken.
+    Line,
+    /// A punched card was taken.
+    Card,
+}
+
+/// The last command, and the seat that gave it.
+#[derive(Clone, Copy, Debug, PartialEq, Eq)]
+pub(crate) struct Last {
+    /// The number of the seat.
+    pub seat: u8,
+    /// What it did.
+    pub act: Act,
+}
+
+/// What a command does.
+pub(crate) fn act_of(command: &Command) -> Act
+    ensures { result ≡ act_of command.now }
+{
+    match command {
+        Command::Deposit {
+            address: _,
+            cells: _,
+        } => Act::Deposit,
+        Command::Examine {
+            address: _,
+            count: _,
+        } => Act::Examine,
+        Command::Registers => Act::Registers,
+        Command::SetI { address: _ } => Act::Start,
+        Command::Switch { n: _, on: _ } => Act::Switch,
+        Command::Feed { card: _ } => Act::Feed,
+        Command::LoadKey => Act::Load,
+        Command::Run { limit } => Act::Run(*limit),
+        Command::TakeLine => Act::Line,
+        Command::TakeCard => Act::Card,
+    }
+}
+
+/// Adds the console's word for it; for a run also its limit.
+pub(crate) fn put_act(text: &mut Vec<u8>, act: Act) -> Result<(), AllocError>
+    ensures { OnOk result (text.new.items ≡ text.old.items ++ act_text act) }
+{
+    match act {
+        Act::Deposit => text.extend_from_slice(b"DEPOSIT"),
+        Act::Examine => text.extend_from_slice(b"EXAMINE"),
+        Act::Registers => text.extend_from_slice(b"REGS"),
+        Act::Start => text.extend_from_slice(b"START"),
+        Act::Switch => text.extend_from_slice(b"SWITCH"),
+        Act::Feed => text.extend_from_slice(b"FEED"),
+        Act::Load => text.extend_from_slice(b"LOAD"),
+        Act::Run(limit) => {
+            text.extend_from_slice(b"RUN ")?;
+            put_digits(text, 1, u64::from(limit))
+        }
+        Act::Line => text.extend_from_slice(b"LINE"),
+        Act::Card => text.extend_from_slice(b"CARD"),
+    }
+}

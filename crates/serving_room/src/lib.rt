@@ -1,0 +1,39 @@
+//! A shared room that is served until it is closed: a connection has the lowest free seat, and its end frees the
+//! seat; a seat may have a page in a browser too, and then it goes to whoever comes first.
+//!
+//! ```text
+//! // until the input says QUIT
+//! let served = serve_seats(alloc, rt, room, seats, Some(&listener), &[], &watch, input, &OpenDoor);
+//! served.room.journal()       // all that the consoles did
+//! served.fault                // None: nothing was refused, and the room was closed with all of its seats
+//! ```
+#![tactic(auto)]
+
+// what a room comes to, and how it is noted; when a new one follows, and the input until then
+pub mod noting;
+pub mod until_renewed;
+pub mod watch;
+
+// who holds the machine, and what pages are answered of that and of a new room
+mod errand;
+mod hold;
+mod hold_text;
+mod last;
+mod room_page;
+mod room_pages;
+
+// the connections of a page, its requests at its seat, and the pages of all seats
+mod arrivals;
+mod crowd;
+pub mod paging;
+mod visits;
+
+// the service
+pub mod serving;
+
+pub use noting::NotingKeeper;
+pub use paging::PagePort;
+pub use serving::{SeatsServed, serve_seats};
+pub use serving_seats::{GiveFault, SeatsFault, TakingTurns, foreign_seat, give, give_entries};
+pub use until_renewed::UntilRenewed;
+pub use watch::Watch;

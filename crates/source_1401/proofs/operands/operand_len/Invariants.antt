@@ -1,7 +1,0 @@
--- The bytes so far, and what of the operand is left.
-use Rattle.std.proofs.Common.{◌≡◌, ◌+◌, false, drop}
-use Rattle.source_1401.specs.Operands.{operand_len}
-use Rattle.source_1401.proofs.operands.operand_len.Given as goal
-
-abbrev pub invariant-loop-i : goal.invariant-loop-i
-invariant-loop-i l = l.i + operand_len l.is_quoted (drop l.i l.text) ≡ operand_len false l.text

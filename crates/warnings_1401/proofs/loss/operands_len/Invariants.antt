@@ -1,7 +1,0 @@
--- The columns so far, and what of the operands is left.
-use Rattle.std.proofs.Common.{◌≡◌, ◌+◌, false, drop}
-use Rattle.warnings_1401.specs.Loss.{operands_len}
-use Rattle.warnings_1401.proofs.loss.operands_len.Given as goal
-
-abbrev pub invariant-loop-i : goal.invariant-loop-i
-invariant-loop-i l = l.i + operands_len l.is_quoted (drop l.i l.columns) ≡ operands_len false l.columns
