@@ -5,10 +5,7 @@ ghost use Rattle.console_text.specs.CardText.{card_of};
 
 use crate::line::LineFault;
 use bcd_1401::Char;
-use devices_1401::Card;
-
-/// How many columns a card has.
-const COLUMNS: usize = 80;
+use devices_1401::{CARD_COLUMNS, Card};
 
 /// The card with a text in its first columns.
 ///
@@ -19,9 +16,9 @@ const COLUMNS: usize = 80;
 pub(crate) fn card(text: &[u8]) -> Result<Card, LineFault>
     ensures { result ≡ card_of (chars_of text.now) }
 {
-    let mut columns = [Char::BLANK; COLUMNS];
+    let mut columns = [Char::BLANK; CARD_COLUMNS];
     for (i, graphic) in text.iter().enumerate() {
-        if i == COLUMNS {
+        if i == CARD_COLUMNS {
             return Err(LineFault::Length);
         }
         let Some(char) = Char::from_graphic(*graphic) else {

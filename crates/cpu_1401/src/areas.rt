@@ -7,10 +7,7 @@ ghost use Rattle.devices_1401.specs.Card.{card_columns};
 use crate::machine::Machine;
 use bcd_1401::Char;
 use core_1401::{Core, LEAST_SIZE};
-use devices_1401::Card;
-
-/// How many columns a card has.
-const COLUMNS: u16 = 80;
+use devices_1401::{CARD_COLUMNS, Card};
 
 /// How many positions a printed line has.
 const POSITIONS: u16 = 132;
@@ -25,10 +22,10 @@ pub(crate) const PUNCH_AREA: u16 = 101;
 pub(crate) const PRINT_AREA: u16 = 201;
 
 /// The place after the read area.
-pub(crate) const BEHIND_READ_AREA: u16 = READ_AREA + COLUMNS;
+pub(crate) const BEHIND_READ_AREA: u16 = READ_AREA + CARD_COLUMNS as u16;
 
 /// The place after the punch area.
-pub(crate) const BEHIND_PUNCH_AREA: u16 = PUNCH_AREA + COLUMNS;
+pub(crate) const BEHIND_PUNCH_AREA: u16 = PUNCH_AREA + CARD_COLUMNS as u16;
 
 /// The place after the print area.
 pub(crate) const BEHIND_PRINT_AREA: u16 = PRINT_AREA + POSITIONS;
@@ -38,9 +35,9 @@ pub(crate) fn card_at(core: &Core, area: u16) -> Card
     requires { area + card_columns ≤ least_core_size }
     ensures { result ≡ card_at core.now area }
 {
-    let mut columns = [Char::BLANK; 80];
+    let mut columns = [Char::BLANK; CARD_COLUMNS];
     let size = core.size();
-    for i in 0..80 {
+    for i in 0..CARD_COLUMNS {
         prove!(size >= LEAST_SIZE);
         columns[i] = core.get(area + i as u16).char;
     }

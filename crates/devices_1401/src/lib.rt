@@ -20,7 +20,7 @@ pub mod control;
 pub mod devices;
 pub mod fault;
 
-pub use card::Card;
+pub use card::{CARD_COLUMNS, Card};
 pub use control::{Hole, Movement, Spaces};
 pub use devices::{Devices, MOST_HELD};
 pub use fault::{ControlFault, FormsFull, HopperFull, ReaderEmpty, StackerFull};

@@ -7,11 +7,8 @@ use crate::card_list::CardList;
 use crate::cards::Cards;
 use crate::fault::JobFault;
 use bcd_1401::Char;
-use devices_1401::Card;
+use devices_1401::{CARD_COLUMNS, Card};
 use std::marker::Model;
-
-/// How many columns a card has.
-const COLUMNS: usize = 80;
 
 /// Gives the cards of a deck, first to last. Contracts see the list of those that are left.
 #[derive(Drop)]
@@ -58,7 +55,7 @@ fn card_of_chars(chars: &[Char]) -> Card
     requires { length chars.now ≤ card_columns }
     ensures { result ≡ card_of_chars chars.now }
 {
-    let mut columns = [Char::BLANK; COLUMNS];
+    let mut columns = [Char::BLANK; CARD_COLUMNS];
     columns[..chars.len()].copy_from_slice(chars);
     Card(columns)
 }

@@ -8,13 +8,10 @@ ghost use Rattle.job_runner.specs.DeckText.{card_of_line, card_text, deck_of};
 use crate::card_list::{CardList, put_card};
 use autocoder_statements::split_line;
 use bcd_1401::Char;
-use devices_1401::Card;
+use devices_1401::{CARD_COLUMNS, Card};
 use machine_notation::put_characters;
 use std::alloc::{AllocError, Global};
 use thiserror::Error;
-
-/// How many columns a card has.
-const COLUMNS: usize = 80;
 
 /// Why a text isn't a deck.
 #[derive(Clone, Copy, Debug, PartialEq, Eq, Error)]
@@ -55,9 +52,9 @@ pub struct ReadDeck {
 fn card_of(number: u64, line: &[u8]) -> Result<Card, DeckFault>
     ensures { result ≡ card_of_line number line.now }
 {
-    let mut columns = [Char::BLANK; COLUMNS];
+    let mut columns = [Char::BLANK; CARD_COLUMNS];
     for (i, byte) in line.iter().enumerate() {
-        if i == COLUMNS {
+        if i == CARD_COLUMNS {
             return Err(DeckFault::Length { line: number });
         }
         let Some(char) = Char::from_graphic(byte.to_ascii_uppercase()) else {

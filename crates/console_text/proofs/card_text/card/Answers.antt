@@ -12,14 +12,14 @@ pub loop-i-init : goal.loop-i-init
 unfolding chars_of
 loop-i-init c = record { so_far = refl; blank = search rules; few = omega arith; room = search rules }
 
-pub returns-then-i-eq-COLUMNS : goal.returns-then-i-eq-COLUMNS
-returns-then-i-eq-COLUMNS c =
+pub returns-then-i-eq-CARD_COLUMNS : goal.returns-then-i-eq-CARD_COLUMNS
+returns-then-i-eq-CARD_COLUMNS c =
     let s = c.loop-i.invariant in
     let text : List ℕ = c.args.text.now in
     let parts = chars_of-split text c.loop-i.i (get_or text c.loop-i.i 0) c.loop-i-test.true refl in
     rw (parts, s.so_far)
     (sym (card_of-long _ _ _
-    (omega (arith, s.room, c.if-i-eq-COLUMNS.true, length-take-le c.loop-i.i c.loop-i.columns))))
+    (omega (arith, s.room, c.if-i-eq-CARD_COLUMNS.true, length-take-le c.loop-i.i c.loop-i.columns))))
 
 pub returns-in_default : goal.returns-in_default
 returns-in_default c =
@@ -29,7 +29,7 @@ returns-in_default c =
     let parts = chars_of-split text c.loop-i.i (get_or text c.loop-i.i 0) c.loop-i-test.true refl in
     rw (parts, s.so_far, none)
     (sym (card_of-missed _ _
-    (omega (arith, s.few, s.room, c.if-i-eq-COLUMNS.false, length-take-le c.loop-i.i c.loop-i.columns))))
+    (omega (arith, s.few, s.room, c.if-i-eq-CARD_COLUMNS.false, length-take-le c.loop-i.i c.loop-i.columns))))
 
 pub loop-i-preserved : goal.loop-i-preserved
 loop-i-preserved c =
@@ -39,11 +39,11 @@ loop-i-preserved c =
     let columns = c.loop-i.columns in
     let char = c.in-Some.char in
     let read : char_of (get_or text i 0) ≡ Some char = sym c.from_graphic.ensures ∙ c.in-Some.is in
-    let within : i < length columns = omega (arith, s.few, s.room, c.if-i-eq-COLUMNS.false) in
+    let within : i < length columns = omega (arith, s.few, s.room, c.if-i-eq-CARD_COLUMNS.false) in
     record {
       so_far = chars_of-more text i columns char within c.loop-i-test.true s.so_far read;
       blank = drop-set-lt (i + 1) columns i char (omega arith) ∙ drop_more_same columns (replicate 80 0) i s.blank;
-      few = omega (arith, s.few, c.if-i-eq-COLUMNS.false);
+      few = omega (arith, s.few, c.if-i-eq-CARD_COLUMNS.false);
       room = length-set columns i char ∙ s.room;
     }
 

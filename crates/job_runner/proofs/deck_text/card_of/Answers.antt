@@ -14,11 +14,11 @@ use Rattle.job_runner.specs.DeckText.{char_of, code_of, has_char}
 use Rattle.job_runner.proofs.DeckTextLemmas.{card_of-full, card_of-long, card_of-missed, no_char, some_char}
 use Rattle.job_runner.proofs.deck_text.card_of.Goals as goal
 
-pub returns-then-i-eq-COLUMNS : goal.returns-then-i-eq-COLUMNS
-returns-then-i-eq-COLUMNS c =
+pub returns-then-i-eq-CARD_COLUMNS : goal.returns-then-i-eq-CARD_COLUMNS
+returns-then-i-eq-CARD_COLUMNS c =
     let s = c.loop-i.invariant in
-    sym (card_of-long c.args.number c.args.line.now (omega (arith, s.filled, c.if-i-eq-COLUMNS.true))
-    (omega (arith, c.loop-i-test.true, c.if-i-eq-COLUMNS.true)))
+    sym (card_of-long c.args.number c.args.line.now (omega (arith, s.filled, c.if-i-eq-CARD_COLUMNS.true))
+    (omega (arith, c.loop-i-test.true, c.if-i-eq-CARD_COLUMNS.true)))
 
 pub returns-in_default : goal.returns-in_default
 returns-in_default c =
@@ -30,7 +30,7 @@ returns-in_default c =
     ∙ sym c.from_graphic.ensures ∙ c.in_default.is in
     let stops = prefix_len-drop_no has_char line i 0 c.loop-i-test.true (no_char (char_of (get_or line i 0)) none) in
     sym (card_of-missed c.args.number i line (omega (arith, s.filled, stops)) c.loop-i-test.true
-    (omega (arith, s.few, c.if-i-eq-COLUMNS.false)))
+    (omega (arith, s.few, c.if-i-eq-CARD_COLUMNS.false)))
 
 pub loop-i-preserved : goal.loop-i-preserved
 loop-i-preserved c =
@@ -45,7 +45,7 @@ loop-i-preserved c =
     ∙ sym c.from_graphic.ensures ∙ c.in-Some.is in
     let known = some_char (char_of byte) char is in
     let goes_on = prefix_len-drop_yes has_char line i 0 c.loop-i-test.true known.0 in
-    let within : i < length columns = omega (arith, s.few, s.room, c.if-i-eq-COLUMNS.false) in
+    let within : i < length columns = omega (arith, s.few, s.room, c.if-i-eq-CARD_COLUMNS.false) in
     let more : map code_of (take (i + 1) line) ≡ map code_of (take i line) ++ code_of byte ∷ [] =
     ap (map code_of) (take_more line i 0 c.loop-i-test.true) ∙ map-append code_of (take i line) (byte ∷ []) in
     record {
@@ -55,7 +55,7 @@ loop-i-preserved c =
           ∙ ap (λ (code : ℕ). map code_of (take i line) ++ code ∷ []) (sym known.1)
           ∙ sym more;
       blank = drop-set-lt (i + 1) columns i char (omega arith) ∙ drop_more_same columns (replicate 80 0) i s.blank;
-      few = omega (arith, s.few, c.if-i-eq-COLUMNS.false);
+      few = omega (arith, s.few, c.if-i-eq-CARD_COLUMNS.false);
       room = length-set columns i char ∙ s.room;
     }
 
