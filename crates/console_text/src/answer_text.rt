@@ -1,6 +1,5 @@
 //! The texts of replies, without the line feed that ends them.
 ghost use Rattle.std.specs.Prelude.{◌≡◌, ◌++◌, IfOk, OnOk};
-ghost use Rattle.machine_notation.specs.Digits.{digits_in};
 ghost use Rattle.machine_notation.specs.Cells.{cells_of, cells_text, spelled};
 ghost use Rattle.console_text.specs.AnswerText.{answer_text, IsReadAgain, IsFedAgain};
 ghost use Rattle.console_text.specs.AnswerText.{regs_text, ran_text};
@@ -13,7 +12,7 @@ use bcd_1401::Cell;
 use core_1401::Cells;
 use devices_1401::{Card, PrintLine};
 use machine_commands::Answer;
-use machine_notation::{put_cell, put_cells, put_characters, put_digits};
+use machine_notation::{put_cell, put_cells, put_characters, put_digits, put_named_digits};
 use machine_panel::{Regs, Stop, SwitchName};
 use std::alloc::{AllocError, Global};
 
@@ -56,19 +55,19 @@ fn regs_reply(alloc: Global, regs: &Regs) -> Result<Vec<u8>, AllocError>
     ensures { IfOk result (λ text. text.items ≡ regs_text regs.now) }
 {
     let mut text = Vec::new(alloc);
-    put_number(&mut text, b"I=", 5, u32::from(regs.i))?;
-    put_number(&mut text, b" A=", 5, u32::from(regs.a))?;
-    put_number(&mut text, b" B=", 5, u32::from(regs.b))?;
+    put_named_digits(&mut text, b"I=", 5, u64::from(regs.i))?;
+    put_named_digits(&mut text, b" A=", 5, u64::from(regs.a))?;
+    put_named_digits(&mut text, b" B=", 5, u64::from(regs.b))?;
     put_indicator(&mut text, b" UNEQUAL=", regs.unequal)?;
     put_indicator(&mut text, b" LOW=", regs.low)?;
     put_indicator(&mut text, b" HIGH=", regs.high)?;
     put_indicator(&mut text, b" OVERFLOW=", regs.overflow)?;
     put_switches(&mut text, b" SWITCHES=", regs.switches)?;
-    put_number(&mut text, b" HOPPER=", 3, u32::from(regs.hopper))?;
-    put_number(&mut text, b" STACKER=", 3, u32::from(regs.stacker))?;
-    put_number(&mut text, b" PAPER=", 3, u32::from(regs.paper))?;
-    put_number(&mut text, b" FORM=", 4, u32::from(regs.form))?;
-    put_number(&mut text, b" LINE=", 2, u32::from(regs.line))?;
+    put_named_digits(&mut text, b" HOPPER=", 3, u64::from(regs.hopper))?;
+    put_named_digits(&mut text, b" STACKER=", 3, u64::from(regs.stacker))?;
+    put_named_digits(&mut text, b" PAPER=", 3, u64::from(regs.paper))?;
+    put_named_digits(&mut text, b" FORM=", 4, u64::from(regs.form))?;
+    put_named_digits(&mut text, b" LINE=", 2, u64::from(regs.line))?;
     Ok(text)
 }
 
@@ -78,11 +77,11 @@ fn ran_reply(alloc: Global, steps: u32, stop: Stop, i: u16) -> Result<Vec<u8>, A
     ensures { IfOk result (λ text. text.items ≡ ran_text steps stop i) }
 {
     let mut text = Vec::new(alloc);
-    put_number(&mut text, b"STOP ", 2, u32::from(stop.number()))?;
+    put_named_digits(&mut text, b"STOP ", 2, u64::from(stop.number()))?;
     text.extend_from_slice(b" ")?;
     text.extend_from_slice(stop.name().as_bytes())?;
-    put_number(&mut text, b" STEPS ", 1, steps)?;
-    put_number(&mut text, b" I ", 5, u32::from(i))?;
+    put_named_digits(&mut text, b" STEPS ", 1, u64::from(steps))?;
+    put_named_digits(&mut text, b" I ", 5, u64::from(i))?;
     Ok(text)
 }
 
@@ -92,8 +91,8 @@ fn line_reply(alloc: Global, line: &PrintLine) -> Result<Vec<u8>, AllocError>
     ensures { IfOk result (λ text. text.items ≡ line_text line.now) }
 {
     let mut text = Vec::new(alloc);
-    put_number(&mut text, b"LINE ", 4, u32::from(line.form))?;
-    put_number(&mut text, b" ", 2, u32::from(line.line))?;
+    put_named_digits(&mut text, b"LINE ", 4, u64::from(line.form))?;
+    put_named_digits(&mut text, b" ", 2, u64::from(line.line))?;
     text.extend_from_slice(b" ")?;
     put_characters(&mut text, &line.text)?;
     Ok(text)
@@ -108,19 +107,6 @@ fn card_reply(alloc: Global, card: &Card) -> Result<Vec<u8>, AllocError>
     let mut text = Vec::from_slice(alloc, b"CARD ")?;
     put_characters(&mut text, &card.0)?;
     Ok(text)
-}
-
-/// Adds a name, and then a number with leading zeros up to the width.
-pub(crate) fn put_number(
-    text: &mut Vec<u8>,
-    name: &[u8],
-    width: u8,
-    number: u32,
-) -> Result<(), AllocError>
-    ensures { OnOk result (text.new.items ≡ text.old.items ++ name.now ++ digits_in width number) }
-{
-    text.extend_from_slice(name)?;
-    put_digits(text, width, u64::from(number))
 }
 
 /// Adds a name, and then whether an indicator is on.

@@ -4,12 +4,11 @@ ghost use Rattle.console_text.specs.CommandText.{command_text};
 ghost use Rattle.console_text.specs.LineText.{setting_text};
 ghost use Rattle.console_text.specs.Words.{letter_of};
 
-use crate::answer_text::put_number;
 use crate::words::letter;
 use core_1401::Cells;
 use devices_1401::Card;
 use machine_commands::Command;
-use machine_notation::{put_cells, put_characters};
+use machine_notation::{put_cells, put_characters, put_named_digits};
 use machine_panel::SwitchName;
 use std::alloc::AllocError;
 
@@ -27,11 +26,11 @@ pub fn put_command(text: &mut Vec<u8>, command: &Command) -> Result<(), AllocErr
         Command::Deposit { address, cells } => put_deposit(text, *address, cells),
         Command::Examine { address, count } => put_examine(text, *address, *count),
         Command::Registers => text.extend_from_slice(b"REGS"),
-        Command::SetI { address } => put_number(text, b"START ", 4, u32::from(*address)),
+        Command::SetI { address } => put_named_digits(text, b"START ", 4, u64::from(*address)),
         Command::Switch { n, on } => put_switch(text, *n, *on),
         Command::Feed { card } => put_feed(text, card),
         Command::LoadKey => text.extend_from_slice(b"LOAD"),
-        Command::Run { limit } => put_number(text, b"RUN ", 1, *limit),
+        Command::Run { limit } => put_named_digits(text, b"RUN ", 1, u64::from(*limit)),
         Command::TakeLine => text.extend_from_slice(b"LINE"),
         Command::TakeCard => text.extend_from_slice(b"CARD"),
     }
@@ -42,7 +41,7 @@ pub fn put_command(text: &mut Vec<u8>, command: &Command) -> Result<(), AllocErr
 fn put_deposit(text: &mut Vec<u8>, address: u16, cells: &Cells) -> Result<(), AllocError>
     ensures { OnOk result (text.new.items ≡ text.old.items ++ command_text (Command.Deposit address cells.now)) }
 {
-    put_number(text, b"DEPOSIT ", 4, u32::from(address))?;
+    put_named_digits(text, b"DEPOSIT ", 4, u64::from(address))?;
     text.extend_from_slice(b" ")?;
     put_cells(text, cells)
 }
@@ -52,8 +51,8 @@ fn put_deposit(text: &mut Vec<u8>, address: u16, cells: &Cells) -> Result<(), Al
 fn put_examine(text: &mut Vec<u8>, address: u16, count: u32) -> Result<(), AllocError>
     ensures { OnOk result (text.new.items ≡ text.old.items ++ command_text (Command.Examine address count)) }
 {
-    put_number(text, b"EXAMINE ", 4, u32::from(address))?;
-    put_number(text, b" ", 1, count)
+    put_named_digits(text, b"EXAMINE ", 4, u64::from(address))?;
+    put_named_digits(text, b" ", 1, u64::from(count))
 }
 
 /// Adds the text of SWITCH.

@@ -24,6 +24,25 @@ pub fn put_digits(text: &mut Vec<u8>, width: u8, number: u64) -> Result<(), Allo
     Ok(())
 }
 
+/// Adds words, and then a number with leading zeros up to the width (own).
+///
+/// # Errors
+///
+/// If the memory for the text is refused. Some of it may have been added by then.
+pub fn put_named_digits(
+    text: &mut Vec<u8>,
+    words: &[u8],
+    width: u8,
+    number: u64,
+) -> Result<(), AllocError>
+    ensures text { OnOk result (text.new.items ≡ text.old.items ++ words.now ++ digits_in width number) }
+    ensures full { OnErr result (LacksRoomFor text.old (words.now ++ digits_in width number)) }
+    ensures capacity { vec_capacity text.old ≤ vec_capacity text.new }
+{
+    text.extend_from_slice(words)?;
+    put_digits(text, width, number)
+}
+
 /// The value of up to nine digits, if all of the bytes are digits. Without a digit it is 0.
 #[tactic(auto, unfolding(crate::specs::Digits::number_in))]
 pub fn read_digits(digits: &[u8]) -> Option<u32>

@@ -21,5 +21,5 @@ pub mod fault;
 
 pub use cells::{put_cell, put_cells, read_cells};
 pub use characters::put_characters;
-pub use digits::{put_digits, read_digits};
+pub use digits::{put_digits, put_named_digits, read_digits};
 pub use fault::CellsFault;

@@ -1,6 +1,5 @@
 //! The text of a picture, which the page's script reads.
 ghost use Rattle.std.specs.Prelude.{◌≡◌, ◌∷◌, [], ◌++◌, ◌<◌, length, IfOk, OnOk, option_copied};
-ghost use Rattle.machine_notation.specs.Digits.{digits_in};
 ghost use Rattle.room_1401.specs.Picture.{window_cells};
 ghost use Rattle.serving_page.specs.PictureLines.{answer_line, card_line, core_line, count_line, line_feed, lines_text};
 ghost use Rattle.serving_page.specs.PictureLines.{next_line, paper_line, picture_text, row_text, rows, rows_text};
@@ -13,20 +12,12 @@ use cpu_1401::InstructionCells;
 use devices_1401::{Card, PrintLine};
 use machine_execution::Answer;
 use machine_mnemonics::put_instruction;
-use machine_notation::{put_cells, put_digits};
+use machine_notation::{put_cells, put_named_digits};
 use room_1401::{Picture, WINDOW_CELLS};
 use std::alloc::{AllocError, Global};
 
 /// How many lines of 40 cells the window of a picture has.
 const ROWS: usize = WINDOW_CELLS / MOST_CELLS;
-
-/// Adds words, and then a number with leading zeros up to the width.
-fn put_number(text: &mut Vec<u8>, words: &[u8], width: u8, number: u64) -> Result<(), AllocError>
-    ensures { OnOk result (text.new.items ≡ text.old.items ++ words.now ++ digits_in width number) }
-{
-    text.extend_from_slice(words)?;
-    put_digits(text, width, number)
-}
 
 /// Adds the line that names the room.
 #[tactic(auto, unfolding(crate::specs::PictureLines::room_line))]
@@ -43,9 +34,9 @@ pub(crate) fn put_room(text: &mut Vec<u8>, name: &[u8]) -> Result<(), AllocError
 fn put_seat(text: &mut Vec<u8>, number: u8, seats: u8, made: u64) -> Result<(), AllocError>
     ensures { OnOk result (text.new.items ≡ text.old.items ++ seat_line number seats made) }
 {
-    put_number(text, b"SEAT ", 1, u64::from(number))?;
-    put_number(text, b" OF ", 1, u64::from(seats))?;
-    put_number(text, b" MADE ", 1, made)?;
+    put_named_digits(text, b"SEAT ", 1, u64::from(number))?;
+    put_named_digits(text, b" OF ", 1, u64::from(seats))?;
+    put_named_digits(text, b" MADE ", 1, made)?;
     text.extend_from_slice(b"\n")
 }
 
@@ -54,7 +45,7 @@ fn put_seat(text: &mut Vec<u8>, number: u8, seats: u8, made: u64) -> Result<(), 
 fn put_count(text: &mut Vec<u8>, after: u64) -> Result<(), AllocError>
     ensures { OnOk result (text.new.items ≡ text.old.items ++ count_line after) }
 {
-    put_number(text, b"AFTER ", 1, after)?;
+    put_named_digits(text, b"AFTER ", 1, after)?;
     text.extend_from_slice(b"\n")
 }
 
@@ -101,8 +92,8 @@ fn put_card(text: &mut Vec<u8>, word: &[u8], card: Option<Card>) -> Result<(), A
 fn put_core(text: &mut Vec<u8>, core: u16, size: u16) -> Result<(), AllocError>
     ensures { OnOk result (text.new.items ≡ text.old.items ++ core_line core size) }
 {
-    put_number(text, b"CORE ", 5, u64::from(core))?;
-    put_number(text, b" OF ", 5, u64::from(size))?;
+    put_named_digits(text, b"CORE ", 5, u64::from(core))?;
+    put_named_digits(text, b" OF ", 5, u64::from(size))?;
     text.extend_from_slice(b"\n")
 }
 
@@ -137,7 +128,7 @@ fn put_rows(text: &mut Vec<u8>, cells: &[Cell; WINDOW_CELLS]) -> Result<(), Allo
 fn put_paper(text: &mut Vec<u8>, paper: u16) -> Result<(), AllocError>
     ensures { OnOk result (text.new.items ≡ text.old.items ++ paper_line paper) }
 {
-    put_number(text, b"PAPER ", 1, u64::from(paper))?;
+    put_named_digits(text, b"PAPER ", 1, u64::from(paper))?;
     text.extend_from_slice(b"\n")
 }
 
