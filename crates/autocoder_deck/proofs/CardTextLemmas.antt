@@ -17,7 +17,7 @@ use Rattle.bcd_1401.proofs.GraphicLemmas.{own_place}
 use Rattle.core_1401.specs.Address.{spelling_of}
 use Rattle.devices_1401.specs.declared.card.Card.{Card}
 use Rattle.autocoder_statements.specs.SourceLine.{is_line_feed, lines_between, lines_of, without_return}
-use Rattle.job_runner.specs.declared.deck_text.DeckFault.{DeckFault}
+use Rattle.job_runner.specs.declared.deck_text.DeckTextFault.{DeckTextFault}
 use Rattle.job_runner.specs.DeckText.{card_before, card_of_line, char_of, code_of, deck_from, has_char}
 use Rattle.job_runner.proofs.DeckTextLemmas.{card_of-full, some_char}
 
@@ -93,9 +93,9 @@ line_read : (number : ℕ) (chars : List ℕ) → Chars chars → length chars �
 line_read number chars are few =
     let size : length (map graphic chars) ≡ length chars = length-map chars graphic in
     card_of-full number (map graphic chars) (omega (arith, size, few)) (all_have chars are)
-    ∙ ap (λ (cs : List ℕ). let read : Result Card DeckFault =
+    ∙ ap (λ (cs : List ℕ). let read : Result Card DeckTextFault =
     Ok (record { 0 = cs ++ replicate (80 - length (map graphic chars)) 0 }) in read) (chars_again chars are)
-    ∙ ap (λ (n : ℕ). let read : Result Card DeckFault = Ok (record { 0 = chars ++ replicate (80 - n) 0 }) in read) size
+    ∙ ap (λ (n : ℕ). let read : Result Card DeckTextFault = Ok (record { 0 = chars ++ replicate (80 - n) 0 }) in read) size
 
 -- a line is the first of a text
 no_ends : (chars : List ℕ) → Chars chars → All (λ byte. is_line_feed byte ≡ false) (map graphic chars)
@@ -129,7 +129,7 @@ pub first_card_read : (number : ℕ) (chars text : List ℕ) (deck : List Card) 
     → deck_from number (lines_of (map graphic chars ++ 10 ∷ text)) ≡ Ok (padded chars ∷ deck)
 first_card_read number chars text deck are few more =
     ap (deck_from number) (first_line chars text are)
-    ∙ ap (λ (card : Result Card DeckFault). card_before card (deck_from (number + 1) (lines_of text)))
+    ∙ ap (λ (card : Result Card DeckTextFault). card_before card (deck_from (number + 1) (lines_of text)))
     (line_read number chars are few)
     ∙ ap (card_before (Ok (padded chars))) more
 

@@ -7,7 +7,7 @@ use Rattle.bcd_1401.specs.declared.cell.Cell.{Cell}
 use Rattle.bcd_1401.specs.Graphic.{graphics}
 use Rattle.devices_1401.specs.declared.card.Card.{Card}
 use Rattle.autocoder_statements.specs.SourceLine.{lines_of}
-use Rattle.job_runner.specs.declared.deck_text.DeckFault.{DeckFault}
+use Rattle.job_runner.specs.declared.deck_text.DeckTextFault.{DeckTextFault}
 use Rattle.job_runner.specs.DeckText.{deck_from, deck_of}
 use Rattle.autocoder_deck.specs.Card.{CellCard, address_text, card_line, cards_from, cards_text, fitting, graphic_of}
 use Rattle.autocoder_deck.specs.Card.{load_operation}
@@ -224,7 +224,7 @@ cell_card_read number card text deck is more =
     ap (λ (t : List ℕ). deck_from number (lines_of t)) (card_written card text is)
     ∙ first_card_read number (cell_line card) text deck (cell_line_chars card is)
     (omega (arith, front_length card is.columns, length-append (front_of card) (code_line (code_of card)))) more
-    ∙ ap (λ (first : Card). let read : Result (List Card) DeckFault = Ok (first ∷ deck) in read) (cell_card_is card is)
+    ∙ ap (λ (first : Card). let read : Result (List Card) DeckTextFault = Ok (first ∷ deck) in read) (cell_card_is card is)
 
 -- all cards of cells
 abbrev AreWritten : List CellCard → Type 0

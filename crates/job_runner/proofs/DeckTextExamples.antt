@@ -3,7 +3,7 @@ use Rattle.std.proofs.Common.{◌≡◌, ℕ, List, [], ◌∷◌, ◌++◌, rep
 use Rattle.std.specs.Prelude.{codes, Ok, Err}
 use Rattle.bcd_1401.specs.Graphic.{graphics}
 use Rattle.devices_1401.specs.declared.card.Card.{Card}
-use Rattle.job_runner.specs.declared.deck_text.DeckFault.TheVariants.{Graphic, Length}
+use Rattle.job_runner.specs.declared.deck_text.DeckTextFault.TheVariants.{Graphic, Length}
 use Rattle.job_runner.specs.DeckText.{card_of_line, deck_of}
 
 abbrev card : List ℕ → Card

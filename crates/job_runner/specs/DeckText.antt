@@ -9,8 +9,8 @@ use Rattle.devices_1401.specs.declared.card.Card.{Card}
 use Rattle.machine_notation.specs.Bytes.{line_feed}
 use Rattle.machine_notation.specs.Characters.{blank_code, graphics_of, trimmed}
 use Rattle.autocoder_statements.specs.SourceLine.{lines_of}
-use Rattle.job_runner.specs.declared.deck_text.DeckFault.{DeckFault}
-use Rattle.job_runner.specs.declared.deck_text.DeckFault.TheVariants.{Graphic, Length}
+use Rattle.job_runner.specs.declared.deck_text.DeckTextFault.{DeckTextFault}
+use Rattle.job_runner.specs.declared.deck_text.DeckTextFault.TheVariants.{Graphic, Length}
 
 -- the line of a card
 abbrev pub card_text : Card → List ℕ
@@ -36,25 +36,25 @@ abbrev pub card_with : List ℕ → Card
 card_with line = record { 0 = map code_of line ++ replicate (card_columns - length line) blank_code }
 
 -- what is wrong after this many columns: no card has the next byte, or a card has no further column
-abbrev pub fault_behind : ℕ → ℕ → DeckFault
+abbrev pub fault_behind : ℕ → ℕ → DeckTextFault
 fault_behind number columns = if nat_lt columns card_columns then Graphic number (columns + 1) else Length number
 
 -- the card of a line with this number, or its fault if it has a byte that fills no column
-unfoldable pub card_of_line : ℕ → List ℕ → Result Card DeckFault
+unfoldable pub card_of_line : ℕ → List ℕ → Result Card DeckTextFault
 card_of_line number line =
     if columns_filled line == length line then Ok (card_with line) else Err (fault_behind number (columns_filled line))
 
 -- a card before the others of a deck; the first fault counts
-abbrev pub card_before : Result Card DeckFault → Result (List Card) DeckFault → Result (List Card) DeckFault
+abbrev pub card_before : Result Card DeckTextFault → Result (List Card) DeckTextFault → Result (List Card) DeckTextFault
 card_before (Err fault) deck = Err fault
 card_before (Ok card) (Err fault) = Err fault
 card_before (Ok card) (Ok cards) = Ok (card ∷ cards)
 
 -- the cards of lines, the first of which has this number
-abbrev pub deck_from : ℕ → List (List ℕ) → Result (List Card) DeckFault
+abbrev pub deck_from : ℕ → List (List ℕ) → Result (List Card) DeckTextFault
 deck_from number [] = Ok []
 deck_from number (line ∷ lines) = card_before (card_of_line number line) (deck_from (number + 1) lines)
 
 -- the deck of a text: a card for each line, or the first line's fault that has one
-abbrev pub deck_of : List ℕ → Result (List Card) DeckFault
+abbrev pub deck_of : List ℕ → Result (List Card) DeckTextFault
 deck_of text = deck_from 1 (lines_of text)

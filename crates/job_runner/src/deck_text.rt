@@ -15,7 +15,7 @@ use thiserror::Error;
 
 /// Why a text isn't a deck.
 #[derive(Clone, Copy, Debug, PartialEq, Eq, Error)]
-pub enum DeckFault {
+pub enum DeckTextFault {
     /// The memory for the cards was refused.
     #[error("memory refused")]
     Memory,
@@ -49,16 +49,16 @@ pub struct ReadDeck {
 /// # Errors
 ///
 /// `Graphic` if one of the first 80 bytes is the graphic of no character, else `Length` if there are more.
-fn card_of(number: u64, line: &[u8]) -> Result<Card, DeckFault>
+fn card_of(number: u64, line: &[u8]) -> Result<Card, DeckTextFault>
     ensures { result ≡ card_of_line number line.now }
 {
     let mut columns = [Char::BLANK; CARD_COLUMNS];
     for (i, byte) in line.iter().enumerate() {
         if i == CARD_COLUMNS {
-            return Err(DeckFault::Length { line: number });
+            return Err(DeckTextFault::Length { line: number });
         }
         let Some(char) = Char::from_graphic(byte.to_ascii_uppercase()) else {
-            return Err(DeckFault::Graphic {
+            return Err(DeckTextFault::Graphic {
                 line: number,
                 column: i as u8 + 1,
             });
@@ -75,13 +75,13 @@ fn card_of(number: u64, line: &[u8]) -> Result<Card, DeckFault>
 ///
 /// `Graphic` or `Length` for the first byte that is on no card, or `Memory`.
 #[tactic(auto, using(crate::proofs::DeckTextLemmas::card_fits))]
-pub fn read_deck(alloc: Global, text: &[u8]) -> Result<ReadDeck, DeckFault>
+pub fn read_deck(alloc: Global, text: &[u8]) -> Result<ReadDeck, DeckTextFault>
     ensures deck { IfOk result (λ deck. deck_of text.now ≡ Ok deck.cards) }
     ensures count { IfOk result (λ deck. length deck.cards ≡ length (lines_of text.now)) }
     ensures small { IfOk result (λ deck. deck.has_small_letters ≡ list_any is_ascii_lowercase text.now) }
 
     // Without a fault of the text only memory can be refused.
-    ensures fault { IfErr result (λ why. why ≢ DeckFault.Memory → deck_of text.now ≡ Err why) }
+    ensures fault { IfErr result (λ why. why ≢ DeckTextFault.Memory → deck_of text.now ≡ Err why) }
 {
     let has_small_letters = text.iter().any(|byte| byte.is_ascii_lowercase());
     let mut lens = Vec::new(alloc);
@@ -91,7 +91,7 @@ pub fn read_deck(alloc: Global, text: &[u8]) -> Result<ReadDeck, DeckFault>
         let number = (lens.len() as u64).saturating_add(1);
         let card = card_of(number, line)?;
         let Ok(()) = put_card(&mut lens, &mut chars, &card, line.len()) else {
-            return Err(DeckFault::Memory);
+            return Err(DeckTextFault::Memory);
         };
         rest = behind;
     }

@@ -37,7 +37,7 @@ pub use card_list::CardList;
 pub use cards::Cards;
 pub use collected::Collected;
 pub use deck::Deck;
-pub use deck_text::{DeckFault, ReadDeck, put_cards, read_deck};
+pub use deck_text::{DeckTextFault, ReadDeck, put_cards, read_deck};
 pub use fault::JobFault;
 pub use job::{JobEnd, STRETCH, run_job};
 pub use loading::press_load_key;

@@ -5,7 +5,7 @@ use crate::fault::{OpenFault, not_kept};
 use bytes_streams::Sink;
 use program_call::NewJournal;
 use program_sessions::durability_of;
-use room_files::{FileFault, JournalFile, KeepFault, MadeJournal, begin_journal};
+use room_files::{JournalFile, JournalFileFault, KeepFault, MadeJournal, begin_journal};
 use std::alloc::{AllocError, Global};
 use std::fs::File;
 use std::rt::Files;
@@ -85,7 +85,7 @@ pub(crate) fn begin_named(
     let last = if number == 1 { first } else { MOST };
     for named in first..last {
         match begin_as(rt, names, size, named) {
-            Err(KeepFault::File(_, FileFault::Exists)) => {}
+            Err(KeepFault::File(_, JournalFileFault::Exists)) => {}
             Err(fault) => return Err(not_kept(fault)),
             Ok(made) => return Ok(made),
         }

@@ -8,7 +8,7 @@ use Rattle.program_call.specs.Sizes.{size_for}
 use Rattle.cpu_1401.specs.State.{State, power_on}
 use Rattle.devices_1401.specs.declared.card.Card.{Card}
 use Rattle.job_runner.specs.DeckText.{deck_of}
-use Rattle.job_runner.specs.declared.deck_text.DeckFault.{DeckFault}
+use Rattle.job_runner.specs.declared.deck_text.DeckTextFault.{DeckTextFault}
 use Rattle.autocoder_statements.specs.declared.language.Language.{Language}
 use Rattle.core_1401.specs.Storage.{is_core_size}
 use Rattle.machine_image.specs.Image.{IsInCore}
@@ -23,7 +23,7 @@ use Rattle.autocoder_1401.specs.declared.rows.AssemblyRows.{AssemblyRows}
 
 -- the cards of a text
 pub is_deck_text : (text : List ℕ) (cards : List Card)
-    → ◌≡◌ {A = Result (List Card) DeckFault} (deck_of text) (Ok cards) → IsDeckText cards
+    → ◌≡◌ {A = Result (List Card) DeckTextFault} (deck_of text) (Ok cards) → IsDeckText cards
 is_deck_text text cards is = (text, is)
 
 -- an image of a version has the size of a core storage

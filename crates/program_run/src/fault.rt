@@ -7,7 +7,7 @@ use autocoder_1401::AsmFault;
 use autocoder_deck::LoadFault;
 use bytes_files::FileFault;
 use cpu_1401::Stop;
-use job_runner::DeckFault;
+use job_runner::DeckTextFault;
 use machine_image::ImageFault;
 use thiserror::Error;
 
@@ -31,7 +31,7 @@ pub enum RunFault {
     OneFile(String, String),
     /// The file of this name is no deck.
     #[error("{0}: {1}")]
-    Deck(String, DeckFault),
+    Deck(String, DeckTextFault),
     /// The deck whose image is asked for doesn't load itself.
     #[error("the deck isn't loaded: {0}")]
     Unloaded(LoadFault),

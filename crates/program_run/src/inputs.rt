@@ -16,7 +16,7 @@ use autocoder_statements::Language;
 use bytes_files::{FileFault, read_whole};
 use core_1401::CoreFault;
 use cpu_1401::Machine;
-use job_runner::{CardList, DeckFault, ReadDeck, read_deck};
+use job_runner::{CardList, DeckTextFault, ReadDeck, read_deck};
 use machine_graphics::{Graphics, Suggestion, in_ours, suggest, suggest_foreign};
 use program_call::{DEFAULT_SIZE, Start, is_refused};
 use std::alloc::Global;
@@ -50,7 +50,7 @@ fn report_suggestion(rt: &impl Eprint, name: &str, suggested: Option<Suggestion>
 }
 
 /// The deck of a text that has the graphics of the chain that was asked for.
-fn deck_in(alloc: Global, asked: Option<Graphics>, text: Vec<u8>) -> Result<ReadDeck, DeckFault>
+fn deck_in(alloc: Global, asked: Option<Graphics>, text: Vec<u8>) -> Result<ReadDeck, DeckTextFault>
     ensures { IfOk result (λ deck. deck_of (map (ours_of (chain_of asked)) text.items) ≡ Ok deck.cards) }
 {
     read_deck(alloc, in_ours(asked, text).as_slice())
@@ -83,7 +83,7 @@ pub fn read_cards(
             }
             Ok(deck.cards)
         }
-        Err(DeckFault::Memory) => Err(RunFault::Memory),
+        Err(DeckTextFault::Memory) => Err(RunFault::Memory),
         Err(fault) => Err(RunFault::Deck(label, fault)),
     }
 }

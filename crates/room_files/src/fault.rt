@@ -6,7 +6,7 @@ use thiserror::Error;
 
 /// Why the file of a journal can't be had.
 #[derive(Clone, Copy, Debug, PartialEq, Eq, Error)]
-pub enum FileFault {
+pub enum JournalFileFault {
     /// There is a file of this name already, which a new journal would overwrite.
     #[error("already exists")]
     Exists,
@@ -58,7 +58,7 @@ pub enum KeepFault {
     Memory,
     /// The file of this name can't be had.
     #[error("{0}: {1}")]
-    File(String, FileFault),
+    File(String, JournalFileFault),
     /// The file of this name has no journal's text.
     #[error("{0}: {1}")]
     Journal(String, JournalFault),
@@ -69,32 +69,32 @@ pub enum KeepFault {
 
 impl KeepFault {
     /// Why the file of this name can't be had; want of memory is no fault of the file.
-    pub fn of_file(name: String, fault: FileFault) -> KeepFault
-        ensures memory { fault ≡ FileFault.Memory → result ≡ KeepFault.Memory }
-        ensures file { fault ≢ FileFault.Memory → result ≡ KeepFault.File name fault }
+    pub fn of_file(name: String, fault: JournalFileFault) -> KeepFault
+        ensures memory { fault ≡ JournalFileFault.Memory → result ≡ KeepFault.Memory }
+        ensures file { fault ≢ JournalFileFault.Memory → result ≡ KeepFault.File name fault }
     {
         match fault {
-            FileFault::Memory => KeepFault::Memory,
-            FileFault::Exists | FileFault::InUse | FileFault::NotThere => {
+            JournalFileFault::Memory => KeepFault::Memory,
+            JournalFileFault::Exists | JournalFileFault::InUse | JournalFileFault::NotThere => {
                 KeepFault::File(name, fault)
             }
-            FileFault::Folder | FileFault::NoFile | FileFault::Denied => {
+            JournalFileFault::Folder | JournalFileFault::NoFile | JournalFileFault::Denied => {
                 KeepFault::File(name, fault)
             }
-            FileFault::TooLong | FileFault::Unreadable | FileFault::Unwritten => {
-                KeepFault::File(name, fault)
-            }
+            JournalFileFault::TooLong
+            | JournalFileFault::Unreadable
+            | JournalFileFault::Unwritten => { KeepFault::File(name, fault) }
         }
     }
 
     /// Why the text of a journal so far isn't in the new file of this name.
     pub fn of_text(name: String, fault: TextFault) -> KeepFault
         ensures memory { fault ≡ TextFault.Memory → result ≡ KeepFault.Memory }
-        ensures unwritten { fault ≡ TextFault.Unwritten → result ≡ KeepFault.File name FileFault.Unwritten }
+        ensures unwritten { fault ≡ TextFault.Unwritten → result ≡ KeepFault.File name JournalFileFault.Unwritten }
     {
         match fault {
             TextFault::Memory => KeepFault::Memory,
-            TextFault::Unwritten => KeepFault::File(name, FileFault::Unwritten),
+            TextFault::Unwritten => KeepFault::File(name, JournalFileFault::Unwritten),
         }
     }
 

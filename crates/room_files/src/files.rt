@@ -2,7 +2,7 @@
 ghost use Rattle.std.specs.Prelude.{◌≡◌, false, IfOk};
 ghost use Rattle.room_journal.specs.JournalText.{journal_text};
 
-use crate::fault::{FileFault, KeepFault};
+use crate::fault::{JournalFileFault, KeepFault};
 use crate::journal_file::{Durability, JournalFile};
 use bytes_streams::Sink;
 use room_alone::{Entry, Room};
@@ -17,21 +17,21 @@ use std::rt::Files;
 const MOST_BYTES: u64 = 67_108_864;
 
 /// Why a file can't be had, by what the system says; the last is for what it doesn't say.
-pub(crate) fn file_fault(kind: ErrorKind, otherwise: FileFault) -> FileFault {
+pub(crate) fn file_fault(kind: ErrorKind, otherwise: JournalFileFault) -> JournalFileFault {
     match kind {
-        ErrorKind::AlreadyExists => FileFault::Exists,
-        ErrorKind::NotFound | ErrorKind::NotADirectory => FileFault::NotThere,
-        ErrorKind::IsADirectory => FileFault::Folder,
-        ErrorKind::PermissionDenied | ErrorKind::ReadOnlyFilesystem => FileFault::Denied,
+        ErrorKind::AlreadyExists => JournalFileFault::Exists,
+        ErrorKind::NotFound | ErrorKind::NotADirectory => JournalFileFault::NotThere,
+        ErrorKind::IsADirectory => JournalFileFault::Folder,
+        ErrorKind::PermissionDenied | ErrorKind::ReadOnlyFilesystem => JournalFileFault::Denied,
         _ => otherwise,
     }
 }
 
 /// Keeps other processes from keeping a journal in this file, as long as it is open.
-pub(crate) fn lock(file: &File) -> Result<(), FileFault> {
+pub(crate) fn lock(file: &File) -> Result<(), JournalFileFault> {
     match file.try_lock() {
         Ok(()) => Ok(()),
-        Err(_) => Err(FileFault::InUse),
+        Err(_) => Err(JournalFileFault::InUse),
     }
 }
 
@@ -48,7 +48,7 @@ pub(crate) fn keep_name(
     rt: &impl Files<File = File>,
     name: &str,
     durability: Durability,
-) -> Result<(), FileFault> {
+) -> Result<(), JournalFileFault> {
     let synced = match durability {
         Durability::System => Ok(()),
         Durability::Disk => match File::open(rt, folder_of(name)) {
@@ -56,17 +56,17 @@ pub(crate) fn keep_name(
             Err(error) => Err(error),
         },
     };
-    synced.map_err(|error| file_fault(error.kind(), FileFault::Unwritten))
+    synced.map_err(|error| file_fault(error.kind(), JournalFileFault::Unwritten))
 }
 
 /// All bytes of a file, if there are no more than a journal may have.
-fn bytes_of(alloc: Global, file: &File) -> Result<Vec<u8>, FileFault> {
+fn bytes_of(alloc: Global, file: &File) -> Result<Vec<u8>, JournalFileFault> {
     let mut bytes = Vec::new(alloc);
     match file.take(MOST_BYTES + 1).read_to_end(&mut bytes) {
-        Ok(_) if bytes.len() as u64 > MOST_BYTES => Err(FileFault::TooLong),
+        Ok(_) if bytes.len() as u64 > MOST_BYTES => Err(JournalFileFault::TooLong),
         Ok(_) => Ok(bytes),
-        Err(error) if error.kind() == ErrorKind::OutOfMemory => Err(FileFault::Memory),
-        Err(error) => Err(file_fault(error.kind(), FileFault::Unreadable)),
+        Err(error) if error.kind() == ErrorKind::OutOfMemory => Err(JournalFileFault::Memory),
+        Err(error) => Err(file_fault(error.kind(), JournalFileFault::Unreadable)),
     }
 }
 
@@ -78,10 +78,10 @@ fn bytes_of(alloc: Global, file: &File) -> Result<Vec<u8>, FileFault> {
 pub fn read_journal_file(
     rt: &(impl Files<File = File> + AllocGlobal),
     name: &str,
-) -> Result<Vec<u8>, FileFault> {
+) -> Result<Vec<u8>, JournalFileFault> {
     match OpenOptions::new().read(true).open(rt, name) {
         Ok(file) => bytes_of(rt.alloc(), &file),
-        Err(error) => Err(file_fault(error.kind(), FileFault::Unreadable)),
+        Err(error) => Err(file_fault(error.kind(), JournalFileFault::Unreadable)),
     }
 }
 
@@ -131,11 +131,11 @@ pub struct TakenUp {
 }
 
 /// Refuses what isn't a regular file: a pipe has no end, and a device has nothing to add lines to.
-fn expect_file(file: &File) -> Result<(), FileFault> {
+fn expect_file(file: &File) -> Result<(), JournalFileFault> {
     match file.metadata() {
         Ok(metadata) if metadata.is_file() => Ok(()),
-        Ok(_) => Err(FileFault::NoFile),
-        Err(error) => Err(file_fault(error.kind(), FileFault::Unreadable)),
+        Ok(_) => Err(JournalFileFault::NoFile),
+        Err(error) => Err(file_fault(error.kind(), JournalFileFault::Unreadable)),
     }
 }
 
@@ -144,10 +144,10 @@ fn open(
     rt: &(impl Files<File = File> + AllocGlobal),
     name: &str,
     durability: Durability,
-) -> Result<(File, Vec<u8>), FileFault> {
+) -> Result<(File, Vec<u8>), JournalFileFault> {
     let file = match OpenOptions::new().read(true).append(true).open(rt, name) {
         Ok(file) => file,
-        Err(error) => return Err(file_fault(error.kind(), FileFault::Unreadable)),
+        Err(error) => return Err(file_fault(error.kind(), JournalFileFault::Unreadable)),
     };
     expect_file(&file)?;
     lock(&file)?;
@@ -213,7 +213,7 @@ impl FoundJournal {
             None
         } else {
             if file.set_len(text.len() as u64).is_err() {
-                return Err(KeepFault::File(name, FileFault::Unwritten));
+                return Err(KeepFault::File(name, JournalFileFault::Unwritten));
             }
             Some(room.journal().len() as u32 + 2)
         };

@@ -25,7 +25,7 @@ pub mod new_file;
 // a journal shown or checked
 pub mod showing;
 
-pub use fault::{FileFault, KeepFault, TextFault};
+pub use fault::{JournalFileFault, KeepFault, TextFault};
 pub use files::{
     FoundJournal, TakenUp, find_journal, read_journal_file, read_room, take_up_journal,
 };

@@ -1,7 +1,7 @@
 //! A new file for a journal, which is locked before it has its name.
 ghost use Rattle.std.specs.Prelude.{◌≡◌, false, IfOk};
 
-use crate::fault::{FileFault, KeepFault};
+use crate::fault::{JournalFileFault, KeepFault};
 use crate::files::{file_fault, keep_name, lock};
 use crate::journal_file::{Durability, JournalFile};
 use crate::keeping::begin_text;
@@ -46,18 +46,18 @@ fn make_file(rt: &impl Files<File = File>, name: &str) -> Result<File, ErrorKind
 fn make_beside(
     rt: &(impl Files<File = File> + AllocGlobal),
     name: &str,
-) -> Result<(File, String), FileFault> {
+) -> Result<(File, String), JournalFileFault> {
     for number in 0..NAMES {
         let Ok(beside) = format!(in rt.alloc(); "{name}.{number}.part") else {
-            return Err(FileFault::Memory);
+            return Err(JournalFileFault::Memory);
         };
         match make_file(rt, beside.as_str()) {
             Ok(file) => return Ok((file, beside)),
             Err(ErrorKind::AlreadyExists) => {}
-            Err(kind) => return Err(file_fault(kind, FileFault::Unwritten)),
+            Err(kind) => return Err(file_fault(kind, JournalFileFault::Unwritten)),
         }
     }
-    Err(FileFault::Unwritten)
+    Err(JournalFileFault::Unwritten)
 }
 
 /// Locks a file, and then gives it this name too, if there is no file of that name.
@@ -66,12 +66,12 @@ fn link_locked(
     file: &File,
     beside: &str,
     name: &str,
-) -> Result<(), FileFault> {
+) -> Result<(), JournalFileFault> {
     lock(file)?;
     match fs::hard_link(rt, beside, name) {
         Ok(()) if is_named(rt, name, file) => Ok(()),
-        Ok(()) => Err(FileFault::Unwritten),
-        Err(error) => Err(file_fault(error.kind(), FileFault::Unwritten)),
+        Ok(()) => Err(JournalFileFault::Unwritten),
+        Err(error) => Err(file_fault(error.kind(), JournalFileFault::Unwritten)),
     }
 }
 
@@ -79,7 +79,7 @@ fn link_locked(
 fn make_linked(
     rt: &(impl Files<File = File> + AllocGlobal),
     name: &str,
-) -> Result<File, FileFault> {
+) -> Result<File, JournalFileFault> {
     let (file, beside) = make_beside(rt, name)?;
     let linked = link_locked(rt, &file, beside.as_str(), name);
     remove_own(rt, beside.as_str(), &file);
@@ -90,10 +90,10 @@ fn make_linked(
 }
 
 /// A new file that was made under its name, and then locked.
-fn make_in_place(rt: &impl Files<File = File>, name: &str) -> Result<File, FileFault> {
+fn make_in_place(rt: &impl Files<File = File>, name: &str) -> Result<File, JournalFileFault> {
     let file = match make_file(rt, name) {
         Ok(file) => file,
-        Err(kind) => return Err(file_fault(kind, FileFault::Unwritten)),
+        Err(kind) => return Err(file_fault(kind, JournalFileFault::Unwritten)),
     };
     if let Err(fault) = lock(&file) {
         remove_own(rt, name, &file);
@@ -107,11 +107,11 @@ fn make(
     rt: &(impl Files<File = File> + AllocGlobal),
     name: &str,
     durability: Durability,
-) -> Result<File, FileFault> {
+) -> Result<File, JournalFileFault> {
     let file = match make_linked(rt, name) {
         Ok(file) => file,
-        Err(FileFault::Exists) => return Err(FileFault::Exists),
-        Err(FileFault::Memory) => return Err(FileFault::Memory),
+        Err(JournalFileFault::Exists) => return Err(JournalFileFault::Exists),
+        Err(JournalFileFault::Memory) => return Err(JournalFileFault::Memory),
         // A file system may have no links, or no names that long. If no file can be made at all, this says why.
         Err(_) => make_in_place(rt, name)?,
     };
@@ -166,7 +166,7 @@ pub fn create_journal(
     };
     let Ok(same) = file.try_clone() else {
         remove_own(rt, name.as_str(), &file);
-        return Err(KeepFault::File(name, FileFault::Unwritten));
+        return Err(KeepFault::File(name, JournalFileFault::Unwritten));
     };
     Ok(MadeJournal {
         file: JournalFile::new(file, 0, durability),

@@ -7,7 +7,7 @@ use bcd_1401::Char;
 use cpu_1401::{Machine, Stop};
 use devices_1401::{Card, PrintLine};
 use job_runner::{
-    CardList, Cards, Collected, Deck, DeckFault, JobEnd, JobFault, Output, Place, ReadDeck,
+    CardList, Cards, Collected, Deck, DeckTextFault, JobEnd, JobFault, Output, Place, ReadDeck,
     press_load_key, put_cards, put_paper, read_deck, run_job,
 };
 use std::process::Abort;
@@ -311,13 +311,13 @@ fn a_deck_is_a_card_a_line(rt: HostRuntime) {
 }
 
 /// Compares the text of a fault.
-fn expect_told(rt: &(impl Abort + AllocGlobal), fault: DeckFault, told: &str) {
+fn expect_told(rt: &(impl Abort + AllocGlobal), fault: DeckTextFault, told: &str) {
     let shown = format!(in rt.alloc(); "{fault}").expect(rt, "a text");
     expect_bytes(rt, shown.as_bytes(), told.as_bytes());
 }
 
 /// Compares the fault of a text that is no deck, and what is told of it.
-fn expect_fault(rt: &(impl Abort + AllocGlobal), text: &[u8], fault: DeckFault, told: &str) {
+fn expect_fault(rt: &(impl Abort + AllocGlobal), text: &[u8], fault: DeckTextFault, told: &str) {
     let found = read_deck(rt.alloc(), text).err();
     expect_same(rt, &found, &Some(fault), text.escape_ascii());
     expect_told(rt, fault, told);
@@ -330,22 +330,22 @@ fn a_byte_that_no_card_has_is_told_with_its_place(rt: HostRuntime) {
     expect_fault(
         &rt,
         b"\nAB~~",
-        DeckFault::Graphic { line: 2, column: 3 },
+        DeckTextFault::Graphic { line: 2, column: 3 },
         "line 2, column 3: no card has this character",
     );
     expect_fault(
         &rt,
         long.as_slice(),
-        DeckFault::Length { line: 2 },
+        DeckTextFault::Length { line: 2 },
         "line 2, column 81: a card has 80 columns",
     );
     expect_fault(
         &rt,
         b"A\rB\n~",
-        DeckFault::Graphic { line: 1, column: 2 },
+        DeckTextFault::Graphic { line: 1, column: 2 },
         "line 1, column 2: no card has this character",
     );
-    expect_told(&rt, DeckFault::Memory, "memory refused");
+    expect_told(&rt, DeckTextFault::Memory, "memory refused");
 }
 
 /// Adds a printed line with a number to a text that has reached a place, and returns the place below it.

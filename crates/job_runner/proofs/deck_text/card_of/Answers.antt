@@ -9,7 +9,7 @@ use Rattle.std.specs.List.{prefix_len}
 use Rattle.std.specs.Prelude.{Result, Ok, position}
 use Rattle.bcd_1401.specs.Graphic.{graphics}
 use Rattle.devices_1401.specs.declared.card.Card.{Card}
-use Rattle.job_runner.specs.declared.deck_text.DeckFault.{DeckFault}
+use Rattle.job_runner.specs.declared.deck_text.DeckTextFault.{DeckTextFault}
 use Rattle.job_runner.specs.DeckText.{char_of, code_of, has_char}
 use Rattle.job_runner.proofs.DeckTextLemmas.{card_of-full, card_of-long, card_of-missed, no_char, some_char}
 use Rattle.job_runner.proofs.deck_text.card_of.Goals as goal
@@ -77,6 +77,6 @@ returns c =
     ∙ ap (λ (blanks : List ℕ). map code_of line ++ blanks) rest in
     let none_left : prefix_len has_char (drop c.loop-i.i line) ≡ 0 =
     prefix_len-drop_all has_char line c.loop-i.i (omega (arith, all)) in
-    ap (λ (chars : List ℕ). let card : Card = record { 0 = chars } in let result : Result Card DeckFault = Ok card in result)
+    ap (λ (chars : List ℕ). let card : Card = record { 0 = chars } in let result : Result Card DeckTextFault = Ok card in result)
     whole
     ∙ sym (card_of-full c.args.number line (omega (arith, s.few, all)) (omega (arith, s.filled, none_left, all)))
