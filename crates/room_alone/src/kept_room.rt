@@ -62,6 +62,33 @@ impl<K: Keeper + Drop> KeptRoom<K> {
         self.keeper.has_failed()
     }
 
+    /// Makes room for one entry more. After `Ok` the next command is carried out.
+    ///
+    /// # Errors
+    ///
+    /// `Unkept` if an earlier write has failed, else as those of `Room::reserve`. The journal is as it was.
+    pub fn reserve(&mut self) -> Result<(), RoomFault>
+        ensures journal { self.new.room.journal ≡ self.old.room.journal }
+        ensures size { self.new.room.size ≡ self.old.room.size }
+        ensures same { (self.new.failed ≡ self.old.failed) × (self.new.kept ≡ self.old.kept) }
+        ensures ok { OnOk result (0 < self.new.room.spare) }
+        ensures good { OnOk result (self.old.failed ≡ false) }
+        ensures not_full { OnOk result (is_full self.old.room.journal ≡ false) }
+        ensures failed { (result ≡ Err RoomFault.Unkept) ↔ (self.old.failed ≡ true) }
+        ensures full { self.old.failed ≡ false
+            → ((result ≡ Err RoomFault.JournalFull) ↔ (is_full self.old.room.journal ≡ true)) }
+        ensures fault { IfErr result (λ fault. self.old.failed ≡ false → fault ≡ refusal_of self.old.room.journal) }
+        ensures reserved { self.old.failed ≡ false → 0 < self.old.room.spare
+            → is_full self.old.room.journal ≡ false → IsOk result }
+        ensures spare { self.old.room.spare ≤ self.new.room.spare }
+    {
+        if self.keeper.has_failed() {
+            Err(RoomFault::Unkept)
+        } else {
+            self.room.reserve()
+        }
+    }
+
     /// Carries a command out for a seat, records it with its answer, and keeps the entry.
     ///
     /// # Errors
