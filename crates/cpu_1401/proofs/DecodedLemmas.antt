@@ -14,15 +14,15 @@ use Rattle.core_1401.specs.EightCells.{AreEightCells, codes_at}
 use Rattle.core_1401.specs.Storage.{Storage, blank, cell_at}
 use Rattle.cpu_1401.specs.declared.decoded.Address.{Address}
 use Rattle.cpu_1401.specs.declared.decoded.Decoded.{Decoded}
-use Rattle.cpu_1401.specs.declared.decoded.Source.{Source}
-use Rattle.cpu_1401.specs.declared.decoded.Source.TheVariants.{Both, Target, Unasked, OnlyA, Registers}
+use Rattle.cpu_1401.specs.declared.decoded.Addressing.{Addressing}
+use Rattle.cpu_1401.specs.declared.decoded.Addressing.TheVariants.{Both, Target, Unasked, OnlyA, Registers}
 use Rattle.cpu_1401.specs.declared.instruction.Instruction.{Instruction}
 use Rattle.machine_operations.specs.declared.operation.Operation.{Operation}
 use Rattle.machine_operations.specs.declared.operation.Operation.TheVariants as op
 use Rattle.cpu_1401.specs.Decoded.{AlwaysSay, IsAddress, Says, Serve}
 use Rattle.cpu_1401.specs.Instruction.{instruction_of, length_at, longest_at}
 use Rattle.machine_operations.specs.Operation.{form_of, operation_of}
-use Rattle.cpu_1401.specs.Source.{has_b}
+use Rattle.cpu_1401.specs.Addressing.{has_b}
 use Rattle.cpu_1401.specs.State.{State}
 use Rattle.cpu_1401.specs.Step.{perform, step}
 
@@ -221,7 +221,7 @@ unasked_serve : (s : State) (this : Decoded) (a b : ℕ) → this.operation ≡ 
 unasked_serve s this a b none = rw none refl
 
 -- a value of five
-cases_source : (source : Source)
+cases_source : (source : Addressing)
     → (source ≡ Both) ⊎ ((source ≡ Target) ⊎ ((source ≡ Unasked) ⊎ ((source ≡ OnlyA) ⊎ (source ≡ Registers))))
 cases_source Both = inl refl
 cases_source Target = inr (inl refl)

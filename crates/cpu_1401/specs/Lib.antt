@@ -9,7 +9,7 @@ pub mod DecodeCache
 pub mod NeededPlaces
 pub mod RegisterStep
 pub mod Run
-pub mod Source
+pub mod Addressing
 pub mod State
 pub mod Step
 pub mod Stepped

@@ -2,7 +2,7 @@
 ghost use Rattle.std.specs.Prelude.{◌≡◌, ◌≢◌, ◌-◌, ◌^◌, true};
 ghost use Rattle.cpu_1401.specs.Decoded.{AlwaysSay};
 
-use crate::decoded::{Address, Decoded, Source};
+use crate::decoded::{Address, Addressing, Decoded};
 use bcd_1401::Char;
 use machine_operations::Operation;
 
@@ -41,7 +41,7 @@ impl CacheEntry {
                 d: Char::BLANK,
                 a: none,
                 b: none,
-                source: Source::Unasked,
+                source: Addressing::Unasked,
                 is_ready: true,
             },
             at: NO_PLACE,

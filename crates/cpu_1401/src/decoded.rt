@@ -1,8 +1,8 @@
 //! What an instruction says by itself, whatever the registers hold.
 ghost use Rattle.std.specs.Prelude.{◌≡◌, ◌≢◌, ◌<◌, ◌≤◌, false, true};
 ghost use Rattle.core_1401.specs.Address.{addresses};
-ghost use Rattle.cpu_1401.specs.Source.{has_b};
-ghost use Rattle.cpu_1401.specs.declared.decoded.Source.{Source};
+ghost use Rattle.cpu_1401.specs.Addressing.{has_b};
+ghost use Rattle.cpu_1401.specs.declared.decoded.Addressing.{Addressing};
 ghost use Rattle.machine_operations.specs.declared.operation.Operation.{Operation};
 
 use bcd_1401::Char;
@@ -21,7 +21,7 @@ pub(crate) struct Address {
 
 /// How an instruction comes by its addresses.
 #[derive(Clone, Copy, PartialEq, Eq)]
-pub(crate) enum Source {
+pub(crate) enum Addressing {
     /// It spells both: two, or one for both registers.
     Both,
     /// It spells its A address, and asks for no other: a branch of four characters.
@@ -48,24 +48,24 @@ pub(crate) struct Decoded {
     /// The B address, if it has two, or its only one, if that is for both registers.
     pub(crate) b: Address,
     /// How it comes by its addresses.
-    pub(crate) source: Source,
+    pub(crate) source: Addressing,
     /// Whether the addresses are ready: as they are spelled, or not asked for.
     pub(crate) is_ready: bool,
     ghost some: { 0 < len },
     ghost most: { len ≤ 8 },
-    ghost both_len: { source ≡ Source.Both → 4 ≤ len },
-    ghost both_a: { source ≡ Source.Both → a.register ≡ 0 },
-    ghost both_own: { source ≡ Source.Both → has_b operation len ≡ true },
-    ghost both_b: { source ≡ Source.Both → b.register ≡ 0 },
-    ghost target_branch: { source ≡ Source.Target → operation ≡ Operation.Branch },
-    ghost target_len: { source ≡ Source.Target → len ≡ 4 },
-    ghost target_a: { source ≡ Source.Target → a.register ≡ 0 },
-    ghost unasked: { source ≡ Source.Unasked → operation ≡ Operation.NoOperation },
-    ghost only_len: { source ≡ Source.OnlyA → 4 ≤ len },
-    ghost only_a: { source ≡ Source.OnlyA → a.register ≡ 0 },
-    ghost only_alone: { source ≡ Source.OnlyA → has_b operation len ≡ false },
-    ghost ready: { is_ready ≡ true → source ≢ Source.OnlyA },
-    ghost ready_alone: { is_ready ≡ true → source ≢ Source.Registers },
+    ghost both_len: { source ≡ Addressing.Both → 4 ≤ len },
+    ghost both_a: { source ≡ Addressing.Both → a.register ≡ 0 },
+    ghost both_own: { source ≡ Addressing.Both → has_b operation len ≡ true },
+    ghost both_b: { source ≡ Addressing.Both → b.register ≡ 0 },
+    ghost target_branch: { source ≡ Addressing.Target → operation ≡ Operation.Branch },
+    ghost target_len: { source ≡ Addressing.Target → len ≡ 4 },
+    ghost target_a: { source ≡ Addressing.Target → a.register ≡ 0 },
+    ghost unasked: { source ≡ Addressing.Unasked → operation ≡ Operation.NoOperation },
+    ghost only_len: { source ≡ Addressing.OnlyA → 4 ≤ len },
+    ghost only_a: { source ≡ Addressing.OnlyA → a.register ≡ 0 },
+    ghost only_alone: { source ≡ Addressing.OnlyA → has_b operation len ≡ false },
+    ghost ready: { is_ready ≡ true → source ≢ Addressing.OnlyA },
+    ghost ready_alone: { is_ready ≡ true → source ≢ Addressing.Registers },
 }
 
 /// Whether an instruction of this length has an address for the B register.
@@ -76,45 +76,45 @@ pub(crate) fn has_b(operation: Operation, len: u16) -> bool
 }
 
 /// How an instruction of this length comes by its addresses.
-pub(crate) fn source_of(operation: Operation, len: u16, a: Address, b: Address) -> Source
-    ensures both_len { result ≡ Source.Both → 4 ≤ len }
-    ensures both_a { result ≡ Source.Both → a.register ≡ 0 }
-    ensures both_own { result ≡ Source.Both → has_b operation len ≡ true }
-    ensures both_b { result ≡ Source.Both → b.register ≡ 0 }
-    ensures target_branch { result ≡ Source.Target → operation ≡ Operation.Branch }
-    ensures target_len { result ≡ Source.Target → len ≡ 4 }
-    ensures target_a { result ≡ Source.Target → a.register ≡ 0 }
-    ensures unasked { result ≡ Source.Unasked → operation ≡ Operation.NoOperation }
-    ensures only_len { result ≡ Source.OnlyA → 4 ≤ len }
-    ensures only_a { result ≡ Source.OnlyA → a.register ≡ 0 }
-    ensures only_alone { result ≡ Source.OnlyA → has_b operation len ≡ false }
+pub(crate) fn source_of(operation: Operation, len: u16, a: Address, b: Address) -> Addressing
+    ensures both_len { result ≡ Addressing.Both → 4 ≤ len }
+    ensures both_a { result ≡ Addressing.Both → a.register ≡ 0 }
+    ensures both_own { result ≡ Addressing.Both → has_b operation len ≡ true }
+    ensures both_b { result ≡ Addressing.Both → b.register ≡ 0 }
+    ensures target_branch { result ≡ Addressing.Target → operation ≡ Operation.Branch }
+    ensures target_len { result ≡ Addressing.Target → len ≡ 4 }
+    ensures target_a { result ≡ Addressing.Target → a.register ≡ 0 }
+    ensures unasked { result ≡ Addressing.Unasked → operation ≡ Operation.NoOperation }
+    ensures only_len { result ≡ Addressing.OnlyA → 4 ≤ len }
+    ensures only_a { result ≡ Addressing.OnlyA → a.register ≡ 0 }
+    ensures only_alone { result ≡ Addressing.OnlyA → has_b operation len ≡ false }
 {
     if operation == Operation::NoOperation {
-        return Source::Unasked;
+        return Addressing::Unasked;
     }
     if len < 4 || a.register != 0 {
-        return Source::Registers;
+        return Addressing::Registers;
     }
     if len == 4 && operation == Operation::Branch {
-        return Source::Target;
+        return Addressing::Target;
     }
     if !has_b(operation, len) {
-        return Source::OnlyA;
+        return Addressing::OnlyA;
     }
     if b.register == 0 {
-        Source::Both
+        Addressing::Both
     } else {
-        Source::Registers
+        Addressing::Registers
     }
 }
 
 /// Whether such addresses are ready before the registers are known.
-pub(crate) fn is_ready(source: Source) -> bool
-    ensures ready { result ≡ true → source ≢ Source.OnlyA }
-    ensures alone { result ≡ true → source ≢ Source.Registers }
+pub(crate) fn is_ready(source: Addressing) -> bool
+    ensures ready { result ≡ true → source ≢ Addressing.OnlyA }
+    ensures alone { result ≡ true → source ≢ Addressing.Registers }
 {
     match source {
-        Source::Both | Source::Target | Source::Unasked => true,
-        Source::OnlyA | Source::Registers => false,
+        Addressing::Both | Addressing::Target | Addressing::Unasked => true,
+        Addressing::OnlyA | Addressing::Registers => false,
     }
 }

@@ -8,7 +8,7 @@ ghost use Rattle.cpu_1401.specs.Step.{perform, step};
 ghost use Rattle.cpu_1401.specs.Decoded.{Says, Serve};
 ghost use Rattle.cpu_1401.specs.Stepped.{stopped};
 
-use crate::decoded::{Decoded, Source, has_b};
+use crate::decoded::{Addressing, Decoded, has_b};
 use crate::instruction::Instruction;
 use crate::io_request::CardWork;
 use crate::machine::Machine;
@@ -198,7 +198,7 @@ impl Machine {
         ensures b { result.b < addresses }
         ensures next { result.next < addresses }
     {
-        let (a, b) = if said.source == Source::OnlyA {
+        let (a, b) = if said.source == Addressing::OnlyA {
             self.only_a_address(said)
         } else {
             self.addresses(said)
@@ -230,7 +230,7 @@ impl Machine {
     #[tactic(auto, using(crate::proofs::DecodedLemmas::only_a_serves))]
     fn only_a_address(&self, said: &Decoded) -> (u16, u16)
         requires says { Says self.now.storage self.now.i said.now }
-        requires only { said.now.source ≡ Source.OnlyA }
+        requires only { said.now.source ≡ Addressing.OnlyA }
         ensures serve { Serve self.now said.now result.0 result.1 }
         ensures range { (result.0 < addresses) × (result.1 < addresses) }
     {
