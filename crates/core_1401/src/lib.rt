@@ -18,6 +18,7 @@ pub mod indexing;
 // core storage: its characters, the words of marks beside them, and how both are read and written
 pub mod block_ops;
 pub mod cells;
+pub mod copying;
 pub mod eight_cells;
 pub mod fault;
 pub mod lending;

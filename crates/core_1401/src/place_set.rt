@@ -30,6 +30,13 @@ impl PlaceSet {
         PlaceSet { words: no_marks() }
     }
 
+    /// Copies all places of another set, and has no others.
+    pub fn copy_from(&mut self, other: &PlaceSet)
+        ensures { self.new ≡ other.now }
+    {
+        self.words = other.words;
+    }
+
     /// Whether a place is in the set.
     #[inline(always)]
     pub fn has(&self, at: u16) -> bool

@@ -75,6 +75,17 @@ impl DecodeCache {
         })
     }
 
+    /// Copies all that another cache keeps.
+    pub(crate) fn copy_from(&mut self, other: &DecodeCache)
+        ensures { self.new ≡ other.now }
+    {
+        self.entries.copy_from_slice(&other.entries);
+        self.covered.copy_from(&other.covered);
+        self.first = other.first;
+        self.last = other.last;
+        self.size = other.size;
+    }
+
     /// The instruction at a place, if it was decoded there from the same cells that are there now, and its addresses
     /// are ready: if it needs them to be those of places, they are.
     #[inline(always)]

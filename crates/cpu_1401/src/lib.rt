@@ -9,6 +9,7 @@
 
 // the machine's parts, and what an operator does at them
 mod areas;
+pub mod copying;
 mod loading;
 pub mod machine;
 

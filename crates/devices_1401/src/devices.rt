@@ -71,6 +71,17 @@ impl Devices {
         })
     }
 
+    /// Copies all cards and lines of other devices, and the position of their carriage. It takes no memory.
+    pub fn copy_from(&mut self, other: &Devices)
+        ensures { self.new ≡ other.now }
+    {
+        copy_ring(&mut self.hopper, &other.hopper);
+        copy_ring(&mut self.stacker, &other.stacker);
+        copy_ring(&mut self.paper, &other.paper);
+        self.position = other.position;
+        self.pending = other.pending;
+    }
+
     /// Adds a card to the hopper, after those in it.
     ///
     /// # Errors
@@ -265,4 +276,16 @@ impl Devices {
     {
         self.pending
     }
+}
+
+/// Copies all items of another ring that holds as many.
+fn copy_ring<T: Copy>(ring: &mut HeapCircularBuffer<T>, other: &HeapCircularBuffer<T>)
+    requires { ring.old.capacity ≡ other.now.capacity }
+    ensures { ring.new ≡ other.now }
+{
+    let _capacity = other.capacity();
+    let (front, back) = other.as_slices();
+    ring.clear();
+    ring.extend_from_slice(front);
+    ring.extend_from_slice(back);
 }
