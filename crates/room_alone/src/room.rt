@@ -2,6 +2,7 @@
 ghost use Rattle.std.specs.Prelude.{◌≡◌, ◌+◌, ◌<◌, ◌≤◌, ◌↔◌, [], ◌∷◌, ◌++◌, true, false, length, vec_len, vec_capacity};
 ghost use Rattle.std.specs.Prelude.{IsOk, IfOk, IfErr, OnOk, OnErr};
 ghost use Rattle.core_1401.specs.Storage.{is_core_size};
+ghost use Rattle.machine_execution.specs.CarryOut.{carry_out};
 ghost use Rattle.room_alone.specs.Journal.{IsLegal, answer_to, entry, is_full, most_entries, refusal_of, state_of};
 
 use crate::entry::Entry;
@@ -11,6 +12,7 @@ use machine_commands::RoomFault;
 use machine_execution::{Answer, Command, carry_out};
 use std::alloc::Global;
 use std::marker::Model;
+use std::mem::swap;
 use std::slice::from_ref;
 
 /// The most entries that a journal has.
@@ -126,6 +128,23 @@ impl Room {
     {
         self.reserve()?;
         Ok(self.carry_reserved(seat, command))
+    }
+
+    /// Records a command of a seat that was carried out on another machine, with its answer there. That machine becomes
+    /// the room's, and the room's machine, as it was before the command, takes its place. There is room for the entry.
+    pub fn take_over(&mut self, seat: u8, command: Command, answer: Answer, machine: &mut Machine)
+        requires spare { 0 < self.old.spare }
+        requires not_full { is_full self.old.journal ≡ false }
+        requires machine { machine.old ≡ (carry_out (state_of self.old.size self.old.journal) command).state }
+        requires size { length machine.old.storage ≡ self.old.size }
+        requires answer { answer ≡ answer_to self.old.size self.old.journal command }
+        ensures recorded { self.new.journal ≡ self.old.journal ++ entry seat command answer ∷ [] }
+        ensures size { self.new.size ≡ self.old.size }
+        ensures spare { self.old.spare ≤ self.new.spare + 1 }
+        ensures before { machine.new ≡ state_of self.old.size self.old.journal }
+    {
+        swap(&mut self.machine, machine);
+        record(&mut self.journal, &Entry::new(seat, &command, &answer));
     }
 
     /// Carries a command out for a seat, and records it with its answer, if there is room for the entry.
