@@ -1,7 +1,7 @@
 -- What one command changes under the lock.
-use Rattle.std.proofs.Common.{◌≡◌, ◌≤◌, ℕ, List, [], ◌∷◌, ◌++◌, length, fold}
+use Rattle.std.proofs.Common.{◌≡◌, ◌==◌, ◌≤◌, ℕ, Bool, true, false, List, [], ◌∷◌, ◌++◌, length, fold}
 use Rattle.std.proofs.Common.{refl, ap, sym, ◌∙◌, subst, arith}
-use Rattle.std.specs.Prelude.{Some, Option}
+use Rattle.std.specs.Prelude.{Some, None, Option, IfSome, if◌then◌else◌}
 use mathlib.Core.List.{IsPrefix}
 use Rattle.logbook.specs.Pages.{Book}
 use Rattle.cpu_1401.specs.State.{State, power_on}
@@ -10,9 +10,11 @@ use Rattle.room_alone.specs.declared.entry.SeatedCommand.{SeatedCommand}
 use Rattle.room_1401.specs.declared.published.Shown.{Shown}
 use Rattle.room_1401.specs.declared.published.Change.{Change}
 use Rattle.machine_execution.specs.CarryOut.{carry_out}
-use Rattle.room_alone.specs.Journal.{most_entries}
+use Rattle.room_alone.specs.declared.entry.Entry.{Entry}
+use Rattle.room_alone.specs.Journal.{most_entries, pairs_of}
+use Rattle.room_1401.specs.Ahead.{state_ahead}
 use Rattle.room_alone.specs.Replay.{pair, replay}
-use Rattle.room_1401.specs.Rule.{IsReplay, Publishes, changed, machine_after}
+use Rattle.room_1401.specs.Rule.{IsReplay, Publishes, changed, machine_after, ran}
 use Rattle.room_1401.proofs.PrefixLemmas.{prefix_self, prefix_trans}
 use Rattle.room_alone.proofs.ReplayLemmas.{state_after-append}
 
@@ -25,11 +27,20 @@ fold-append f first (x ∷ xs) ys = fold-append f (f first x) xs ys
 pub record IsNext (book : Book) (size : ℕ) (change : Change) (pairs : List SeatedCommand) (seat : ℕ) (command : Command)
     : Type 0 where
   pub of_command : change.command ≡ Some command
+  pub outcome : IfSome change.outcome (λ machine. machine ≡ replay size (pairs ++ pair seat command ∷ []))
   pub count : change.count ≡ length change.front.log
   pub bound : change.count ≤ most_entries
   pub list : change.front.log ≡ pairs ++ pair seat command ∷ []
   pub of_book : change.front.book ≡ book
   pub storage : length (replay size (pairs ++ pair seat command ∷ [])).storage ≡ size
+
+-- a change leads to its outcome, whether that is copied or the command is carried out
+leads_to : (s last : State) (command : Option Command) (outcome : Option State)
+    → ran s command ≡ last → IfSome outcome (λ machine. machine ≡ last) → machine_after s command outcome ≡ last
+leads_to s last command None is same = is
+leads_to s last command (Some outcome) is same =
+    elim (length outcome.storage == length s.storage) as (λ fits. (if fits then outcome else ran s command) ≡ last)
+    [ true ↦ same | false ↦ is ]
 
 -- after the pending changes it leads to the replay of one command more
 next_publishes : (book : Book) (size : ℕ) (shown : Shown) (change : Change) (pending : List Change) (pairs : List SeatedCommand)
@@ -41,11 +52,13 @@ next_publishes book size shown change pending pairs seat command was next =
     let after : Shown = changed before change in
     let more : List SeatedCommand = pairs ++ pair seat command ∷ [] in
     let last : fold changed shown (pending ++ change ∷ []) ≡ after = fold-append changed shown pending (change ∷ []) in
-    let machine : machine_after before.machine change.command ≡ replay size more =
-    ap (λ (one : Option Command). machine_after before.machine one) next.of_command
+    let carried : ran before.machine change.command ≡ replay size more =
+    ap (λ (one : Option Command). ran before.machine one) next.of_command
     ∙ ap (λ (s : State). (carry_out s command).state)
     (was.follows.0.machine ∙ ap (λ (list : List SeatedCommand). replay size list) was.list)
     ∙ sym (state_after-append (power_on size) pairs (pair seat command)) in
+    let machine : machine_after before.machine change.command change.outcome ≡ replay size more =
+    leads_to before.machine (replay size more) change.command change.outcome carried next.outcome in
     let is_replay : IsReplay book size after = record {
       of_book = next.of_book;
       machine = machine ∙ ap (λ (list : List SeatedCommand). replay size list) (sym next.list);
@@ -97,3 +110,13 @@ storage_of size of_room machine pairs more is len same list =
     ∙ ap (λ (s : State). length s.storage) (sym is)
     ∙ len
     ∙ same
+
+-- the outcome of a command carried out ahead of a room is the replay of one command more
+pub led_by : (size of_room : ℕ) (journal : List Entry) (next : SeatedCommand) (outcome : Option State)
+    → of_room ≡ size → IfSome outcome (λ machine. machine ≡ state_ahead of_room journal next.command)
+    → IfSome outcome (λ machine. machine ≡ replay size (pairs_of journal ++ next ∷ []))
+led_by size of_room journal next None same is = is
+led_by size of_room journal next (Some machine) same is =
+    is
+    ∙ sym (state_after-append (power_on of_room) (pairs_of journal) next)
+    ∙ ap (λ n. replay n (pairs_of journal ++ next ∷ [])) same

@@ -1,5 +1,5 @@
 -- What is published to the readers of a shared room, and the rule that each step keeps (own).
-use Rattle.std.specs.Prelude.{◌≡◌, ◌≤◌, ℕ, List, length, fold, Option, Some, None}
+use Rattle.std.specs.Prelude.{◌≡◌, ◌==◌, ◌≤◌, ℕ, List, length, fold, Option, Some, None, if◌then◌else◌}
 use Rattle.cpu_1401.specs.State.{State}
 use mathlib.Core.List.{IsPrefix}
 use mathlib.Core.Option.{some}
@@ -14,14 +14,20 @@ use Rattle.room_alone.specs.Journal.{most_entries}
 use Rattle.room_alone.specs.Replay.{replay}
 
 -- the machine after a command, if there is one
-abbrev pub machine_after : State → Option Command → State
-machine_after s None = s
-machine_after s (Some command) = (carry_out s command).state
+abbrev pub ran : State → Option Command → State
+ran s None = s
+ran s (Some command) = (carry_out s command).state
+
+-- the machine after a change: its outcome, if it has one of a machine of this size
+abbrev pub machine_after : State → Option Command → Option State → State
+machine_after s command None = ran s command
+machine_after s command (Some outcome) =
+    if length outcome.storage == length s.storage then outcome else ran s command
 
 -- what is shown after a change
 abbrev pub changed : Shown → Change → Shown
 changed shown change = record {
-  machine = machine_after shown.machine change.command;
+  machine = machine_after shown.machine change.command change.outcome;
   count = change.count;
   front = change.front;
 }

@@ -17,12 +17,14 @@ pub mod fault;
 pub mod history;
 pub mod naming;
 
-// what readers are shown, the rule that each step keeps, and the writer
+// a machine on the heap, what readers are shown, the rule that each step keeps, and the writer
+mod heap_machine;
 mod published;
 mod publisher;
 mod rule;
 
-// the room with what follows its journal
+// the room with what follows its journal, and a machine for long runs
+mod ahead;
 mod recording;
 
 // what a seat has and sees, what the lock keeps, and how a room is opened, shared and closed

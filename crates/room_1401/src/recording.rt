@@ -1,17 +1,20 @@
 //! A room with all that follows its journal: the history of its commands, what is published, and what is kept.
 ghost use Rattle.std.specs.Prelude.{◌≡◌, ◌+◌, ◌<◌, ◌≤◌, ◌↔◌, [], ◌∷◌, ◌++◌, true, false, length, drop, Some};
-ghost use Rattle.std.specs.Prelude.{IfOk, IfErr, OnOk, OnErr};
+ghost use Rattle.std.specs.Prelude.{IfOk, IfErr, IfSome, OnOk, OnErr};
 ghost use Rattle.std.specs.Io.KnownBytes.{Appends};
 ghost use Rattle.room_alone.specs.Journal.{IsLegal, answer_to, entry, is_full, most_entries, pairs_of, refusal_of};
 ghost use Rattle.room_alone.specs.Kept.{IsKeptAs, kept_text};
+ghost use Rattle.room_1401.specs.Ahead.{IsAhead};
 ghost use Rattle.room_1401.specs.Keeping.{AreShown, shown_in};
 ghost use Rattle.room_1401.specs.Rule.{Publishes};
 
+use crate::ahead::{Ahead, Spare};
+use crate::heap_machine::HeapMachine;
 use crate::history::{Head, SeenPrefix};
 use crate::naming::RoomId;
 use crate::published::Change;
 use crate::publisher::Publisher;
-use machine_execution::Command;
+use machine_execution::{Answer, Command};
 use room_alone::{Carried, Entry, Keeper, Room, RoomFault, SeatedCommand};
 use std::marker::Model;
 use std::sync::Wait;
@@ -27,6 +30,7 @@ pub struct Recorder<J: RoomId, R: Wait + Drop, K: Keeper + Drop> {
     front: SeenPrefix<J>,
     publisher: Publisher<J, R>,
     keeper: K,
+    spare: Spare,
 }
 
 impl<J: RoomId, R: Wait + Drop, K: Keeper + Drop> Model for Recorder<J, R, K> {
@@ -60,6 +64,7 @@ impl<J: RoomId, R: Wait + Drop, K: Keeper + Drop> Recorder<J, R, K> {
         front: SeenPrefix<J>,
         publisher: Publisher<J, R>,
         keeper: K,
+        spare: Spare,
     ) -> Recorder<J, R, K>
         requires room { (room.size ≡ J.size) × (room.journal ≡ []) }
         requires front { front ≡ [] }
@@ -77,6 +82,7 @@ impl<J: RoomId, R: Wait + Drop, K: Keeper + Drop> Recorder<J, R, K> {
             front,
             publisher,
             keeper,
+            spare,
         }
     }
 
@@ -118,6 +124,7 @@ impl<J: RoomId, R: Wait + Drop, K: Keeper + Drop> Recorder<J, R, K> {
             &mut self.room,
             &mut self.publisher,
             &mut self.keeper,
+            &mut self.spare,
             &front,
             &next,
         )?;
@@ -142,6 +149,7 @@ impl<J: RoomId, R: Wait + Drop, K: Keeper + Drop> Recorder<J, R, K> {
             front: _front,
             publisher: _publisher,
             keeper,
+            spare: _spare,
         } = self;
         let _journal = room.journal();
         (room, keeper)
@@ -175,11 +183,12 @@ fn reserve<J: RoomId>(
 }
 
 /// Carries the command out that leads to this front, records it with its answer, keeps the entry, and leaves the change
-/// to be shown. If it is refused, the machine has not moved.
+/// to be shown. If it is refused, the room's machine has not moved: a long run moves another one.
 fn record<J: RoomId, R: Wait + Drop, K: Keeper>(
     room: &mut Room,
     publisher: &mut Publisher<J, R>,
     keeper: &mut K,
+    spare: &mut Spare,
     front: &SeenPrefix<J>,
     next: &SeatedCommand,
 ) -> Result<Carried, RoomFault>
@@ -208,10 +217,11 @@ fn record<J: RoomId, R: Wait + Drop, K: Keeper>(
     ensures err { OnErr result ((room.new.journal ≡ room.old.journal) × (keeper.new ≡ keeper.old)) }
     ensures memory { OnErr result (result ≡ Err RoomFault.Memory) }
 {
-    let Ok(()) = publisher.append(change_to(&next.command, front)) else {
+    let (ahead, outcome) = spare.run_ahead(room, &next.command);
+    let Ok(()) = publisher.append(change_to(&next.command, outcome, front)) else {
         return Err(RoomFault::Memory);
     };
-    let carried = carry_kept(room, keeper, front.len(), next);
+    let carried = carry_kept(room, keeper, spare, front.len(), next, ahead);
     let _replayed = room.machine();
     Ok(carried)
 }
@@ -220,11 +230,15 @@ fn record<J: RoomId, R: Wait + Drop, K: Keeper>(
 fn carry_kept<K: Keeper>(
     room: &mut Room,
     keeper: &mut K,
+    spare: &mut Spare,
     number: u64,
     next: &SeatedCommand,
+    ahead: Option<Ahead>,
 ) -> Carried
     requires spare { 0 < room.old.spare }
     requires not_full { is_full room.old.journal ≡ false }
+    requires ahead { IfSome ahead (λ ahead.
+        IsAhead room.old.size room.old.journal next.now.command ahead.machine ahead.answer) }
     requires number { number ≡ length room.old.journal + 1 }
     requires good { K.has_failed keeper.old ≡ false }
     requires kept { Appends K.first (K.kept keeper.old) (kept_text K.form room.old.size room.old.journal) }
@@ -238,17 +252,46 @@ fn carry_kept<K: Keeper>(
     ensures kept { result.kept ≡ true → K.has_failed keeper.new ≡ false }
     ensures unkept { result.kept ≡ false → K.has_failed keeper.new ≡ true }
 {
-    let Ok(answer) = room.carry(next.seat, next.command) else {
-        unreachable!();
-    };
+    let answer = move_on(room, spare, next, ahead);
     let entry = Entry::new(next.seat, &next.command, &answer);
     let kept = keeper.keep(number, &entry).is_ok();
     Carried { answer, kept }
 }
 
+/// Carries a command out on the room's machine, or takes over the one on which it was carried out ahead, and records it
+/// with its answer.
+fn move_on(room: &mut Room, spare: &mut Spare, next: &SeatedCommand, ahead: Option<Ahead>) -> Answer
+    requires spare { 0 < room.old.spare }
+    requires not_full { is_full room.old.journal ≡ false }
+    requires ahead { IfSome ahead (λ ahead.
+        IsAhead room.old.size room.old.journal next.now.command ahead.machine ahead.answer) }
+    ensures answer { result ≡ answer_to room.old.size room.old.journal next.now.command }
+    ensures recorded { room.new.journal ≡ room.old.journal ++ entry next.now.seat next.now.command result ∷ [] }
+    ensures size { room.new.size ≡ room.old.size }
+{
+    let Some(ahead) = ahead else {
+        let Ok(answer) = room.carry(next.seat, next.command) else {
+            unreachable!();
+        };
+        return answer;
+    };
+    let Ahead {
+        mut machine,
+        answer,
+    } = ahead;
+    machine.hand_over(room, next, &answer);
+    spare.put(machine);
+    answer
+}
+
 /// The change by a command that leads to the commands of this front.
-fn change_to<J: RoomId>(command: &Command, front: &SeenPrefix<J>) -> Change
+fn change_to<J: RoomId>(
+    command: &Command,
+    outcome: Option<HeapMachine>,
+    front: &SeenPrefix<J>,
+) -> Change
     ensures command { result.command ≡ Some command.now }
+    ensures outcome { result.outcome ≡ outcome }
     ensures count { result.count ≡ length front.now }
     ensures bound { result.count ≤ most_entries }
     ensures list { result.front.log ≡ front.now }
@@ -256,6 +299,7 @@ fn change_to<J: RoomId>(command: &Command, front: &SeenPrefix<J>) -> Change
 {
     Change {
         command: Some(*command),
+        outcome,
         count: front.len(),
         front: front.token(),
     }

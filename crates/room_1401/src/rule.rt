@@ -6,7 +6,6 @@ use crossbeam_utils::rule::{Outcome, Protocol};
 use left_right::Absorb;
 use left_right::reader::Reader;
 use left_right::writer::Writer;
-use machine_execution::carry_out;
 use room_alone::SeatedCommand;
 use std::alloc::AllocError;
 use std::collections::LinkedList;
@@ -24,9 +23,7 @@ impl Absorb<Change> for Shown {
     ghost never_fails = { Unit {0} };
 
     fn absorb_first(&mut self, operation: &Change, _other: &Shown) -> Result<(), AllocError> {
-        if let Some(command) = operation.command {
-            carry_out(&mut self.machine, &command);
-        }
+        operation.lead(&mut self.machine);
         self.count = operation.count;
         self.front = operation.front.again();
         Ok(())

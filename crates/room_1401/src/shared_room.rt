@@ -13,6 +13,7 @@ ghost use Rattle.room_1401.specs.Keeping.{HasFailed, HasKept, IsBeyond, SeesMore
 ghost use Rattle.room_1401.specs.Rule.{Publishes};
 ghost use Rattle.room_1401.specs.Seen.{Carries, most_seats, newcomers, own};
 
+use crate::ahead::Spare;
 use crate::closing::count_back;
 use crate::fault::{CloseFault, StartFault};
 use crate::history::{Opened, Reached, SeenPrefix};
@@ -157,7 +158,8 @@ impl<J: RoomId, R: Wait + Drop, K: Keeper + Drop> SharedRoom<J, R, K> {
         let room = open_room(alloc, size, seats)?;
         let (head, front, total, mut whole) = opened.named::<J>();
         let (publisher, made) = open_seats(rt, alloc, &front, &mut whole, size, seats)?;
-        let recorder = Recorder::new(room, head, front, publisher, keeper);
+        let spare = Spare::new(alloc);
+        let recorder = Recorder::new(room, head, front, publisher, keeper, spare);
         let locked = LockedRoom::new(recorder, total, whole, seats);
         let locked = Mutex::new(locked);
         Ok((SharedRoom { locked }, made))
@@ -349,6 +351,7 @@ fn open_publisher<J: RoomId, R: Wait + Drop>(
     };
     let change = Change {
         command: None,
+        outcome: None,
         count: 0,
         front: token,
     };

@@ -295,6 +295,102 @@ fn a_full_journal_is_seen_by_both_seats(rt: HostRuntime) {
     operators::<Brand, _>(&rt, 1_400, 2, Opened::new(2), true, false, 100_000);
 }
 
+/// Deposits characters from an address on, the first of them with a word mark.
+fn put<J: RoomId, R: Wait + Abort>(
+    rt: &R,
+    room: &SharedRoom<J, &R>,
+    seat: &mut Seat<J>,
+    address: u16,
+    graphics: &[u8],
+) {
+    let mut cells = [Cell::BLANK; 7];
+    for (i, graphic) in graphics.iter().enumerate().take(7) {
+        let char = Char::from_graphic(*graphic).expect(rt, "a graphic");
+        cells[i] = Cell { char, mark: i == 0 };
+    }
+    let cells = Cells::from_slice(&cells[..graphics.len().min(7)]).expect(rt, "cells");
+    let command = Command::Deposit { address, cells };
+    expect_answer(rt, room, seat, command, Ok(Answer::Done));
+}
+
+/// Runs so many instructions.
+fn run<J: RoomId, R: Wait + Abort>(
+    rt: &R,
+    room: &SharedRoom<J, &R>,
+    seat: &mut Seat<J>,
+    limit: u32,
+) {
+    let answer = room.command(rt, seat, Command::Run { limit });
+    let steps = match answer {
+        Ok(Answer::Ran { steps, .. }) => steps,
+        _ => 0,
+    };
+    expect_same(rt, &answer, &steps, &limit);
+}
+
+/// Puts a program at 500 that adds 1 to the four digits at 607 in each second instruction, without an end.
+fn put_counter<J: RoomId, R: Wait + Abort>(rt: &R, room: &SharedRoom<J, &R>, seat: &mut Seat<J>) {
+    put(rt, room, seat, 500, b"A600610");
+    put(rt, room, seat, 507, b"B500");
+    put(rt, room, seat, 511, b".");
+    put(rt, room, seat, 600, b"1");
+    put(rt, room, seat, 607, b"0000");
+    let command = Command::SetI { address: 500 };
+    expect_answer(rt, room, seat, command, Ok(Answer::Done));
+}
+
+/// Compares the four digits that a seat's glances show.
+fn expect_counter<J: RoomId>(rt: &impl Abort, seat: &mut Seat<J>, after: u64, digits: &[u8; 4]) {
+    for (address, digit) in (607..).zip(digits) {
+        expect_shown(rt, seat, address, Ok((after, *digit)));
+    }
+}
+
+/// Seat 1 makes a long run, and seat 2 glances and gives a short command; then each makes a long run, and then seat 2 a
+/// short one. Both machines that are shown have what each run did.
+fn run_and_look<J: RoomId, R: Wait + Abort>(
+    rt: &R,
+    room: &SharedRoom<J, &R>,
+    one: &mut Seat<J>,
+    two: &mut Seat<J>,
+) {
+    put_counter(rt, room, one);
+    run(rt, room, one, 10_000);
+    two.learn(room.tell(rt, one).expect(rt, "a note"));
+    expect_counter(rt, two, 7, b"5000");
+    deposit_k(rt, room, two);
+    expect_shown(rt, two, 500, Ok((8, b'K')));
+    expect_counter(rt, two, 8, b"5000");
+    put(rt, room, two, 500, b"A");
+    run(rt, room, one, 4_096);
+    run(rt, room, two, 4_096);
+    expect_counter(rt, two, 11, b"9096");
+    run(rt, room, two, 4);
+    expect_counter(rt, two, 12, b"9098");
+}
+
+/// What two operators run at a room. A fresh room gives each answer again.
+fn runners<J: RoomId, R: Wait + Abort + AllocGlobal>(rt: &R, opened: Opened)
+    requires history { opened.book ≡ J.book }
+    requires ledger { (opened.ledger ≡ J.name) × (opened.parts ≡ J.parts) × (J.parts ≡ J.seats) }
+    requires named { (4000 ≡ J.size) × (2 ≡ J.seats) }
+{
+    let started = SharedRoom::<J, &R>::power_on(rt, rt.alloc(), 4_000, 2, opened);
+    let (room, mut seats) = started.expect(rt, "a room");
+    match seats.as_mut_slice() {
+        [one, two] => run_and_look(rt, &room, one, two),
+        _ => panic!(rt; "not two seats"),
+    }
+    let wanted = CloseFault::Unreturned { back: 1, total: 2 };
+    let room = closed(rt, room, seats, wanted);
+    expect_answers(rt, new_room(rt, 4_000), room.journal());
+}
+
+#[test]
+fn long_runs_are_shown_to_both_seats(rt: HostRuntime) {
+    runners::<Brand, _>(&rt, Opened::new(2));
+}
+
 /// The k-th command of an operator: deposits, starts, runs and questions in turn.
 fn nth_command(rt: &impl Abort, seat: u8, k: u16) -> Command {
     let address = 500 + k % 40;

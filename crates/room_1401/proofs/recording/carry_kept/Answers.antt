@@ -14,16 +14,16 @@ returns-clause-text g c =
     let kept = g.K.Keeper.kept c.args.keeper.now in
     let keeps = g.K.Keeper.kept c.keep.new.self in
     let failed = g.K.Keeper.has_failed c.keep.new.self in
-    let now : List Entry = c.carry.new.self.journal in
+    let now : List Entry = c.move_on-answer.new.room.journal in
     let last : Entry = c.new-entry.result in
     let journal : now ≡ room.journal ++ last ∷ [] =
-    c.in-Ok.ensures.recorded ∙ ap (λ (e : Entry). room.journal ++ e ∷ []) (sym c.new-entry.ensures) in
+    c.move_on-answer.ensures.recorded ∙ ap (λ (e : Entry). room.journal ++ e ∷ []) (sym c.new-entry.ensures) in
     let more : OneMore form room.size c.args.number room.journal now last first kept = record {
       before = c.requires.kept;
       journal_is = journal;
       number_is = omega (arith, c.requires.number, ap length journal, length-append room.journal (last ∷ []));
     } in
-    subst (λ n. IsKeptAs form n now failed first keeps) (sym c.in-Ok.ensures.size)
+    subst (λ n. IsKeptAs form n now failed first keeps) (sym c.move_on-answer.ensures.size)
     (kept_or_broken form room.size c.args.number room.journal now last first kept keeps failed c.keep.result more
     c.keep.ensures.line c.keep.ensures.part c.keep.ensures.good c.keep.ensures.failed)
 

@@ -1,10 +1,13 @@
 -- Once it is shown, the change leads to the replay of one command more.
 use Rattle.std.proofs.Common.{◌≡◌, ap, sym, ◌∙◌, subst, arith, List, [], ◌∷◌, ◌++◌, length, drop, length-append}
+use Rattle.std.specs.Prelude.{IfSome, Option}
+use Rattle.cpu_1401.specs.State.{State}
 use Rattle.room_alone.specs.Journal.{pairs_of}
+use Rattle.room_alone.specs.Replay.{replay}
 use Rattle.room_alone.specs.declared.entry.SeatedCommand.{SeatedCommand}
 use Rattle.room_1401.specs.Rule.{Publishes}
 use Rattle.room_1401.specs.declared.published.Change.{Change}
-use Rattle.room_1401.proofs.PublishLemmas.{IsNext, follows, storage_of}
+use Rattle.room_1401.proofs.PublishLemmas.{IsNext, follows, led_by, storage_of}
 use Rattle.room_alone.proofs.ReplayLemmas.{length-pairs_of, pairs_of-append}
 use Rattle.room_1401.proofs.recording.record.Goals as goal
 
@@ -45,6 +48,10 @@ returns-clause-published g c =
     let size = g.J.RoomId.size in
     let is_next : IsNext book size change pairs next.seat next.command = record {
       of_command = c.change_to.ensures.command;
+      outcome = subst (λ (outcome : Option State). IfSome outcome (λ machine. machine ≡ replay size more))
+          (sym c.change_to.ensures.outcome)
+          (led_by size c.args.room.now.size c.args.room.now.journal next c.run_ahead-ahead.result.1 c.requires.size
+          c.run_ahead-ahead.ensures.outcome);
       count = c.change_to.ensures.count ∙ ap length (sym c.change_to.ensures.list);
       bound = c.change_to.ensures.bound;
       list = c.change_to.ensures.list ∙ c.requires.front;
