@@ -1,2 +1,4 @@
 pub mod SearchLemmas
 pub mod LimitLemmas
+pub mod RunOfFoundLemmas
+pub mod PairedLemmas
