@@ -1,5 +1,6 @@
-pub mod SearchLemmas
 pub mod LimitLemmas
-pub mod RunOfFoundLemmas
 pub mod PairedLemmas
 pub mod PlaceWatchLemmas
+pub mod RunOfFoundLemmas
+mod SearchExamples
+pub mod SearchLemmas

@@ -24,6 +24,9 @@ pub mod place_watch;
 pub mod paired;
 pub mod replayed;
 
+#[cfg(test)]
+mod tests;
+
 pub use breaks::{Always, Break, Condition};
 pub use device_watch::{Device, DeviceWatch};
 pub use full_devices::{FullDevices, wants_hands};
