@@ -6,7 +6,7 @@ ghost use Rattle.operate_scout.specs.Breaks.{arrives, is_met_after, passes_after
 use crate::search::Test;
 use cpu_1401::Machine;
 
-/// What may be asked of the machine beside the place or the device that a test is about.
+/// What may be asked of the machine, besides the place or the device that a test is about.
 pub trait Condition {
     // Whether it holds of this machine.
     ghost is_so: { Self → State → Bool };
@@ -34,7 +34,7 @@ impl Condition for Always {
 /// if as many such steps as are to be passed have gone by. The address at which a search begins doesn't count.
 #[derive(Clone, Copy, Debug, PartialEq, Eq)]
 pub struct Break<C: Condition> {
-    /// The address of the instruction. A break at one that isn't in core is never met.
+    /// The address of the instruction. If it isn't in core, the break is never met.
     pub address: u16,
     /// What must hold of the machine there.
     pub condition: C,

@@ -24,9 +24,6 @@ pub mod place_watch;
 pub mod paired;
 pub mod replayed;
 
-#[cfg(test)]
-mod tests;
-
 pub use breaks::{Always, Break, Condition};
 pub use device_watch::{Device, DeviceWatch};
 pub use full_devices::{FullDevices, wants_hands};
@@ -35,3 +32,6 @@ pub use paired::{Paired, RunEnd};
 pub use place_watch::PlaceWatch;
 pub use replayed::scout_of;
 pub use search::{Found, MOST_STEPS, SearchEnd, Test, run_limit, seek};
+
+#[cfg(test)]
+mod tests;

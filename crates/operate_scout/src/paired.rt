@@ -12,8 +12,8 @@ use machine_execution::{Command, carry_out};
 use room_alone::{Carried, Keeper, KeptRoom, OWN_SEAT, RoomFault};
 use std::marker::Model;
 
-/// A room that is kept and its scout, a twin of the room's machine. Contracts see the room; between calls the scout is
-/// the machine that the room's journal explains.
+/// A room with its keeper, and its scout, a twin of the room's machine. Contracts see the room; between calls the scout
+/// is the machine that the room's journal explains.
 #[derive(Drop)]
 pub struct Paired<K: Keeper + Drop> {
     room: KeptRoom<K>,
@@ -32,12 +32,12 @@ impl<K: Keeper + Drop> Model for Paired<K> {
     ghost invariant = { λ it. it.scout ≡ state_of it.room.room.size it.room.room.journal };
 }
 
-/// How a run ended, and whether its entry is kept. If it isn't, nothing of the run may be shown.
+/// How a run ended, and whether the keeper has its entry. If not, nothing of the run may be shown.
 #[derive(Clone, Copy, Debug, PartialEq, Eq)]
 pub struct RunEnd {
     /// How far the machine went, and why no further.
     pub found: Found,
-    /// Whether the entry is kept.
+    /// Whether the keeper has the entry.
     pub kept: bool,
 }
 
@@ -83,7 +83,7 @@ impl<K: Keeper + Drop> Paired<K> {
             self.new.room.journal ≡ self.old.room.journal ++ entry 0 command carried.answer ∷ []) }
         ensures size { self.new.room.size ≡ self.old.room.size }
 
-        // If the answer may go out, the whole journal is kept; if it may not, no later command is taken.
+        // If the answer may go out, the keeper has the whole journal; if it may not, no later command is taken.
         ensures kept { IfOk result (λ carried. carried.kept ≡ true → self.new.failed ≡ false) }
         ensures unkept { IfOk result (λ carried. carried.kept ≡ false → self.new.failed ≡ true) }
 
@@ -106,8 +106,8 @@ impl<K: Keeper + Drop> Paired<K> {
         Ok(carried)
     }
 
-    /// Lets the scout go until an instruction meets the test or stops it, or until this many were carried out, from 1 to
-    /// 1,000,000, and has the room do the same by one `Run`, which it records and keeps.
+    /// Lets the scout go until an instruction meets the test or stops it, or until this many were carried out, 1 to
+    /// 1,000,000. Then the room does the same by one `Run`, which it records and keeps.
     ///
     /// # Errors
     ///
@@ -125,8 +125,9 @@ impl<K: Keeper + Drop> Paired<K> {
             }) }
 
         // One command is recorded, with the steps and the stop that were found.
-        ensures recorded { IfOk result (λ end. self.new.room.journal ≡ self.old.room.journal
-            ++ entry 0 (run_of end.found) (answer_of end.found (state_of self.new.room.size self.new.room.journal)) ∷ []) }
+        ensures recorded { IfOk result (λ end. let machine = state_of self.new.room.size self.new.room.journal in
+            self.new.room.journal
+            ≡ self.old.room.journal ++ entry 0 (run_of end.found) (answer_of end.found machine) ∷ []) }
         ensures size { self.new.room.size ≡ self.old.room.size }
 
         // No step before the last one meets the test.

@@ -11,8 +11,8 @@ use std::alloc::{AllocError, Global};
 use std::marker::Model;
 use std::mem::swap;
 
-/// A watch on a place and some above it: it is met by a step that changes a character or a word mark there. A place that
-/// isn't in core doesn't change.
+/// A watch on a place and some above it: it is met by a step that changes a character or a word mark there. A place
+/// that isn't in core doesn't change.
 #[derive(Drop)]
 pub struct PlaceWatch {
     from: u16,

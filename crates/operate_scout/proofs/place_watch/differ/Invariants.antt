@@ -1,4 +1,4 @@
--- The places so far are as they were, so that the others tell.
+-- The places so far are as they were; so the others decide.
 use Rattle.std.proofs.Common.{◌≡◌, ◌+◌, drop}
 use Rattle.operate_scout.specs.PlaceWatch.{differs}
 use Rattle.operate_scout.proofs.place_watch.differ.Given as goal

@@ -10,8 +10,8 @@ pub loop-left-init : goal.loop-left-init
 loop-left-init g c =
     let none : 0 ≡ c.args.most - c.args.most = omega arith in
     record {
-      search = subst (λ n. SoFar g.row.T.Denot g.T.Test.seen g.T.Test.is_met c.args.most c.args.test.now c.args.scout.now
-          c.args.test.now c.args.scout.now n) none
+      search = subst (λ n. SoFar g.row.T.Denot g.T.Test.seen g.T.Test.is_met c.args.most c.args.test.now
+          c.args.scout.now c.args.test.now c.args.scout.now n) none
           (nothing_yet g.row.T.Denot g.T.Test.seen g.T.Test.is_met c.args.most c.args.test.now c.args.scout.now);
       size = omega arith;
       most = omega arith;
@@ -23,8 +23,8 @@ loop-left-preserved g c =
     let before : c.args.most - c.loop-left.left < c.args.most = omega arith in
     let one_more : c.args.most - c.loop-left.left + 1 ≡ c.args.most - (c.loop-left.left - 1) = omega arith in
     record {
-      search = subst (λ n. SoFar g.row.T.Denot g.T.Test.seen g.T.Test.is_met c.args.most c.args.test.now c.args.scout.now
-          c.see.new.self c.step.new.self n) one_more
+      search = subst (λ n. SoFar g.row.T.Denot g.T.Test.seen g.T.Test.is_met c.args.most c.args.test.now
+          c.args.scout.now c.see.new.self c.step.new.self n) one_more
           (goes_on g.row.T.Denot g.T.Test.seen g.T.Test.is_met c.args.most (c.args.most - c.loop-left.left)
           c.args.test.now c.args.scout.now c.loop-left.test c.see.new.self c.loop-left.scout c.step.new.self before
           c.loop-left.invariant.search (sym c.step.ensures.stop ∙ c.in_default.is) c.step.ensures.state
@@ -38,8 +38,8 @@ returns-in-Some-clause-search g c =
     let most = c.loop-left.invariant.most in
     let before : c.args.most - c.loop-left.left < c.args.most = omega arith in
     stops g.row.T.Denot g.T.Test.seen g.T.Test.is_met c.args.most (c.args.most - c.loop-left.left)
-    c.args.test.now c.args.scout.now c.loop-left.test c.stopped.new.test c.loop-left.scout c.step.new.self c.in-Some.stop
-    before c.loop-left.invariant.search (sym c.step.ensures.stop ∙ c.in-Some.is) c.step.ensures.state
+    c.args.test.now c.args.scout.now c.loop-left.test c.stopped.new.test c.loop-left.scout c.step.new.self
+    c.in-Some.stop before c.loop-left.invariant.search (sym c.step.ensures.stop ∙ c.in-Some.is) c.step.ensures.state
     c.stopped.ensures.memory
     ∙ ap (λ (f : Found). let done : Searched g.row.T.Denot = record {
       state = c.step.new.self;

@@ -5,8 +5,8 @@ use Rattle.operate_scout.proofs.search.advance.Given as goal
 
 abbrev pub invariant-loop-left : goal.invariant-loop-left
 invariant-loop-left g l = record {
-  search : SoFar g.row.T.Denot g.T.Test.seen g.T.Test.is_met l.initial.most l.initial.test l.initial.scout l.test l.scout
-      (l.initial.most - l.left);
+  search : SoFar g.row.T.Denot g.T.Test.seen g.T.Test.is_met l.initial.most l.initial.test l.initial.scout l.test
+      l.scout (l.initial.most - l.left);
   size : length l.scout.storage ≡ length l.initial.scout.storage;
   most : l.left ≤ l.initial.most;
 }
