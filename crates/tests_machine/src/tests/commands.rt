@@ -65,6 +65,18 @@ fn the_hopper_takes_five_hundred_cards(rt: HostRuntime) {
     expect_hopper(&rt, &machine, 500);
 }
 
+#[test]
+fn a_copy_is_a_machine_of_its_own(rt: HostRuntime) {
+    let mut machine = machine_of(&rt, rt.alloc(), 1_400);
+    expect_fed(&rt, &mut machine, Answer::Done);
+    let mut copy = machine.copy(rt.alloc()).expect(&rt, "a copy");
+    machine.switch(1, true);
+    expect_hopper(&rt, &copy, 1);
+    expect_same_at(&rt, copy.regs().switches[1], false, "a copy");
+    copy.copy_from(&machine);
+    expect_same_at(&rt, copy.regs(), machine.regs(), "copied again");
+}
+
 /// Compares what is written of a refusal.
 fn expect_refusal_text(rt: &impl Abort, alloc: Global, refusal: Refusal, text: &str) {
     expect_text(rt, alloc, &refusal, text);

@@ -14,10 +14,15 @@ use std::sync::{Mutex, Wait};
 use std::thread;
 use std::thread::Threads;
 
+/// The cell with this graphic.
+fn cell_of(rt: &impl Abort, graphic: u8, mark: bool) -> Cell {
+    let char = Char::from_graphic(graphic).expect(rt, "a graphic");
+    Cell { char, mark }
+}
+
 /// One character, with a word mark.
 fn marked(rt: &impl Abort, graphic: u8) -> Cells {
-    let char = Char::from_graphic(graphic).expect(rt, "a graphic");
-    Cells::from_slice(&[Cell { char, mark: true }]).expect(rt, "cells")
+    Cells::from_slice(&[cell_of(rt, graphic, true)]).expect(rt, "cells")
 }
 
 /// What a seat's glance shows: after how many commands, and the graphic that stands there.
@@ -295,7 +300,7 @@ fn a_full_journal_is_seen_by_both_seats(rt: HostRuntime) {
     operators::<Brand, _>(&rt, 1_400, 2, Opened::new(2), true, false, 100_000);
 }
 
-/// Deposits characters from an address on, the first of them with a word mark.
+/// Deposits up to seven characters from an address on, the first of them with a word mark.
 fn put<J: RoomId, R: Wait + Abort>(
     rt: &R,
     room: &SharedRoom<J, &R>,
@@ -304,9 +309,10 @@ fn put<J: RoomId, R: Wait + Abort>(
     graphics: &[u8],
 ) {
     let mut cells = [Cell::BLANK; 7];
-    for (i, graphic) in graphics.iter().enumerate().take(7) {
-        let char = Char::from_graphic(*graphic).expect(rt, "a graphic");
-        cells[i] = Cell { char, mark: i == 0 };
+    for i in 0..7 {
+        if i < graphics.len() {
+            cells[i] = cell_of(rt, graphics[i], i == 0);
+        }
     }
     let cells = Cells::from_slice(&cells[..graphics.len().min(7)]).expect(rt, "cells");
     let command = Command::Deposit { address, cells };
@@ -341,8 +347,9 @@ fn put_counter<J: RoomId, R: Wait + Abort>(rt: &R, room: &SharedRoom<J, &R>, sea
 
 /// Compares the four digits that a seat's glances show.
 fn expect_counter<J: RoomId>(rt: &impl Abort, seat: &mut Seat<J>, after: u64, digits: &[u8; 4]) {
-    for (address, digit) in (607..).zip(digits) {
-        expect_shown(rt, seat, address, Ok((after, *digit)));
+    for i in 0..4_u16 {
+        let wanted = Ok((after, digits[usize::from(i)]));
+        expect_shown(rt, seat, 607 + i, wanted);
     }
 }
 
@@ -369,6 +376,14 @@ fn run_and_look<J: RoomId, R: Wait + Abort>(
     expect_counter(rt, two, 12, b"9098");
 }
 
+/// What two operators run at these seats.
+fn use_both<J: RoomId, R: Wait + Abort>(rt: &R, room: &SharedRoom<J, &R>, seats: &mut [Seat<J>]) {
+    match seats {
+        [one, two] => run_and_look(rt, room, one, two),
+        _ => panic!(rt; "not two seats"),
+    }
+}
+
 /// What two operators run at a room. A fresh room gives each answer again.
 fn runners<J: RoomId, R: Wait + Abort + AllocGlobal>(rt: &R, opened: Opened)
     requires history { opened.book ≡ J.book }
@@ -377,10 +392,7 @@ fn runners<J: RoomId, R: Wait + Abort + AllocGlobal>(rt: &R, opened: Opened)
 {
     let started = SharedRoom::<J, &R>::power_on(rt, rt.alloc(), 4_000, 2, opened);
     let (room, mut seats) = started.expect(rt, "a room");
-    match seats.as_mut_slice() {
-        [one, two] => run_and_look(rt, &room, one, two),
-        _ => panic!(rt; "not two seats"),
-    }
+    use_both(rt, &room, seats.as_mut_slice());
     let wanted = CloseFault::Unreturned { back: 1, total: 2 };
     let room = closed(rt, room, seats, wanted);
     expect_answers(rt, new_room(rt, 4_000), room.journal());
