@@ -1,3 +1,4 @@
+pub mod AnyOfLemmas
 pub mod LimitLemmas
 pub mod PairedLemmas
 pub mod PlaceWatchLemmas

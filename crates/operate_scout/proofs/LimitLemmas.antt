@@ -10,7 +10,7 @@ use Rattle.cpu_1401.specs.Step.{step}
 use Rattle.operate_scout.specs.declared.search.SearchEnd.{SearchEnd}
 use Rattle.operate_scout.specs.declared.search.SearchEnd.TheVariants as end
 use Rattle.operate_scout.specs.Search.{Searched, limit_by, limit_of, memory_after, met_at, one_more, search}
-use Rattle.operate_scout.specs.Search.{search_on, stopped_at}
+use Rattle.operate_scout.specs.Search.{search_on}
 
 -- a step carries out one instruction at most
 one_at_most : (why : Stop) → carried_out_by why ≤ 1

@@ -1,19 +1,19 @@
 -- A room that carries out the run of a search comes to the machine to which the search came, and answers with its steps
 -- and its stop.
-use Rattle.std.proofs.Common.{◌≡◌, ℕ, ◌+◌, ◌<◌, ◌≤◌, ◌&&◌, zero, suc, Bool, true, false, Option, None, Some}
-use Rattle.std.proofs.Common.{refl, sym, ◌∙◌, ap, arith}
+use Rattle.std.proofs.Common.{◌≡◌, ℕ, ◌<◌, ◌≤◌, ◌&&◌, zero, suc, Bool, true, false, Option, None, Some}
+use Rattle.std.proofs.Common.{refl, ◌∙◌, ap, arith}
 use Rattle.std.proofs.lemmas.Bool.{le-leb}
 use Rattle.std.specs.Prelude.{if◌then◌else◌, nat_le}
 use Rattle.machine_panel.specs.declared.stop.Stop.{Stop}
-use Rattle.cpu_1401.specs.Run.{Finished, carried_out_by, most_steps, run_for, run_on}
+use Rattle.cpu_1401.specs.Run.{Finished, most_steps, run_for, run_on}
 use Rattle.cpu_1401.specs.Run.{one_more as one_more_of_run}
 use Rattle.cpu_1401.specs.State.{State}
 use Rattle.cpu_1401.specs.Step.{step}
-use Rattle.machine_execution.specs.CarryOut.{Carried, carry_out, refuse, run_answer}
+use Rattle.machine_execution.specs.CarryOut.{carry_out, refuse, run_answer}
 use Rattle.machine_commands.specs.declared.answer.Refusal.TheVariants.{Limit}
 use Rattle.operate_scout.specs.RunOf.{answer_of, run_of, stop_of}
 use Rattle.operate_scout.specs.Search.{Searched, limit_of, met_at, one_more, search, search_on}
-use Rattle.operate_scout.proofs.LimitLemmas.{Ends, limit_is_one, limit_of_more, search_ends}
+use Rattle.operate_scout.proofs.LimitLemmas.{limit_is_one, limit_of_more, search_ends}
 
 -- the end of the run that does what a search did
 abbrev finished : {M : Type 0} → Searched M → Finished

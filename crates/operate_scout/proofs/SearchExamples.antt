@@ -1,12 +1,11 @@
 -- Searches on small machines, computed. The codes are 37 for N, 50 for B, 59 for the full stop, 10 for zero.
-use Rattle.std.proofs.Common.{◌≡◌, ℕ, ◌+◌, ◌==◌, Bool, true, false, [], ◌∷◌, refl}
+use Rattle.std.proofs.Common.{◌≡◌, ℕ, ◌+◌, ◌==◌, Bool, false, [], ◌∷◌, refl}
 use Rattle.bcd_1401.specs.Graphic.{graphics}
 use Rattle.core_1401.specs.Storage.{Storage}
 use Rattle.machine_panel.specs.declared.stop.Stop.TheVariants as stop
 use Rattle.cpu_1401.specs.State.{State}
 use Rattle.cpu_1401.specs.Step.{step}
 use Rattle.cpu_1401.proofs.ExampleCells.{plain, marked, with_program}
-use Rattle.operate_scout.specs.declared.search.Found.{Found}
 use Rattle.operate_scout.specs.declared.search.SearchEnd.TheVariants as end
 use Rattle.operate_scout.specs.Search.{limit_of, search}
 

@@ -14,6 +14,7 @@
 pub mod search;
 
 // what may be asked
+pub mod any_of;
 pub mod breaks;
 pub mod device_watch;
 pub mod full_devices;
@@ -24,6 +25,7 @@ pub mod place_watch;
 pub mod paired;
 pub mod replayed;
 
+pub use any_of::AnyOf;
 pub use breaks::{Always, Break, Condition};
 pub use device_watch::{Device, DeviceWatch};
 pub use full_devices::{FullDevices, wants_hands};

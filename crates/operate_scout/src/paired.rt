@@ -6,7 +6,7 @@ ghost use Rattle.room_alone.specs.Journal.{answer_to, entry, is_full, refusal_of
 ghost use Rattle.operate_scout.specs.RunOf.{answer_of, run_of};
 ghost use Rattle.operate_scout.specs.Search.{memory_after, search};
 
-use crate::search::{Found, Test, run_limit, seek};
+use crate::search::{Found, SearchEnd, Test, run_limit, seek};
 use cpu_1401::Machine;
 use machine_execution::{Command, carry_out};
 use room_alone::{Carried, Keeper, KeptRoom, OWN_SEAT, RoomFault};
@@ -134,6 +134,8 @@ impl<K: Keeper + Drop> Paired<K> {
         ensures first { IfOk result (λ end. let machine = state_of self.old.room.size self.old.room.journal in
             (k : ℕ) → 0 < k → k < end.found.steps
             → T.is_met (memory_after T.seen k (T.begun test.old machine) machine) ≡ false) }
+        ensures met { IfOk result (λ end. end.found.end ≡ SearchEnd.Met → T.is_met test.new ≡ true) }
+        ensures limit { IfOk result (λ end. end.found.end ≡ SearchEnd.Limit → end.found.steps ≡ most) }
 
         ensures kept { IfOk result (λ end. end.kept ≡ true → self.new.failed ≡ false) }
         ensures unkept { IfOk result (λ end. end.kept ≡ false → self.new.failed ≡ true) }

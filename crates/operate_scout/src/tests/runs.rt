@@ -1,12 +1,14 @@
 //! Breaks, watches on places, and stops.
 
 use super::{expect_entry, expect_run, paired_with, put};
+use crate::any_of::AnyOf;
 use crate::breaks::{Always, Break};
 use crate::one_of::{Never, OneOf};
 use crate::place_watch::PlaceWatch;
 use crate::search::SearchEnd;
 use cpu_1401::Stop;
 use machine_execution::Answer;
+use std::process::Abort;
 
 /// Counts in 701 to 706 until that is what 707 to 712 hold, and then goes to 600: an addition, a comparison and two
 /// branches.
@@ -49,6 +51,27 @@ fn a_break_passes_as_often_as_it_should(rt: HostRuntime) {
     test.passes = 2;
     expect_run(&rt, &mut paired, &mut test, 6, SearchEnd::Met, 500);
     expect_run(&rt, &mut paired, &mut test, 2, SearchEnd::Met, 500);
+}
+
+#[test]
+fn each_of_some_breaks_is_met(rt: HostRuntime) {
+    let mut paired = paired_with(&rt, b"~N~N~N~B500~N");
+    let mut test = AnyOf::new(rt.alloc());
+    for address in [502, 500] {
+        test.push(Break::new(address, Always))
+            .expect(&rt, "a place");
+    }
+    expect_run(&rt, &mut paired, &mut test, 2, SearchEnd::Met, 502);
+    expect_met(&rt, &test, 0);
+    expect_run(&rt, &mut paired, &mut test, 2, SearchEnd::Met, 500);
+    expect_met(&rt, &test, 1);
+}
+
+/// Compares which of some breaks is met.
+fn expect_met(rt: &impl Abort, test: &AnyOf<Break<Always>>, place: usize) {
+    for (i, each) in test.tests().iter().enumerate() {
+        assert_eq!(rt; each.is_met, i == place, "break {i}");
+    }
 }
 
 #[test]

@@ -1,5 +1,5 @@
 -- One place more is written down.
-use Rattle.std.proofs.Common.{◌+◌, ◌∙◌, ap, sym, arith}
+use Rattle.std.proofs.Common.{◌+◌, ◌∙◌, ap, arith}
 use Rattle.core_1401.specs.Storage.{cell_at}
 use Rattle.operate_scout.proofs.PlaceWatchLemmas.{written-more}
 use Rattle.operate_scout.proofs.place_watch.look.Goals as goal

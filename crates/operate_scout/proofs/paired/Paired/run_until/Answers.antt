@@ -5,7 +5,7 @@ use Rattle.room_alone.specs.Journal.{entry, state_of}
 use Rattle.room_alone.specs.Kept.{KeptAccount}
 use Rattle.operate_scout.specs.RunOf.{answer_of, run_of}
 use Rattle.operate_scout.specs.Search.{Searched, search}
-use Rattle.operate_scout.proofs.PairedLemmas.{WentAlike, went_alike}
+use Rattle.operate_scout.proofs.PairedLemmas.{went_alike}
 use Rattle.operate_scout.proofs.paired.Paired.run_until.Goals as goal
 
 pub invariant_of-self-2 : goal.invariant_of-self-2
