@@ -1,7 +1,6 @@
 //! A break at the address of an instruction.
 ghost use Rattle.std.specs.Prelude.{◌≡◌, Bool, false};
 ghost use Rattle.cpu_1401.specs.State.{State};
-ghost use Rattle.operate_scout.specs.Breaks.{arrives, is_met_after, passes_after};
 
 use crate::search::Test;
 use cpu_1401::Machine;

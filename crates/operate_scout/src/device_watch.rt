@@ -1,6 +1,5 @@
 //! What a step does to the reader, the punch and the printer.
 ghost use Rattle.std.specs.Prelude.{◌≡◌, false};
-ghost use Rattle.devices_1401.specs.Devices.{most_held};
 ghost use Rattle.operate_scout.specs.DeviceWatch.{held_by};
 
 use crate::breaks::Condition;

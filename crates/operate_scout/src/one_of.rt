@@ -1,5 +1,4 @@
 //! No test, and two tests at once.
-ghost use Rattle.std.specs.Prelude.{◌≡◌};
 
 use crate::search::Test;
 use cpu_1401::Machine;

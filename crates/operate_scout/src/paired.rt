@@ -1,5 +1,5 @@
 //! A room and its scout.
-ghost use Rattle.std.specs.Prelude.{◌≡◌, ◌+◌, ◌<◌, ◌≤◌, ◌↔◌, ℕ, [], ◌∷◌, ◌++◌, true, false, length};
+ghost use Rattle.std.specs.Prelude.{◌≡◌, ◌+◌, ◌<◌, ◌≤◌, ◌↔◌, ℕ, [], ◌∷◌, ◌++◌, true, false};
 ghost use Rattle.std.specs.Prelude.{IsOk, IfOk, IfErr, OnErr};
 ghost use Rattle.cpu_1401.specs.Run.{most_steps};
 ghost use Rattle.room_alone.specs.Journal.{answer_to, entry, is_full, refusal_of, state_of};

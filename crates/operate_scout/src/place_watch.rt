@@ -1,7 +1,7 @@
 //! A watch on places of core storage.
-ghost use Rattle.std.specs.Prelude.{◌≡◌, ◌<◌, ◌^◌, false, length, vec_len, IfOk, IsTrue};
-ghost use Rattle.operate_scout.specs.PlaceWatch.{cells_in, differs, watched};
+ghost use Rattle.std.specs.Prelude.{◌≡◌, ◌<◌, ◌^◌, length, IfOk};
 ghost use Rattle.core_1401.specs.Storage.{cell_at};
+ghost use Rattle.operate_scout.specs.PlaceWatch.{cells_in, differs, watched};
 
 use crate::search::Test;
 use bcd_1401::Cell;
