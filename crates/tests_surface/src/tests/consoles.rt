@@ -6,9 +6,9 @@ use super::{cells_of, expect_same, expect_text};
 use autocoder_1401::read_image;
 use console_1401::{
     Failed, FromReader, Line, LineFault, OpenDoor, ServeFault, Served, SessionEnd, Sink, Source,
-    ToWriter, parse_line, put_image, reply_text, serve, session,
+    ToWriter, attend, parse_line, put_image, reply_text, serve, session,
 };
-use room_1401::{Answer, Command, Opened, Room, RoomId, SharedRoom};
+use room_1401::{Answer, Command, Opened, Room, RoomId, Seat, SharedRoom};
 use std::io::{Read, Write};
 use std::marker::Brand;
 use std::net::{Ipv4Addr, Net, Shutdown, TcpListener, TcpStream};
@@ -107,6 +107,33 @@ fn an_image_is_put_into_a_room(rt: HostRuntime) {
     let replies = "STOP 02 HALT STEPS 3 I 00414\n~01?\nBYE\n";
     expect_session(&rt, &mut room, lines, replies);
     expect_same(&rt, "journal", &room.journal().len(), &4);
+}
+
+/// A seat that knows of one command, which put a K into place 500, after a console there.
+pub(super) fn attended<J: RoomId, R: Wait + Abort + AllocGlobal>(
+    rt: &R,
+    room: &SharedRoom<J, &R>,
+    seat: Seat<J>,
+) -> Seat<J> {
+    let mut reader = FromReader::new(b"GLANCE 0500\nQUIT\n".as_slice());
+    let mut writer = ToWriter::new(Vec::new(rt.alloc()));
+    let (seat, end) = attend(
+        rt.alloc(),
+        rt,
+        room,
+        seat,
+        &mut reader,
+        &mut writer,
+        &OpenDoor,
+    );
+    expect_text(
+        rt,
+        "attend",
+        writer.into_inner().as_slice(),
+        "AFTER 1 K\nBYE\n",
+    );
+    expect_same(rt, "attend", &end, &SessionEnd::Quit);
+    seat
 }
 
 /// What is left of a new room of this size that has served a console from this listener.

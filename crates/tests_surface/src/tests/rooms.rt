@@ -1,6 +1,7 @@
 //! Rooms, and rooms that operators share.
 ghost use Rattle.std.specs.Prelude.{◌≡◌};
 
+use super::consoles::attended;
 use super::devices::card_of;
 use super::{cell_of, cells_of, expect_same};
 use core_1401::CoreFault;
@@ -157,8 +158,9 @@ fn use_seats<J: RoomId, R: Wait + Abort + AllocGlobal>(
     }
 }
 
-/// The room once it is closed, which it isn't without its last seat; or else once it is abandoned.
-fn ended<J: RoomId, R: Wait + Abort>(
+/// The room once it is closed, which it isn't without its last seat, at which there is a console meanwhile; or else once
+/// it is abandoned.
+fn ended<J: RoomId, R: Wait + Abort + AllocGlobal>(
     rt: &R,
     room: SharedRoom<J, &R>,
     mut seats: Vec<Seat<J>>,
@@ -169,7 +171,7 @@ fn ended<J: RoomId, R: Wait + Abort>(
     if !closes {
         return room.abandon();
     }
-    let last = seats.pop();
+    let last = attended(rt, &room, seats.pop().expect(rt, "a seat"));
     let (room, mut seats, fault) = room.close(seats).err().expect(rt, "closed without a seat");
     expect_same(
         rt,
@@ -177,7 +179,7 @@ fn ended<J: RoomId, R: Wait + Abort>(
         &fault,
         &CloseFault::Unreturned { back: 1, total: 2 },
     );
-    seats.extend(last).expect(rt, "room");
+    seats.push(last).expect(rt, "room");
     match room.close(seats) {
         Ok(room) => room,
         Err(_) => panic!(rt; "not closed"),
