@@ -9,8 +9,7 @@ use Rattle.console_text.specs.ConsoleLine.{said_by}
 use Rattle.console_1401.specs.declared.attending.Unanswered.{Unanswered}
 use Rattle.console_1401.specs.declared.attending.Unanswered.TheVariants.{Memory}
 use Rattle.console_1401.specs.SeatTurns.{AnswersAtSeat, IsUnanswered}
-use Rattle.serving_page.specs.ManyLines.{LinesAnswered, LinesUnanswered, goes_on}
-use Rattle.serving_page.specs.Taking.{IsReason}
+use Rattle.serving_page.specs.ManyLines.{IsReason, LinesAnswered, LinesUnanswered, goes_on}
 
 -- how much is left of a text: with the end of its last piece, if there is one
 abbrev pub left_of : Option (List ℕ) → ℕ

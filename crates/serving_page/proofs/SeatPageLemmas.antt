@@ -25,11 +25,12 @@ use Rattle.serving_http.specs.Sites.{is_from_site, SiteView}
 use Rattle.serving_page.specs.Asked.{ampersand, asked_in, room_in}
 use Rattle.serving_page.specs.Elsewhere.{TellsAddress}
 use Rattle.serving_page.specs.Pieces.{pieces_in}
-use Rattle.serving_page.specs.ManyLines.{AnswersLines, TakesLines, lines_of}
-use Rattle.serving_page.specs.SeatPage.{Answers, AnswersRoute, GoesOn, PageView, site_of, with_seat}
+use Rattle.serving_page.specs.SeatPage.{Answers, AnswersRoute, PageView, site_of, with_seat}
 use Rattle.room_1401.proofs.PrefixLemmas.{prefix_trans}
 use Rattle.serving_page.specs.Showing.{HasLooked, Sees, ShowsAsked, ShowsPicture, asked_here, heading}
-use Rattle.serving_page.specs.Taking.{AnswersLine, TakesLine}
+use Rattle.serving_page.specs.Taking.{GoesOn, IsReplied, Takes}
+use Rattle.serving_page.specs.declared.taking.Brought.{Brought}
+use Rattle.serving_page.specs.declared.taking.Brought.TheVariants as brought
 
 stays : (before after : SeatView) → after ≡ before → GoesOn before after
 stays before after is = record {
@@ -64,10 +65,6 @@ either : (b : Bool) (P Q R : Type 0) → MatchBool b P Q → (P → R) → (Q �
 either true P Q R m f g = f m
 either false P Q R m f g = g m
 
-answers_line : (size : ℕ) (lost : List SeatedCommand → Type 0) (before : SeatView) (bytes : List ℕ) (response : Response) (after : SeatView)
-    → AnswersLine size lost before bytes response after → GoesOn before after
-answers_line size lost before bytes response after a = record { number_is = a.number_is; grows = a.grows }
-
 -- lines that are refused unless three things hold of them
 taken_if : (own here next : Bool) (Taken : Type 0) (before after : SeatView) (response : Response)
     → MatchBool own
@@ -80,21 +77,13 @@ taken_if true false next Taken before after response t goes_on = stays before af
 taken_if true true false Taken before after response t goes_on = stays before after t.1
 taken_if true true true Taken before after response t goes_on = goes_on t
 
-takes_lines : (size : ℕ) (lost : List SeatedCommand → Type 0) (site : SiteView) (name : List ℕ) (head : Parts)
-    (bytes : List ℕ) (before : SeatView) (response : Response) (after : SeatView)
-    → TakesLines size lost site name head bytes before response after → GoesOn before after
-takes_lines size lost site name head bytes before response after t =
+takes : (brought : Brought) (size : ℕ) (lost : List SeatedCommand → Type 0) (site : SiteView) (name : List ℕ) (head : Parts)
+    (body : List ℕ) (before : SeatView) (response : Response) (after : SeatView)
+    → Takes brought size lost site name head body before response after → GoesOn before after
+takes brought size lost site name head body before response after t =
     taken_if (is_from_site head site) (is_for_room head name) (is_next (count_in head) before.made)
-    (AnswersLines size lost before (lines_of bytes) response after) before after response t
-    (λ taken. record { number_is = taken.number_is; grows = taken.grows })
-
-takes : (size : ℕ) (lost : List SeatedCommand → Type 0) (site : SiteView) (name : List ℕ) (head : Parts)
-    (bytes : List ℕ) (before : SeatView) (response : Response) (after : SeatView)
-    → TakesLine size lost site name head bytes before response after → GoesOn before after
-takes size lost site name head bytes before response after t =
-    taken_if (is_from_site head site) (is_for_room head name) (is_next (count_in head) before.made)
-    (AnswersLine size lost before bytes response after) before after response t
-    (λ taken. answers_line size lost before bytes response after taken)
+    (IsReplied brought size lost before body response after × GoesOn before after) before after response t
+    (λ taken. taken.1)
 
 route : (size : ℕ) (lost : List SeatedCommand → Type 0) (to : Route) (old : PageView) (request : Request (List ℕ))
     (response : Response) (new : PageView) → AnswersRoute size lost to old request response new
@@ -104,14 +93,14 @@ route size lost Picture old request response new a = shows size old.seats old.na
 route size lost Line old request response new a =
     let bytes : List ℕ = body_of request in
     let Taken : Type 0 =
-    TakesLine size lost (site_of old) old.name (head_of request) bytes old.seat response new.seat
+    Takes brought.Line size lost (site_of old) old.name (head_of request) bytes old.seat response new.seat
     × (new ≡ with_seat old new.seat) in
     either (nat_le (length bytes) most_line_bytes) Taken (IsRefused 413 response × (new ≡ old))
     (GoesOn old.seat new.seat) a
-    (λ taken. takes size lost _ old.name (head_of request) bytes old.seat response new.seat taken.0)
+    (λ taken. takes brought.Line size lost _ old.name (head_of request) bytes old.seat response new.seat taken.0)
     (λ refused. stays old.seat new.seat (ap (λ (page : PageView). page.seat) refused.1))
 route size lost Lines old request response new a =
-    takes_lines size lost _ old.name (head_of request) (body_of request) old.seat response new.seat a.0
+    takes brought.Lines size lost _ old.name (head_of request) (body_of request) old.seat response new.seat a.0
 route size lost WrongMethod old request response new a = stays old.seat new.seat (ap (λ (page : PageView). page.seat) a.1)
 route size lost Unknown old request response new a = stays old.seat new.seat (ap (λ (page : PageView). page.seat) a.1)
 

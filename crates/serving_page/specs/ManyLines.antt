@@ -1,21 +1,14 @@
 -- Console lines that one request brings, carried out one after the other (own).
-use Rattle.std.specs.Prelude.{◌≡◌, ◌==◌, ℕ, ◌⊎◌, Bool, true, false, ◌||◌, List, [], ◌∷◌, ◌++◌, codes, MatchBool}
-use mathlib.Core.List.{IsPrefix}
+use Rattle.std.specs.Prelude.{◌≡◌, ◌==◌, ℕ, ◌⊎◌, Bool, true, false, ◌||◌, List, [], ◌∷◌, ◌++◌, codes}
 use Rattle.std.specs.List.{starts_with}
 use Rattle.std.specs.Str.{bytes_eq}
-use Rattle.http.specs.declared.request.Parts.{Parts}
-use Rattle.http_server.specs.declared.response.Response.{Response}
 use Rattle.room_alone.specs.declared.entry.SeatedCommand.{SeatedCommand}
 use Rattle.room_1401.specs.Seen.{SeatView}
 use Rattle.console_text.specs.ConsoleLine.{said_by}
 use Rattle.console_1401.specs.declared.attending.Unanswered.{Unanswered}
-use Rattle.console_1401.specs.declared.attending.Unanswered.TheVariants.{Memory}
+use Rattle.console_1401.specs.declared.attending.Unanswered.TheVariants.{Memory, Unkept}
 use Rattle.console_1401.specs.SeatTurns.{AnswersAtSeat, IsUnanswered}
-use Rattle.serving_http.specs.Fields.{count_in, is_for_room, is_next}
-use Rattle.serving_http.specs.Responses.{IsRefused, IsText}
-use Rattle.serving_http.specs.Sites.{is_from_site, SiteView}
 use Rattle.serving_page.specs.Pieces.{pieces_of}
-use Rattle.serving_page.specs.Taking.{IsReason, IsUnansweredBy}
 
 -- it ends a line
 abbrev pub line_feed : ℕ
@@ -43,6 +36,11 @@ LinesAnswered size before (line ∷ lines) text after =
     × (goes_on reply ≡ true) × (text ≡ reply ++ rest) × LinesAnswered size middle lines rest after)
     ⊎ (AnswersAtSeat size before (said_by line) text after × (goes_on text ≡ false))
 
+-- what a reason shows: an entry isn't kept only if something was lost
+abbrev pub IsReason : Type 0 → Unanswered → Type 0
+IsReason lost Memory = Unit {0}
+IsReason lost Unkept = lost
+
 -- Lines were carried out in the same way up to a line without a reply, for a reason that holds, or up to a line for
 -- whose reply there was no more memory.
 abbrev pub LinesUnanswered : ℕ → (List SeatedCommand → Type 0) → SeatView → List (List ℕ) → Unanswered → SeatView
@@ -53,29 +51,3 @@ LinesUnanswered size lost before (line ∷ lines) why after =
     × (goes_on reply ≡ true) × LinesUnanswered size lost middle lines why after)
     ⊎ ((IsReason (lost after.list) why × IsUnanswered size before (said_by line) after)
     ⊎ ((reply : List ℕ) × AnswersAtSeat size before (said_by line) reply after × (why ≡ Memory)))
-
--- the replies to lines, or why there are none
-abbrev pub AreReplied : ℕ → (List SeatedCommand → Type 0) → SeatView → List (List ℕ) → Response → SeatView → Type 0
-AreReplied size lost before lines response after =
-    ((text : List ℕ) × LinesAnswered size before lines text after × IsText text response)
-    ⊎ ((why : Unanswered) × LinesUnanswered size lost before lines why after × IsUnansweredBy why response)
-
--- Lines are carried out at a seat, and answered by their replies. The seat has seen no less.
-pub record AnswersLines (size : ℕ) (lost : List SeatedCommand → Type 0) (before : SeatView) (lines : List (List ℕ))
-    (response : Response) (after : SeatView) : Type 0 where
-  pub replied : AreReplied size lost before lines response after
-  pub number_is : after.number ≡ before.number
-  pub grows : IsPrefix before.list after.list
-
--- they have to come from the seat's own page, to be for this room if they name one, and to go on from what the seat
--- made; else nothing is carried out
-abbrev pub TakesLines : ℕ → (List SeatedCommand → Type 0) → SiteView → List ℕ → Parts → List ℕ → SeatView → Response → SeatView
-    → Type 0
-TakesLines size lost site name head body before response after =
-    MatchBool (is_from_site head site)
-    (MatchBool (is_for_room head name)
-    (MatchBool (is_next (count_in head) before.made)
-    (AnswersLines size lost before (lines_of body) response after)
-    (IsRefused 409 response × (after ≡ before)))
-    (IsRefused 409 response × (after ≡ before)))
-    (IsRefused 403 response × (after ≡ before))

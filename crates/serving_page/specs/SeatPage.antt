@@ -1,6 +1,5 @@
 -- What requests are answered at the page of a seat, and what they leave (own).
 use Rattle.std.specs.Prelude.{◌≡◌, ℕ, nat_le, List, length, MatchBool, Option}
-use mathlib.Core.List.{IsPrefix}
 use Rattle.http_uri.specs.Uri.{uri_path, uri_query}
 use Rattle.http.specs.declared.request.Request.{Request}
 use Rattle.http.specs.Request.{body_of, head_of}
@@ -18,10 +17,10 @@ use Rattle.serving_http.specs.Responses.{IsRefused, page_fields}
 use Rattle.serving_http.specs.Route.{route_of}
 use Rattle.serving_http.specs.Sites.{is_for_site, SiteView}
 use Rattle.serving_page.specs.Elsewhere.{TellsAddress}
-use Rattle.serving_page.specs.ManyLines.{TakesLines}
 use Rattle.serving_page.specs.Pieces.{pieces_in}
 use Rattle.serving_page.specs.Showing.{ShowsPicture}
-use Rattle.serving_page.specs.Taking.{TakesLine}
+use Rattle.serving_page.specs.Taking.{Takes}
+use Rattle.serving_page.specs.declared.taking.Brought.TheVariants as brought
 
 -- how many seats there are, the port of the loopback, the origin outside if there is one, the room's name, the page,
 -- what its browser may do with it, and what the seat knows
@@ -54,11 +53,11 @@ AnswersRoute size lost Picture old request response new =
     × (new ≡ with_seat old new.seat)
 AnswersRoute size lost Line old request response new =
     MatchBool (nat_le (length (body_of request)) most_line_bytes)
-    (TakesLine size lost (site_of old) old.name (head_of request) (body_of request) old.seat response new.seat
+    (Takes brought.Line size lost (site_of old) old.name (head_of request) (body_of request) old.seat response new.seat
     × (new ≡ with_seat old new.seat))
     (IsRefused 413 response × (new ≡ old))
 AnswersRoute size lost Lines old request response new =
-    TakesLines size lost (site_of old) old.name (head_of request) (body_of request) old.seat response new.seat
+    Takes brought.Lines size lost (site_of old) old.name (head_of request) (body_of request) old.seat response new.seat
     × (new ≡ with_seat old new.seat)
 AnswersRoute size lost WrongMethod old request response new = IsRefused 405 response × (new ≡ old)
 AnswersRoute size lost Unknown old request response new = IsRefused 404 response × (new ≡ old)
@@ -73,8 +72,3 @@ Answers size lost old request response new =
     (IsRefused 400 response × (new ≡ old))
     (AnswersRoute size lost (route_of head.method (uri_path head.uri)) old request response new))
     (TellsAddress (site_of old) response × (new ≡ old))
-
--- A seat's number stays, and what it has seen goes on.
-pub record GoesOn (before after : SeatView) : Type 0 where
-  pub number_is : after.number ≡ before.number
-  pub grows : IsPrefix before.list after.list

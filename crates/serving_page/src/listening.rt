@@ -1,7 +1,7 @@
 //! The requests of a page, one after the other.
 ghost use Rattle.serving_http.specs.Exchange.{Follows};
-ghost use Rattle.serving_page.specs.SeatPage.{Answers, GoesOn};
-ghost use Rattle.serving_page.specs.Taking.{HasLost};
+ghost use Rattle.serving_page.specs.SeatPage.{Answers};
+ghost use Rattle.serving_page.specs.Taking.{GoesOn, HasLost};
 
 use crate::seat_page::SeatPage;
 use room_1401::{Keeper, RoomId};

@@ -1,17 +1,23 @@
 //! The page of a seat: a service of HTTP over the seat.
-ghost use Rattle.std.specs.Prelude.{◌≡◌, ◌++◌, IsTrue};
+ghost use Rattle.std.specs.Prelude.{◌≡◌, ◌++◌, IsTrue, IfOk, IfErr, OnOk, OnErr};
+ghost use Rattle.http.specs.Request.{body_of, head_of};
 ghost use Rattle.http_header.specs.FieldValue.{is_visible_text};
+ghost use Rattle.http_server.specs.Response.{IsBlank};
+ghost use Rattle.serving_page.specs.SeatPage.{site_of, with_seat};
+ghost use Rattle.serving_page.specs.Taking.{GoesOn, HasLost, IsAnswered, IsNotAnswered, Takes};
 
 use crate::elsewhere::tell_address;
-use crate::many_lines::take_lines;
+use crate::many_lines::answer_lines;
 use crate::showing::show_picture;
-use crate::taking::take_line;
+use crate::taking::{Brought, tell_outcome};
 use bytes::Bytes;
+use console_1401::{Unanswered, answer_line};
 use http::{Request, StatusCode};
 use http_server::{Response, Service};
 use room_1401::{Keeper, RoomId, Seat, SharedRoom};
 use serving_http::{
-    Document, MOST_LINE_BYTES, Route, Site, is_ambiguous, is_for_site, put_page, refuse, route_of,
+    Document, MOST_LINE_BYTES, Route, Site, begin_text, is_ambiguous, is_for_room, is_for_site,
+    is_from_site, is_next, put_page, refuse, route_of,
 };
 use std::alloc::{AllocError, Global};
 use std::marker::Model;
@@ -103,6 +109,55 @@ impl<'a, J: RoomId, R: Wait + Drop, P: Keeper + Drop, W: Wait> SeatPage<'a, J, R
         } = self;
         seat
     }
+
+    /// Carries out what a request brings, and gives the reply.
+    ///
+    /// # Errors
+    ///
+    /// Why there is none, though it was carried out.
+    #[tactic(auto, using(crate::proofs::TakingLemmas::reason))]
+    fn answer(&mut self, brought: Brought, body: &[u8]) -> Result<Vec<u8>, Unanswered>
+        ensures ok { IfOk result (λ text. IsAnswered brought J.size self.old.seat body.now text.items self.new.seat) }
+        ensures err { IfErr result (λ why. IsNotAnswered brought J.size
+            (HasLost P.has_failed P.kept P.first P.form J.size) self.old.seat body.now why self.new.seat) }
+        ensures page { self.new ≡ with_seat self.old self.new.seat }
+        ensures seat { GoesOn self.old.seat self.new.seat }
+    {
+        let seat = &mut self.seat;
+        match brought {
+            Brought::Line => answer_line(self.alloc, self.wait, self.room, seat, body),
+            Brought::Lines => answer_lines(self.alloc, self.wait, self.room, seat, body),
+        }
+    }
+
+    /// Answers a request that brings lines: it has to come from the page itself, to be for this room if it names one,
+    /// and to go on from what the seat made.
+    fn take(
+        &mut self,
+        brought: Brought,
+        request: &Request<Bytes>,
+        response: &mut Response,
+    ) -> Result<(), AllocError>
+        requires { IsBlank response.old }
+        ensures ok { OnOk result (Takes brought J.size (HasLost P.has_failed P.kept P.first P.form J.size)
+            (site_of self.old) self.old.name (head_of request.now) (body_of request.now) self.old.seat response.new
+            self.new.seat × (self.new ≡ with_seat self.old self.new.seat)) }
+        ensures err { OnErr result (self.new ≡ self.old) }
+    {
+        if !is_from_site(request, self.site) {
+            return refuse(response, StatusCode::FORBIDDEN);
+        }
+        if !is_for_room(request, self.name) {
+            return refuse(response, StatusCode::CONFLICT);
+        }
+        if !is_next(request, self.seat.made()) {
+            return refuse(response, StatusCode::CONFLICT);
+        }
+        begin_text(response)?;
+        let outcome = self.answer(brought, request.body().as_slice());
+        tell_outcome(response, &outcome);
+        Ok(())
+    }
 }
 
 impl<J: RoomId, R: Wait + Drop, P: Keeper + Drop, W: Wait> Service for SeatPage<'_, J, R, P, W> {
@@ -138,27 +193,9 @@ impl<J: RoomId, R: Wait + Drop, P: Keeper + Drop, W: Wait> Service for SeatPage<
                 if request.body().len() > MOST_LINE_BYTES {
                     return refuse(response, StatusCode::PAYLOAD_TOO_LARGE);
                 }
-                take_line(
-                    self.alloc,
-                    self.wait,
-                    self.room,
-                    &mut self.seat,
-                    self.site,
-                    self.name,
-                    request,
-                    response,
-                )
+                self.take(Brought::Line, request, response)
             }
-            Route::Lines => take_lines(
-                self.alloc,
-                self.wait,
-                self.room,
-                &mut self.seat,
-                self.site,
-                self.name,
-                request,
-                response,
-            ),
+            Route::Lines => self.take(Brought::Lines, request, response),
             Route::WrongMethod => refuse(response, StatusCode::METHOD_NOT_ALLOWED),
             Route::Unknown => refuse(response, StatusCode::NOT_FOUND),
         }
