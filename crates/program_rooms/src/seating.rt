@@ -336,17 +336,7 @@ fn serve_by<
     let consoles = entrances.consoles.as_ref();
     let pages = entrances.pages.as_slice();
     let door = TakingTurns::new(rt);
-    let served = serve_seats(
-        rt.alloc(),
-        rt,
-        room,
-        seats,
-        consoles,
-        pages,
-        watch,
-        input,
-        &door,
-    );
+    let served = serve_seats(rt, room, seats, consoles, pages, watch, input, &door);
     tell_end(rt, served)
 }
 

@@ -1,15 +1,15 @@
 //! The connections that come to a page. Each has a thread of its own, in which its request comes and its answer is
 //! sent; so a connection that sends nothing, as browsers open ahead, or that takes nothing, delays no other.
 
-use crate::crowd::{Crowd, NAPS, Stage};
+use crate::crowd::{NAPS, Stage};
 use crate::room_pages::{Answered, PageOfRoom};
 use crossbeam_channel::{Sender, bounded};
 use room_1401::RoomId;
 use serving_page::{WholeRequest, has_begun, linger, read_request, send_answer};
-use serving_seats::{SeatsFault, Service};
-use std::alloc::{AllocGlobal, Global};
+use serving_seats::SeatsFault;
+use std::alloc::AllocGlobal;
 use std::io::{Read, Write};
-use std::net::{Shutdown, TcpListener, TcpStream};
+use std::net::{Shutdown, TcpStream};
 use std::random::RandomSource;
 use std::sync::{Arc, Wait};
 use std::thread;
@@ -36,55 +36,42 @@ pub(crate) struct Asked {
 
 /// Accepts the connections of a page, until the room is being closed or one can't be accepted, and waits until each has
 /// ended.
-pub(crate) fn accept_arrivals<J, R>(
-    alloc: Global,
-    rt: &R,
-    service: &Service<J>,
-    listener: &TcpListener,
-    page: PageOfRoom<'_>,
-    crowd: &Crowd,
-    asked: Sender<Asked>,
-)
+pub(crate) fn accept_arrivals<J, R>(page: &PageOfRoom<'_, J, R>, asked: Sender<Asked>)
 where
     J: RoomId + Send + Sync,
     R: Threads + Wait + Sync + Clock + AllocGlobal + RandomSource,
 {
-    thread::scope(thread::scope_env(), rt, move |scope| {
-        accept_each_arrival(scope, alloc, rt, service, listener, page, crowd, asked)
+    thread::scope(thread::scope_env(), page.serving.rt, move |scope| {
+        accept_each_arrival(scope, page, asked)
     });
 }
 
 /// Accepts connections, and starts the thread of each.
 fn accept_each_arrival<'s, E: 's, J, R>(
     scope: &Scope<'s, E>,
-    alloc: Global,
-    rt: &'s R,
-    service: &'s Service<J>,
-    listener: &TcpListener,
-    page: PageOfRoom<'s>,
-    crowd: &'s Crowd,
+    page: &'s PageOfRoom<'s, J, R>,
     asked: Sender<Asked>,
 )
 where
     J: RoomId + Send + Sync + 's,
     R: Threads + Wait + Sync + Clock + AllocGlobal + RandomSource + 's,
 {
+    let rt = page.serving.rt;
+    let service = page.serving.service;
     let mut number = 0;
     let mut looks = NAPS;
     for _ in rt.forever() {
-        let Some(stream) = service.accept(rt, listener) else {
+        let Some(stream) = service.accept(rt, &page.port.listener) else {
             break;
         };
         number = next_after(number);
-        match let_in(
-            scope, alloc, rt, service, page, crowd, stream, number, looks, &asked,
-        ) {
+        match let_in(scope, page, stream, number, looks, &asked) {
             // Once one was refused, the next one isn't waited for until there is a place again.
             Ok(is_inside) => looks = if is_inside { NAPS } else { 1 },
             Err(fault) => service.note(rt, fault),
         }
     }
-    crowd.close_idle(rt);
+    page.crowd.close_idle(rt);
 }
 
 /// The next number. Nobody counts to the last one.
@@ -100,11 +87,7 @@ fn next_after(number: u64) -> u64 {
 /// `Memory` if there is none for its handles, `Thread` if its thread was refused. The connection is closed.
 fn let_in<'s, E: 's, J, R>(
     scope: &Scope<'s, E>,
-    alloc: Global,
-    rt: &'s R,
-    service: &'s Service<J>,
-    page: PageOfRoom<'s>,
-    crowd: &'s Crowd,
+    page: &'s PageOfRoom<'s, J, R>,
     stream: TcpStream,
     number: u64,
     looks: usize,
@@ -114,7 +97,9 @@ where
     J: RoomId + Send + Sync + 's,
     R: Threads + Wait + Sync + Clock + AllocGlobal + RandomSource + 's,
 {
-    let Ok(stream) = Arc::new(alloc, stream) else {
+    let rt = page.serving.rt;
+    let crowd = page.crowd;
+    let Ok(stream) = Arc::new(rt.alloc(), stream) else {
         return Err(SeatsFault::Memory);
     };
     let Ok(second) = Arc::try_clone(&stream) else {
@@ -128,7 +113,7 @@ where
         return Ok(false);
     }
     let started = scope.spawn(move || {
-        attend_arrival(alloc, rt, service, page, crowd, &stream, number, asked);
+        attend_arrival(page, &stream, number, asked);
         crowd.leave(rt, number);
     });
     if started.is_err() {
@@ -140,11 +125,7 @@ where
 
 /// Reads the request of a connection, has it answered, and sends the answer.
 fn attend_arrival<J, R>(
-    alloc: Global,
-    rt: &R,
-    service: &Service<J>,
-    page: PageOfRoom<'_>,
-    crowd: &Crowd,
+    page: &PageOfRoom<'_, J, R>,
     stream: &TcpStream,
     number: u64,
     asked: Sender<Asked>,
@@ -153,17 +134,19 @@ where
     J: RoomId,
     R: Wait + Clock + AllocGlobal + RandomSource,
 {
+    let rt = page.serving.rt;
+    let crowd = page.crowd;
     if !has_begun(rt, stream) {
         return;
     }
-    let Ok(Some(request)) = read_request(rt, page.site, stream) else {
+    let Ok(Some(request)) = read_request(rt, &page.port.site, stream) else {
         return;
     };
     if !crowd.go_on(rt, number, Stage::Asking) {
         refuse(stream);
         return;
     }
-    let Some(answer) = answer_to(alloc, rt, service, page, request, asked) else {
+    let Some(answer) = answer_to(page, request, asked) else {
         return;
     };
     let _open = crowd.go_on(rt, number, Stage::Writing);
@@ -176,27 +159,23 @@ where
 
 /// The answer to a request: here if it is about the room, and else at the page's seat.
 fn answer_to<J: RoomId, R: Wait + Clock + AllocGlobal + RandomSource>(
-    alloc: Global,
-    rt: &R,
-    service: &Service<J>,
-    page: PageOfRoom<'_>,
+    page: &PageOfRoom<'_, J, R>,
     request: WholeRequest,
     asked: Sender<Asked>,
 ) -> Option<Vec<u8>> {
-    match page.answer(rt, service, request) {
+    match page.answer(request) {
         Answered::Here(answer) => answer,
-        Answered::AtSeat(request) => ask(alloc, rt, request, asked),
+        Answered::AtSeat(request) => ask(page.serving.rt, request, asked),
     }
 }
 
 /// Has a request answered; there is no answer if the room is being closed, or if memory was refused.
-fn ask<R: Wait>(
-    alloc: Global,
+fn ask<R: Wait + AllocGlobal>(
     rt: &R,
     request: WholeRequest,
     asked: Sender<Asked>,
 ) -> Option<Vec<u8>> {
-    let Ok((reply, answer)) = bounded(alloc, 1) else {
+    let Ok((reply, answer)) = bounded(rt.alloc(), 1) else {
         return None;
     };
     if asked.send(rt, Asked { request, reply }).is_err() {

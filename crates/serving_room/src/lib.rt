@@ -3,7 +3,7 @@
 //!
 //! ```text
 //! // until the input says QUIT
-//! let served = serve_seats(alloc, rt, room, seats, Some(&listener), &[], &watch, input, &OpenDoor);
+//! let served = serve_seats(rt, room, seats, Some(&listener), &[], &watch, input, &OpenDoor);
 //! served.room.journal()       // all that the consoles did
 //! served.fault                // None: nothing was refused, and the room was closed with all of its seats
 //! ```

@@ -3,15 +3,14 @@ ghost use Rattle.std.specs.Prelude.{◌≡◌, ◌<◌, ◌≤◌, ◌^◌, leng
 
 use crate::arrivals::{Asked, accept_arrivals};
 use crate::crowd::{Crowd, MOST_INSIDE};
-use crate::room_pages::{PageOfRoom, RoomPages};
+use crate::room_pages::{PageOfRoom, Serving};
 use crate::visits::Visits;
-use crate::watch::Watch;
 use crossbeam_channel::{Receiver, Sender, bounded};
 use room_1401::{Keeper, RoomId, Seat, SharedRoom};
 use serving_page::document::document;
-use serving_page::{RoomName, SeatPage, Site, TakenPage, answer_each, answer_page};
-use serving_seats::{SeatsFault, Service};
-use std::alloc::{AllocGlobal, Global};
+use serving_page::{SeatPage, Site, TakenPage, answer_each, answer_page};
+use serving_seats::SeatsFault;
+use std::alloc::AllocGlobal;
 use std::net::TcpListener;
 use std::random::RandomSource;
 use std::sync::Wait;
@@ -31,13 +30,9 @@ pub struct PagePort {
 /// Starts the threads of all pages: the first is that of seat 1, the next that of seat 2, and so on.
 pub(crate) fn start_pages<'s, E: 's, J, H, K, R>(
     scope: &Scope<'s, E>,
-    alloc: Global,
-    rt: &'s R,
+    serving: &'s Serving<'s, J, R>,
     room: &'s SharedRoom<J, H, K>,
-    service: &'s Service<J>,
     pages: &'s [PagePort],
-    common: &'s RoomPages,
-    watch: &'s Watch,
 )
 where
     J: RoomId + Send + Sync + 's,
@@ -50,88 +45,72 @@ where
     let mut number = 0;
     for page in pages {
         number += 1;
-        start_page(scope, alloc, rt, room, service, page, common, watch, number);
+        start_page(scope, serving, room, page, number);
     }
 }
 
 /// Starts the thread of a page; if it is refused, the page isn't served.
 fn start_page<'s, E: 's, J, H, K, R>(
     scope: &Scope<'s, E>,
-    alloc: Global,
-    rt: &'s R,
+    serving: &'s Serving<'s, J, R>,
     room: &'s SharedRoom<J, H, K>,
-    service: &'s Service<J>,
-    page: &'s PagePort,
-    common: &'s RoomPages,
-    watch: &'s Watch,
-    number: u8,
+    port: &'s PagePort,
+    seat: u8,
 )
 where
     J: RoomId + Send + Sync + 's,
     H: Wait + Drop + Send + Sync + 's,
     K: Keeper + Drop + Send + Sync + 's,
     R: Threads + Wait + Sync + Clock + AllocGlobal + RandomSource + 's,
-    requires { (0 < number) × (number ≤ J.seats) }
+    requires { (0 < seat) × (seat ≤ J.seats) }
 {
     let started = scope.spawn(
         move ||
-            requires { (0 < number) × (number ≤ J.seats) }
-        { serve_page(alloc, rt, room, service, page, common, watch, number) },
+            requires { (0 < seat) × (seat ≤ J.seats) }
+        { serve_page(serving, room, port, seat) },
     );
     if started.is_err() {
-        service.give_up(rt, &page.listener, SeatsFault::Thread);
+        serving.give_up(port, SeatsFault::Thread);
     }
 }
 
 /// Serves the page of the seat of this number until the room is being closed.
 fn serve_page<J, H, K, R>(
-    alloc: Global,
-    rt: &R,
+    serving: &Serving<'_, J, R>,
     room: &SharedRoom<J, H, K>,
-    service: &Service<J>,
-    page: &PagePort,
-    common: &RoomPages,
-    watch: &Watch,
-    number: u8,
+    port: &PagePort,
+    seat: u8,
 )
 where
     J: RoomId + Send + Sync,
     H: Wait + Drop + Send + Sync,
     K: Keeper + Drop + Send + Sync,
     R: Threads + Wait + Sync + Clock + AllocGlobal + RandomSource,
-    requires { (0 < number) × (number ≤ J.seats) }
+    requires { (0 < seat) × (seat ≤ J.seats) }
 {
-    let PagePort { site, listener } = page;
+    let alloc = serving.rt.alloc();
     let (Ok((asked, receiver)), Ok(crowd), Some(name)) = (
         bounded(alloc, MOST_INSIDE),
         Crowd::new(alloc),
-        &common.name,
+        &serving.pages.name,
     ) else {
-        service.give_up(rt, listener, SeatsFault::Memory);
+        serving.give_up(port, SeatsFault::Memory);
         return;
     };
     let page = PageOfRoom {
-        site,
-        seat: number,
+        serving,
+        port,
+        seat,
         name,
-        watch,
-        pages: common,
+        crowd: &crowd,
     };
-    answer_all(
-        alloc, rt, room, service, listener, page, number, &crowd, asked, receiver,
-    );
+    answer_all(room, &page, asked, receiver);
 }
 
 /// Answers the requests of a page, whose connections are accepted in a thread of their own.
 fn answer_all<J, H, K, R>(
-    alloc: Global,
-    rt: &R,
     room: &SharedRoom<J, H, K>,
-    service: &Service<J>,
-    listener: &TcpListener,
-    page: PageOfRoom<'_>,
-    number: u8,
-    crowd: &Crowd,
+    page: &PageOfRoom<'_, J, R>,
     asked: Sender<Asked>,
     receiver: Receiver<Asked>,
 )
@@ -140,32 +119,22 @@ where
     H: Wait + Drop + Send + Sync,
     K: Keeper + Drop + Send + Sync,
     R: Threads + Wait + Sync + Clock + AllocGlobal + RandomSource,
-    requires { (0 < number) × (number ≤ J.seats) }
+    requires { (0 < page.now.seat) × (page.now.seat ≤ J.seats) }
 {
     thread::scope(
         thread::scope_env(),
-        rt,
+        page.serving.rt,
         move |scope|
-            requires { (0 < number) × (number ≤ J.seats) }
-        {
-            accept_and_answer(
-                scope, alloc, rt, room, service, listener, page, number, crowd, asked, receiver,
-            )
-        },
+            requires { (0 < page.now.seat) × (page.now.seat ≤ J.seats) }
+        { accept_and_answer(scope, room, page, asked, receiver) },
     );
 }
 
 /// Accepts in a thread, and answers here.
 fn accept_and_answer<'s, E: 's, J, H, K, R>(
     scope: &Scope<'s, E>,
-    alloc: Global,
-    rt: &'s R,
     room: &'s SharedRoom<J, H, K>,
-    service: &'s Service<J>,
-    listener: &'s TcpListener,
-    page: PageOfRoom<'s>,
-    number: u8,
-    crowd: &'s Crowd,
+    page: &'s PageOfRoom<'s, J, R>,
     asked: Sender<Asked>,
     receiver: Receiver<Asked>,
 )
@@ -174,18 +143,18 @@ where
     H: Wait + Drop + Send + Sync + 's,
     K: Keeper + Drop + Send + Sync + 's,
     R: Threads + Wait + Sync + Clock + AllocGlobal + RandomSource + 's,
-    requires { (0 < number) × (number ≤ J.seats) }
+    requires { (0 < page.now.seat) × (page.now.seat ≤ J.seats) }
 {
-    let accepting = scope.spawn(move || accept_arrivals(
-        alloc, rt, service, listener, page, crowd, asked,
-    ));
+    let serving = page.serving;
+    let accepting = scope.spawn(move || accept_arrivals(page, asked));
     if accepting.is_err() {
-        service.give_up(rt, listener, SeatsFault::Thread);
+        serving.give_up(page.port, SeatsFault::Thread);
         return;
     }
-    let visits = Visits::new(rt, service, receiver);
     answer_visits(
-        alloc, rt, room, service, page.site, page.name, number, visits,
+        room,
+        page,
+        Visits::new(serving.rt, serving.service, receiver),
     );
 }
 
@@ -193,13 +162,8 @@ where
 /// all other requests are refused. A request that finds the seat free has it until it is answered; a visit has it for
 /// all that follow.
 fn answer_visits<J, H, K, R>(
-    alloc: Global,
-    rt: &R,
     room: &SharedRoom<J, H, K>,
-    service: &Service<J>,
-    site: &Site,
-    name: &RoomName,
-    number: u8,
+    page: &PageOfRoom<'_, J, R>,
     visits: Visits<'_, J, R>,
 )
 where
@@ -207,20 +171,25 @@ where
     H: Wait + Drop,
     K: Keeper + Drop,
     R: Wait + Clock + AllocGlobal + RandomSource,
-    requires { (0 < number) × (number ≤ J.seats) }
+    requires { (0 < page.now.seat) × (page.now.seat ≤ J.seats) }
 {
+    let rt = page.serving.rt;
+    let service = page.serving.service;
     let mut visits = visits;
     for _ in rt.forever() {
         if !visits.wait() {
             return;
         }
-        match service.take_free(rt, number) {
+        match service.take_free(rt, page.seat) {
             Some(seat) => {
                 let seats = service.seats();
-                let seat = answer_at(alloc, rt, room, seat, seats, site, name, &mut visits);
+                let seat = answer_at(room, page, seat, seats, &mut visits);
                 service.put_back(rt, seat);
             }
-            None => answer_each(rt, &mut TakenPage::new(site, &document()), &mut visits),
+            None => {
+                let mut taken = TakenPage::new(&page.port.site, &document());
+                answer_each(rt, &mut taken, &mut visits);
+            }
         }
         visits.leave();
     }
@@ -228,13 +197,10 @@ where
 
 /// Answers requests at the page of a seat, until the page gives the seat back.
 fn answer_at<J, H, K, R>(
-    alloc: Global,
-    rt: &R,
     room: &SharedRoom<J, H, K>,
+    page: &PageOfRoom<'_, J, R>,
     seat: Seat<J>,
     seats: u8,
-    site: &Site,
-    name: &RoomName,
     visits: &mut Visits<'_, J, R>,
 ) -> Seat<J>
 where
@@ -245,14 +211,15 @@ where
     requires { seats ≡ J.seats }
     ensures { result.number ≡ seat.number }
 {
+    let rt = page.serving.rt;
     let mut page = SeatPage::new(
-        alloc,
+        rt.alloc(),
         rt,
         room,
         seat,
         seats,
-        site,
-        name.as_slice(),
+        &page.port.site,
+        page.name.as_slice(),
         &document(),
     );
     answer_page(rt, &mut page, visits);

@@ -7,14 +7,14 @@ ghost use Rattle.console_1401.specs.Served.{AreAllSeats};
 ghost use Rattle.serving_room.specs.Accounted.{IsAccounted};
 
 use crate::paging::{PagePort, start_pages};
-use crate::room_pages::RoomPages;
+use crate::room_pages::{RoomPages, Serving};
 use crate::watch::Watch;
 use bytes_sockets::shut_down;
 use bytes_streams::Source;
 use console_1401::Door;
 use room_1401::{Keeper, Room, RoomId, Seat, SharedRoom};
 use serving_seats::{SeatsFault, Service, accept_each};
-use std::alloc::{AllocGlobal, Global};
+use std::alloc::AllocGlobal;
 use std::net::TcpListener;
 use std::random::RandomSource;
 use std::sync::Wait;
@@ -57,7 +57,6 @@ pub struct SeatsServed<K: Keeper + Drop> {
 /// once; the others go on until the room is closed. So does a page whose threads are refused, or the memory for those
 /// who wait. That an entry wasn't kept is reported at once too.
 pub fn serve_seats<J, H, K, R, S, D>(
-    alloc: Global,
     rt: &R,
     room: SharedRoom<J, H, K>,
     seats: Vec<Seat<J>>,
@@ -89,11 +88,16 @@ where
     ensures accounted { result.fault ≢ Some SeatsFault.Unreturned
         → IsAccounted J.seats (kept_part (K.has_failed result.keeper) result.room.journal) }
 {
-    let (seats, fault) = match Service::new(alloc, seats) {
+    let (seats, fault) = match Service::new(rt.alloc(), seats) {
         Ok(service) => {
-            serve_connections(
-                alloc, rt, &room, &service, consoles, pages, watch, input, door,
-            );
+            let in_common = RoomPages::new(rt);
+            let serving = Serving {
+                rt,
+                service: &service,
+                pages: &in_common,
+                watch,
+            };
+            serve_connections(&serving, &room, consoles, pages, input, door);
             service.into_seats()
         }
         Err(seats) => (Some(seats), Some(SeatsFault::Memory)),
@@ -139,13 +143,10 @@ fn end_service<J: RoomId, H: Wait + Drop, K: Keeper + Drop>(
 
 /// Attends consoles and answers pages until the input closes the room, and until all of them have ended.
 fn serve_connections<J, H, K, R, S, D>(
-    alloc: Global,
-    rt: &R,
+    serving: &Serving<'_, J, R>,
     room: &SharedRoom<J, H, K>,
-    service: &Service<J>,
     consoles: Option<&TcpListener>,
     pages: &[PagePort],
-    watch: &Watch,
     input: S,
     door: &D,
 )
@@ -159,18 +160,12 @@ where
     requires pages { length pages.now ≤ J.seats }
     requires count { J.seats < 2 ^ 8 }
 {
-    let common = RoomPages::new(rt);
-    let common = &common;
     thread::scope(
         thread::scope_env(),
-        rt,
+        serving.rt,
         move |scope|
             requires { (length pages.now ≤ J.seats) × (J.seats < 2 ^ 8) }
-        {
-            listen(
-                scope, alloc, rt, room, service, consoles, pages, common, watch, input, door,
-            )
-        },
+        { listen(scope, serving, room, consoles, pages, input, door) },
     );
 }
 
@@ -178,14 +173,10 @@ where
 /// consoles until then.
 fn listen<'s, E: 's, J, H, K, R, S, D>(
     scope: &Scope<'s, E>,
-    alloc: Global,
-    rt: &'s R,
+    serving: &'s Serving<'s, J, R>,
     room: &'s SharedRoom<J, H, K>,
-    service: &'s Service<J>,
     consoles: Option<&'s TcpListener>,
     pages: &'s [PagePort],
-    common: &'s RoomPages,
-    watch: &'s Watch,
     input: S,
     door: &'s D,
 )
@@ -199,29 +190,26 @@ where
     requires pages { length pages.now ≤ J.seats }
     requires count { J.seats < 2 ^ 8 }
 {
-    let closing = scope.spawn(move || close_by_input(rt, service, consoles, pages, input));
+    let rt = serving.rt;
+    let service = serving.service;
+    let closing = scope.spawn(move || close_by_input(serving, consoles, pages, input));
     if closing.is_err() {
         service.note(rt, SeatsFault::Thread);
         return;
     }
-    if scope
-        .spawn(move || report_troubles(rt, service, watch))
-        .is_err()
-    {
+    if scope.spawn(move || report_troubles(serving)).is_err() {
         service.note(rt, SeatsFault::Thread);
     }
-    start_pages(scope, alloc, rt, room, service, pages, common, watch);
+    start_pages(scope, serving, room, pages);
     if let Some(listener) = consoles {
-        accept_each(scope, alloc, rt, room, service, listener, door);
+        accept_each(scope, rt.alloc(), rt, room, service, listener, door);
     }
 }
 
 /// Reports at once that a port was closed while the room is open, or that an entry wasn't kept.
-fn report_troubles<J: RoomId, R: Wait + Clock + Eprint>(
-    rt: &R,
-    service: &Service<J>,
-    watch: &Watch,
-) {
+fn report_troubles<J: RoomId, R: Wait + Clock + Eprint>(serving: &Serving<'_, J, R>) {
+    let rt = serving.rt;
+    let service = serving.service;
     let mut is_port_told = false;
     let mut is_loss_told = false;
     for _ in rt.forever() {
@@ -229,7 +217,7 @@ fn report_troubles<J: RoomId, R: Wait + Clock + Eprint>(
             is_port_told = true;
             let _reported = eprintln!(rt; "ibm1401: a port was closed; the room goes on");
         }
-        if !is_loss_told && watch.has_lost() {
+        if !is_loss_told && serving.watch.has_lost() {
             is_loss_told = true;
             let _reported = eprintln!(rt;
                 "ibm1401: the journal cannot be written; no command is carried out any more"
@@ -244,12 +232,13 @@ fn report_troubles<J: RoomId, R: Wait + Clock + Eprint>(
 
 /// Waits until the input closes the room, shuts the listeners down, and gives the consoles a second to end.
 fn close_by_input<J: RoomId, R: Wait + Clock, S: Source + Drop>(
-    rt: &R,
-    service: &Service<J>,
+    serving: &Serving<'_, J, R>,
     consoles: Option<&TcpListener>,
     pages: &[PagePort],
     input: S,
 ) {
+    let rt = serving.rt;
+    let service = serving.service;
     let mut input = input;
     service.close_by(rt, &mut input);
     if let Some(listener) = consoles {

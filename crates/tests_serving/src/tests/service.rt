@@ -247,7 +247,6 @@ where
     requires seats { AreAllSeats J.seats seats.items }
     requires count { (0 < J.seats) × (J.seats < 2 ^ 8) }
 {
-    let alloc = rt.alloc();
     let (bytes, fails, _) = *here.closing;
     let input = Pressed::new(here.button, bytes, fails);
     let door = HoldingDoor {
@@ -256,7 +255,6 @@ where
     };
     let watch = Watch::new(None, false);
     serve_seats(
-        alloc,
         rt,
         room,
         seats,
