@@ -3,12 +3,12 @@ use Rattle.std.proofs.Common.{◌≡◌, ℕ, List, [], ◌∷◌, refl}
 use Rattle.std.specs.Prelude.{codes}
 use Rattle.bcd_1401.specs.Graphic.{graphics}
 use Rattle.devices_1401.specs.declared.print_line.PrintLine.{PrintLine}
-use Rattle.job_runner.specs.declared.paper.Place.{Place}
+use Rattle.job_runner.specs.declared.paper.PaperPlace.{PaperPlace}
 use Rattle.machine_notation.specs.Characters.{graphics_of, trimmed}
 use Rattle.job_runner.specs.Paper.{line_text, paper_text}
 use Rattle.job_runner.specs.PaperRead.{ReadLine, read_back, read_of}
 
-abbrev place : ℕ → ℕ → Place
+abbrev place : ℕ → ℕ → PaperPlace
 place form line = record { form = form; line = line }
 
 abbrev read : ℕ → ℕ → List ℕ → ReadLine

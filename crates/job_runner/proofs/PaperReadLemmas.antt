@@ -11,7 +11,7 @@ use Rattle.std.specs.Prelude.{if◌then◌else◌, nat_lt, slice_index}
 use Rattle.bcd_1401.specs.Graphic.{graphics}
 use Rattle.devices_1401.specs.Carriage.{forms}
 use Rattle.devices_1401.specs.declared.print_line.PrintLine.{PrintLine}
-use Rattle.job_runner.specs.declared.paper.Place.{Place}
+use Rattle.job_runner.specs.declared.paper.PaperPlace.{PaperPlace}
 use Rattle.machine_notation.specs.Bytes.{line_feed}
 use Rattle.machine_notation.specs.Characters.{graphics_of, trimmed}
 use Rattle.job_runner.specs.Paper.{begun_at, form_feed, forms_on, line_text, new_forms, paper_text}
@@ -40,14 +40,14 @@ still [] = tt
 still (char ∷ chars) = (table_is_still graphics char graphics_are_still, still chars)
 
 -- a graphic is read into its line
-still_read : (place : Place) (so_far bytes : List ℕ) (feeds ends : Bool) (byte : ℕ) → (byte == form_feed) ≡ feeds
+still_read : (place : PaperPlace) (so_far bytes : List ℕ) (feeds ends : Bool) (byte : ℕ) → (byte == form_feed) ≡ feeds
     → (byte == line_feed) ≡ ends → (not feeds && not ends) ≡ true
     → read_on place so_far (byte ∷ bytes) ≡ read_on place (so_far ++ byte ∷ []) bytes
 still_read place so_far bytes true ends byte e_feeds e_ends is_still = cc
 still_read place so_far bytes false true byte e_feeds e_ends is_still = cc
 still_read place so_far bytes false false byte e_feeds e_ends is_still = rw (e_feeds, e_ends) refl
 
-graphics_read : (place : Place) (so_far text rest : List ℕ) → AllByRecursion (λ byte. is_still byte ≡ true) text
+graphics_read : (place : PaperPlace) (so_far text rest : List ℕ) → AllByRecursion (λ byte. is_still byte ≡ true) text
     → read_on place so_far (text ++ rest) ≡ read_on place (so_far ++ text) rest
 graphics_read place so_far [] rest all =
     ap (λ (graphics : List ℕ). read_on place graphics rest) (sym (append-nil so_far))
@@ -67,7 +67,7 @@ lines_read (suc n) form line rest =
     ∙ ap (λ (at : ℕ). read_on (record { form = form; line = at }) [] rest) (omega arith)
 
 -- form feeds lead to as many forms on
-some_forms_read : (n : ℕ) (place : Place) (rest : List ℕ)
+some_forms_read : (n : ℕ) (place : PaperPlace) (rest : List ℕ)
     → read_on place [] (replicate (suc n) form_feed ++ rest)
     ≡ read_on (record { form = (place.form + suc n) % forms; line = 1 }) [] rest
 some_forms_read zero place rest = refl
@@ -76,7 +76,7 @@ some_forms_read (suc n) place rest =
     ∙ ap (λ (form : ℕ). read_on (record { form = form; line = 1 }) [] rest)
     (mod-add-mod (place.form + 1) forms (suc n) ∙ ap (λ (form : ℕ). form % forms) (omega arith))
 
-forms_read : (n : ℕ) (place : Place) (rest : List ℕ) → read_on place [] (replicate n form_feed ++ rest)
+forms_read : (n : ℕ) (place : PaperPlace) (rest : List ℕ) → read_on place [] (replicate n form_feed ++ rest)
     ≡ read_on (record {
       form = if n == 0 then place.form else (place.form + n) % forms;
       line = if n == 0 then place.line else 1;
@@ -118,7 +118,7 @@ not_above on first line true false e_same e_above one = rw e_same (grind (arith,
 not_above on first line false above e_same e_above one = rw e_same one
 
 -- a line is read at its place
-line_read : (place : Place) (line : PrintLine) (rest : List ℕ) → place.form < forms → IsOnForm line
+line_read : (place : PaperPlace) (line : PrintLine) (rest : List ℕ) → place.form < forms → IsOnForm line
     → read_on place [] (line_text place line ++ rest) ≡ read_of_line line ++ read_on (place_after line) [] rest
 unfolding line_text
 line_read place line rest old_is on =
@@ -144,7 +144,7 @@ line_read place line rest old_is on =
     ∙ ap (λ (at : ℕ). read_on (record { form = line.form; line = at }) [] behind) down
     ∙ graphics_read (record { form = line.form; line = line.line }) [] text (line_feed ∷ rest) (still (trimmed line.text))
 
-lines_read_back : (place : Place) (lines : List PrintLine) → place.form < forms → AllByRecursion IsOnForm lines
+lines_read_back : (place : PaperPlace) (lines : List PrintLine) → place.form < forms → AllByRecursion IsOnForm lines
     → read_back place (paper_text place lines) ≡ read_of lines
 lines_read_back place [] old_is all = refl
 lines_read_back place (line ∷ lines) old_is all =
@@ -153,11 +153,11 @@ lines_read_back place (line ∷ lines) old_is all =
     (lines_read_back (place_after line) lines all.0.form all.1)
 
 -- the law of the paper's text
-pub paper_read_back : (place : Place) (lines : List PrintLine) → IsReadBack place lines
+pub paper_read_back : (place : PaperPlace) (lines : List PrintLine) → IsReadBack place lines
 paper_read_back place lines old_is all = lines_read_back place lines old_is (recursion_from_All IsOnForm lines all)
 
 -- what has one text is read alike
-pub only_paper : (place : Place) (lines : List PrintLine) → IsOnlyPaper place lines
+pub only_paper : (place : PaperPlace) (lines : List PrintLine) → IsOnlyPaper place lines
 only_paper place lines old_is all other others same =
     sym (paper_read_back place other old_is others)
     ∙ ap (λ (text : List ℕ). read_back place text) same

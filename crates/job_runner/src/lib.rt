@@ -42,4 +42,4 @@ pub use fault::JobFault;
 pub use job::{JobEnd, STRETCH, run_job};
 pub use loading::press_load_key;
 pub use output::Output;
-pub use paper::{Place, put_paper};
+pub use paper::{PaperPlace, put_paper};

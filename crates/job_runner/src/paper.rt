@@ -12,16 +12,16 @@ const FORMS: u32 = 10_000;
 
 /// The place at which the next line of a text is.
 #[derive(Clone, Copy, Debug, PartialEq, Eq)]
-pub struct Place {
+pub struct PaperPlace {
     /// The form.
     pub form: u16,
     /// The line of the form, from 1 on.
     pub line: u16,
 }
 
-impl Place {
+impl PaperPlace {
     /// The first line of form 1.
-    pub const FIRST: Place = Place { form: 1, line: 1 };
+    pub const FIRST: PaperPlace = PaperPlace { form: 1, line: 1 };
 }
 
 /// Adds a byte as many times as asked for.
@@ -38,7 +38,7 @@ fn put_times(text: &mut Vec<u8>, count: u32, byte: u8) -> Result<(), AllocError>
 
 /// How many new forms the paper comes to between a place and a line. The carriage only goes down, so a line above the
 /// place on a form of the same number is 10,000 forms further on.
-fn new_forms(place: Place, line: &PrintLine) -> u32
+fn new_forms(place: PaperPlace, line: &PrintLine) -> u32
     ensures { result ≡ new_forms place line.now }
 {
     let on = (u32::from(line.form) + FORMS - u32::from(place.form) % FORMS) % FORMS;
@@ -51,7 +51,11 @@ fn new_forms(place: Place, line: &PrintLine) -> u32
 
 /// Adds a printed line to a text that has reached a place, and returns the place below the line.
 #[tactic(auto, unfolding(crate::specs::Paper::line_text))]
-fn put_line(text: &mut Vec<u8>, place: Place, line: &PrintLine) -> Result<Place, AllocError>
+fn put_line(
+    text: &mut Vec<u8>,
+    place: PaperPlace,
+    line: &PrintLine,
+) -> Result<PaperPlace, AllocError>
     ensures text { OnOk result (text.new.items ≡ text.old.items ++ line_text place line.now) }
     ensures place { IfOk result (λ next. next ≡ place_after line.now) }
 {
@@ -62,7 +66,7 @@ fn put_line(text: &mut Vec<u8>, place: Place, line: &PrintLine) -> Result<Place,
     put_times(text, u32::from(number.saturating_sub(from)), b'\n')?;
     put_characters(text, &line.text)?;
     text.push(b'\n')?;
-    Ok(Place {
+    Ok(PaperPlace {
         form: line.form,
         line: number + 1,
     })
@@ -73,7 +77,11 @@ fn put_line(text: &mut Vec<u8>, place: Place, line: &PrintLine) -> Result<Place,
 /// # Errors
 ///
 /// If the memory for the text is refused. Part of it may have been added.
-pub fn put_paper(text: &mut Vec<u8>, place: Place, lines: &[PrintLine]) -> Result<Place, AllocError>
+pub fn put_paper(
+    text: &mut Vec<u8>,
+    place: PaperPlace,
+    lines: &[PrintLine],
+) -> Result<PaperPlace, AllocError>
     ensures text { OnOk result (text.new.items ≡ text.old.items ++ paper_text place lines.now) }
     ensures place { IfOk result (λ next. next ≡ place_behind place lines.now) }
 

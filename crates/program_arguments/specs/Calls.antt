@@ -20,12 +20,12 @@ use Rattle.program_call.specs.declared.call.Product.{Product}
 use Rattle.program_call.specs.declared.call.Product.TheVariants as product
 use Rattle.program_call.specs.declared.call.Resuming.{Resuming}
 use Rattle.program_call.specs.declared.call.Seating.{Seating}
-use Rattle.program_call.specs.declared.call.Service.{Service}
+use Rattle.program_call.specs.declared.call.PlainService.{PlainService}
 use Rattle.program_call.specs.declared.call.Showing.{Showing}
 use Rattle.program_call.specs.declared.call.Start.{Start}
 use Rattle.program_call.specs.declared.call.Start.TheVariants as start
-use Rattle.program_call.specs.declared.call.Told.{Told}
-use Rattle.program_call.specs.declared.call.Told.TheVariants as told
+use Rattle.program_call.specs.declared.call.Reported.{Reported}
+use Rattle.program_call.specs.declared.call.Reported.TheVariants as told
 use Rattle.serving_http.specs.declared.origins.Origin.{Origin}
 use Rattle.machine_graphics.specs.declared.graphics.Graphics.{Graphics}
 use Rattle.serving_http.specs.Origins.{is_text_of}
@@ -54,7 +54,7 @@ are_one None other = false
 are_one (Some one) None = false
 are_one (Some one) (Some other) = bytes_eq one other
 
-abbrev pub tells_all : Told → Bool
+abbrev pub tells_all : Reported → Bool
 tells_all told.First = false
 tells_all told.All = true
 
@@ -195,7 +195,7 @@ IsSeated found begins operators asked =
 -- `serve` for these operators: a plain room where they come by consoles alone is gone with them
 abbrev pub IsRoomThat : Found → Operators → Bool → Call → Type 0
 IsRoomThat found operators true asked =
-    (service : Service) × (asked ≡ call.Serve service)
+    (service : PlainService) × (asked ≡ call.Serve service)
     × (Some service.port ≡ operators.port) × (service.seats ≡ operators.seats)
     × IsNumberOr 16 found (codes "size") 4000 service.size
 IsRoomThat found operators false asked =

@@ -9,7 +9,7 @@ use crate::languages::{LANGUAGE, language_in};
 use crate::options::{Argument, FREE, Kind, TEXT, name_in};
 use crate::sizes::{SIZE, named_size_in};
 use clap::{ArgMatches, Error};
-use program_call::{Assembling, Call, Product, Tables, Told};
+use program_call::{Assembling, Call, Product, Reported, Tables};
 use std::alloc::{AllocError, Global};
 
 /// The arguments of `assemble`: what is written, how, and of which source.
@@ -131,9 +131,9 @@ fn assembling_in(
     ensures { IfOk result (λ asked. IsAssembling (found_of matches.now) file.now asked) }
 {
     let told = if matches.get_flag("all") {
-        Told::All
+        Reported::All
     } else {
-        Told::First
+        Reported::First
     };
     Ok(Assembling {
         file: String::from_str(alloc, file)?,

@@ -23,7 +23,7 @@ mod sizes;
 pub mod reading;
 
 pub use program_call::{
-    Assembling, Call, DEFAULT_SIZE, Job, NewJournal, Opening, Operators, Product, Resuming,
-    Seating, Service, Showing, Start, Tables, Told,
+    Assembling, Call, DEFAULT_SIZE, Job, NewJournal, Opening, Operators, PlainService, Product,
+    Reported, Resuming, Seating, Showing, Start, Tables,
 };
 pub use reading::read_call;

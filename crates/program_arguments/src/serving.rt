@@ -10,7 +10,7 @@ use crate::options::{Argument, FREE, Kind, TEXT, name_in};
 use crate::sizes::{SIZE, size_in};
 use clap::builder::ValueParser;
 use clap::{ArgMatches, Error};
-use program_call::{Call, Opening, Operators, Seating, Service};
+use program_call::{Call, Opening, Operators, PlainService, Seating};
 use serving_http::{Origin, OriginFault, read_origin};
 use std::alloc::{AllocError, Global};
 
@@ -220,7 +220,7 @@ fn room_call(
     match (is_plain(matches), port, page) {
         (true, Some(port), None) => {
             let size = size_in(matches);
-            Ok(Call::Serve(Service { size, seats, port }))
+            Ok(Call::Serve(PlainService { size, seats, port }))
         },
         _ => {
             let opening = opening_in(alloc, matches)?;

@@ -7,7 +7,7 @@ use autocoder_statements::Language;
 use bytes_files::{FileFault, WriteFault, is_one_file, put_whole, read_whole};
 use bytes_streams::ToWriter;
 use machine_graphics::{Graphics, Suggestion, in_ours, in_theirs, suggest_foreign};
-use program_call::{Assembling, Product, Told, is_refused, size_for};
+use program_call::{Assembling, Product, Reported, is_refused, size_for};
 use std::alloc::Global;
 use std::io;
 use std::rt::Files;
@@ -250,7 +250,7 @@ pub fn assemble_file<R: Files + Print + Eprint + AllocGlobal>(
     };
     let text = read_source(rt, file)?;
     let suggested = match (source_graphics, told) {
-        (None, Told::First) => None,
+        (None, Reported::First) => None,
         _ => suggest_foreign(source_graphics, text.as_slice()),
     };
     let source = in_ours(source_graphics, text);
@@ -264,7 +264,7 @@ pub fn assemble_file<R: Files + Print + Eprint + AllocGlobal>(
     let outcome = write_asked(rt, language, source.as_slice(), size, product, out, deck);
     report_suggestion(rt, name.as_str(), suggested, &outcome);
     match (outcome, told) {
-        (Err(AssembleFault::Source(first)), Told::All) if first.kind != AsmKind::Memory => Err(
+        (Err(AssembleFault::Source(first)), Reported::All) if first.kind != AsmKind::Memory => Err(
             all_told(
                 rt.alloc(),
                 name.as_str(),
@@ -274,7 +274,13 @@ pub fn assemble_file<R: Files + Print + Eprint + AllocGlobal>(
                 AssembleFault::Source(first),
             ),
         ),
-        (Ok(()), Told::All) => tell_warnings(rt, name.as_str(), language, source.as_slice(), size),
-        (outcome, Told::First | Told::All) => outcome,
+        (Ok(()), Reported::All) => tell_warnings(
+            rt,
+            name.as_str(),
+            language,
+            source.as_slice(),
+            size,
+        ),
+        (outcome, Reported::First | Reported::All) => outcome,
     }
 }

@@ -50,12 +50,12 @@ pub struct Assembling {
     /// The name of the file of the deck that loads itself; without one there is none.
     pub deck: Option<String>,
     /// How many faults of the source are told.
-    pub told: Told,
+    pub told: Reported,
 }
 
 /// How many faults of a source are told.
 #[derive(Clone, Copy, Debug, PartialEq, Eq)]
-pub enum Told {
+pub enum Reported {
     /// The first.
     First,
     /// All, each on a line of its own; of a source without any, its warnings.
@@ -64,7 +64,7 @@ pub enum Told {
 
 /// How many places the machine has, how many operators share it, and the port at which they come.
 #[derive(Clone, Copy, Debug, PartialEq, Eq)]
-pub struct Service {
+pub struct PlainService {
     /// How many places core storage has.
     pub size: u16,
     /// How many seats there are, from 1 to 8.
@@ -230,7 +230,7 @@ pub enum Call {
     /// A program run to its end.
     Run(Job),
     /// A room that operators share, each with one connection.
-    Serve(Service),
+    Serve(PlainService),
     /// A room that operators share, and whose seats are taken again.
     ServeSeats(Seating),
     /// A journal, shown or checked.

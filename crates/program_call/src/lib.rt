@@ -13,7 +13,7 @@ pub mod call;
 pub mod sizes;
 
 pub use call::{
-    Assembling, Call, DEFAULT_SIZE, Job, NewJournal, Opening, Operators, Product, Resuming,
-    Seating, Service, Session, Showing, Start, Tables, Told,
+    Assembling, Call, DEFAULT_SIZE, Job, NewJournal, Opening, Operators, PlainService, Product,
+    Reported, Resuming, Seating, Session, Showing, Start, Tables,
 };
 pub use sizes::{is_refused, size_for};

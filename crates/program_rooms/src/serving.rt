@@ -4,7 +4,7 @@ ghost use Rattle.program_rooms.specs.Outcome.{service_outcome, start_fault};
 
 use crate::fault::{OpenFault, not_told};
 use console_1401::{ServeFault, serve};
-use program_call::Service;
+use program_call::PlainService;
 use program_sessions::HoldFault;
 use room_1401::{Opened, RoomId, SharedRoom, StartFault};
 use serving_room::TakingTurns;
@@ -57,7 +57,7 @@ pub fn open_room<
         + Print
         + AllocGlobal
         + Net<Listener = TcpListener, Stream = TcpStream>,
->(rt: &R, service: Service) -> Result<(), OpenFault> {
+>(rt: &R, service: PlainService) -> Result<(), OpenFault> {
     serve_room::<Brand, R>(rt, rt.alloc(), service, Opened::new(service.seats))
 }
 
@@ -65,12 +65,12 @@ pub fn open_room<
 fn serve_room<
     J: RoomId + Send + Sync,
     R: Threads + Wait + Sync + Clock + Print + Net<Listener = TcpListener, Stream = TcpStream>,
->(rt: &R, alloc: Global, service: Service, opened: Opened) -> Result<(), OpenFault>
+>(rt: &R, alloc: Global, service: PlainService, opened: Opened) -> Result<(), OpenFault>
     requires history { opened.book ≡ J.book }
     requires ledger { (opened.ledger ≡ J.name) × (opened.parts ≡ J.parts) × (J.parts ≡ J.seats) }
     requires named { (service.size ≡ J.size) × (service.seats ≡ J.seats) }
 {
-    let Service { size, seats, port } = service;
+    let PlainService { size, seats, port } = service;
     let (room, seats) = match SharedRoom::<J, &R>::power_on(rt, alloc, size, seats, opened) {
         Ok(opened) => opened,
         Err(fault) => return Err(start_fault(fault)),

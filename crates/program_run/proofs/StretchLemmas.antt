@@ -7,7 +7,7 @@ use Rattle.devices_1401.specs.declared.print_line.PrintLine.{PrintLine}
 use Rattle.machine_panel.specs.declared.stop.Stop.{Stop}
 use Rattle.machine_panel.specs.declared.stop.Stop.TheVariants as stop
 use Rattle.cpu_1401.specs.State.{State}
-use Rattle.job_runner.specs.declared.paper.Place.{Place}
+use Rattle.job_runner.specs.declared.paper.PaperPlace.{PaperPlace}
 use Rattle.job_runner.specs.Paper.{place_behind}
 use Rattle.job_runner.specs.Unattended.{AtEnd, Begins, GoesOn, IsPartOf, Job, after_job, after_output, unattended}
 use Rattle.program_run.specs.declared.deck_running.Stretch.{Stretch}
@@ -95,7 +95,7 @@ stretch_begins n left s part few e first =
     (subst (λ (k : ℕ). IsPartOf (unattended n s).lines (unattended n s).cards (unattended k s)) parts (first (left - n)))
 
 -- how far a job is: what was written, what was counted, and what is left
-pub record SoFar (limit left : ℕ) (start now : State) (first at : Received) (place : Place) (printed punched : ℕ)
+pub record SoFar (limit left : ℕ) (start now : State) (first at : Received) (place : PaperPlace) (printed punched : ℕ)
     : Type 0 where
   pub lines : List PrintLine
   pub cards : List Card
@@ -150,7 +150,7 @@ counts_add : (X : Type 0) (xs ys : List X) (so_far more : ℕ) → so_far ≡ mi
     → min (so_far + more) most_counted ≡ min (length (xs ++ ys)) most_counted
 counts_add X xs ys so_far more e e_more = rw (e, e_more) (simp length-append (omega arith))
 
-pub grown : {limit left : ℕ} {start now after : State} {first at new : Received} {place : Place} {printed punched : ℕ}
+pub grown : {limit left : ℕ} {start now after : State} {first at new : Received} {place : PaperPlace} {printed punched : ℕ}
     {stretch : Stretch} → SoFar limit left start now first at place printed punched
     → RanStretch left place now after at new stretch → stretch.steps ≤ left
     → Grown limit left start after first new stretch printed punched
@@ -165,9 +165,9 @@ grown {limit} {left} {start} {now} {after} {first} {at} {new} {place} {printed} 
       cards = cards;
       written =
           both_written first_place before.lines ran.lines before.cards ran.cards first at new before.written
-          (subst (λ (p : Place). HasWritten p ran.lines ran.cards at new) before.place_is ran.written);
+          (subst (λ (p : PaperPlace). HasWritten p ran.lines ran.cards at new) before.place_is ran.written);
       place_is = ran.place_is
-          ∙ ap (λ (p : Place). place_behind p ran.lines) before.place_is
+          ∙ ap (λ (p : PaperPlace). place_behind p ran.lines) before.place_is
           ∙ sym (place_behind_both first_place before.lines ran.lines);
       printed_is =
           counts_add PrintLine before.lines ran.lines printed stretch.printed before.printed_is ran.printed_is;
@@ -216,7 +216,7 @@ all_written {first = first} {new = new} g is =
     subst (λ (job : Job). HasWritten first_place job.lines job.cards first new) (sym (whole_job g is)) g.written
 
 -- a stretch that broke off
-pub part_so_far : {limit left : ℕ} {start now : State} {first at new : Received} {place : Place}
+pub part_so_far : {limit left : ℕ} {start now : State} {first at new : Received} {place : PaperPlace}
     {printed punched : ℕ} → SoFar limit left start now first at place printed punched
     → HasWrittenPart place (unattended left now).lines (unattended left now).cards at new
     → HasWrittenPart first_place (unattended limit start).lines (unattended limit start).cards first new
@@ -224,4 +224,4 @@ part_so_far {left = left} {now = now} {first = first} {at = at} {new = new} befo
     let rest = unattended left now in
     subst (λ (job : Job). HasWrittenPart first_place job.lines job.cards first new) (sym before.job)
     (part_written_behind first_place before.lines rest.lines before.cards rest.cards first at new before.written
-    (subst (λ (p : Place). HasWrittenPart p rest.lines rest.cards at new) before.place_is part))
+    (subst (λ (p : PaperPlace). HasWrittenPart p rest.lines rest.cards at new) before.place_is part))

@@ -11,7 +11,7 @@ use Rattle.machine_graphics.specs.Graphics.{ours_of, theirs_of}
 use Rattle.machine_graphics.specs.declared.graphics.Graphics.{Graphics}
 use Rattle.machine_graphics.proofs.GraphicsLemmas.{all_again}
 use Rattle.job_runner.specs.DeckText.{card_text}
-use Rattle.job_runner.specs.declared.paper.Place.{Place}
+use Rattle.job_runner.specs.declared.paper.PaperPlace.{PaperPlace}
 use Rattle.job_runner.specs.Paper.{line_text, paper_text, place_after, place_behind}
 use Rattle.job_runner.specs.Unattended.{IsPartOf, Job}
 use Rattle.bytes_streams.specs.Sink.{AppendsPart}
@@ -42,7 +42,7 @@ part_behind old between new text more whole e all part = (
 )
 
 -- the text of lines after others
-pub paper_behind : (place : Place) (lines more : List PrintLine)
+pub paper_behind : (place : PaperPlace) (lines more : List PrintLine)
     → paper_text place (lines ++ more) ≡ paper_text place lines ++ paper_text (place_behind place lines) more
 paper_behind place [] more = refl
 paper_behind place (line ∷ lines) more =
@@ -51,13 +51,13 @@ paper_behind place (line ∷ lines) more =
     (paper_text (place_behind (place_after line) lines) more))
 
 -- where the paper goes on after them
-pub place_behind_both : (place : Place) (lines more : List PrintLine)
+pub place_behind_both : (place : PaperPlace) (lines more : List PrintLine)
     → place_behind place (lines ++ more) ≡ place_behind (place_behind place lines) more
 place_behind_both place [] more = refl
 place_behind_both place (line ∷ lines) more = place_behind_both (place_after line) lines more
 
 -- lines and cards written after others
-pub both_written : (place : Place) (lines more : List PrintLine) (cards others : List Card) (a b c : Received)
+pub both_written : (place : PaperPlace) (lines more : List PrintLine) (cards others : List Card) (a b c : Received)
     → HasWritten place lines cards a b → HasWritten (place_behind place lines) more others b c
     → HasWritten place (lines ++ more) (cards ++ others) a c
 both_written place lines more cards others a b c first then_more = record {
@@ -71,11 +71,11 @@ both_written place lines more cards others a b c first then_more = record {
 }
 
 -- nothing was written of no lines and no cards
-pub none_written : (place : Place) (a : Received) → HasWritten place [] [] a a
+pub none_written : (place : PaperPlace) (a : Received) → HasWritten place [] [] a a
 none_written place a = record { paper = Appends-nil a.paper; punch = Appends-nil a.punch }
 
 -- a part of what a job writes was written, if it is one of its first lines and cards
-pub first_part_written : {lines : List PrintLine} {cards : List Card} {job : Job} (place : Place) (a b : Received)
+pub first_part_written : {lines : List PrintLine} {cards : List Card} {job : Job} (place : PaperPlace) (a b : Received)
     → IsPartOf lines cards job → AppendsPart a.paper b.paper (paper_text place lines)
     → AppendsPart a.punch b.punch (cards_text cards) → HasWrittenPart place job.lines job.cards a b
 first_part_written {lines} {cards} {job} place a b first paper punch = record {
@@ -89,14 +89,14 @@ first_part_written {lines} {cards} {job} place a b first paper punch = record {
 }
 
 -- the same if the paper has all these lines
-pub paper_and_part_written : {lines : List PrintLine} {cards : List Card} {job : Job} (place : Place) (a b : Received)
+pub paper_and_part_written : {lines : List PrintLine} {cards : List Card} {job : Job} (place : PaperPlace) (a b : Received)
     → IsPartOf lines cards job → Appends a.paper b.paper (paper_text place lines)
     → AppendsPart a.punch b.punch (cards_text cards) → HasWrittenPart place job.lines job.cards a b
 paper_and_part_written {lines} place a b first paper punch =
     first_part_written place a b first (all_of_it a.paper b.paper (paper_text place lines) paper) punch
 
 -- a part after lines and cards that were written
-pub part_written_behind : (place : Place) (lines more : List PrintLine) (cards others : List Card) (a b c : Received)
+pub part_written_behind : (place : PaperPlace) (lines more : List PrintLine) (cards others : List Card) (a b c : Received)
     → HasWritten place lines cards a b → HasWrittenPart (place_behind place lines) more others b c
     → HasWrittenPart place (lines ++ more) (cards ++ others) a c
 part_written_behind place lines more cards others a b c all part = record {

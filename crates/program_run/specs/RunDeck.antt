@@ -12,7 +12,7 @@ use Rattle.cpu_1401.specs.State.{State}
 use Rattle.machine_graphics.specs.Graphics.{ours_of}
 use Rattle.machine_graphics.specs.declared.graphics.Graphics.{Graphics}
 use Rattle.job_runner.specs.DeckText.{card_text}
-use Rattle.job_runner.specs.declared.paper.Place.{Place}
+use Rattle.job_runner.specs.declared.paper.PaperPlace.{PaperPlace}
 use Rattle.job_runner.specs.Paper.{paper_text, place_behind}
 use Rattle.job_runner.specs.Unattended.{Job, after_output, ended, unattended}
 use Rattle.bytes_streams.specs.Sink.{AppendsPart}
@@ -32,7 +32,7 @@ abbrev pub received : Option (List ℕ) → Option (List ℕ) → Received
 received paper punch = record { paper = paper; punch = punch }
 
 -- the paper begins at the first line of form 1
-abbrev pub first_place : Place
+abbrev pub first_place : PaperPlace
 first_place = record { form = 1; line = 1 }
 
 -- punched cards as a deck
@@ -40,12 +40,12 @@ abbrev pub cards_text : List Card → List ℕ
 cards_text cards = flat_map card_text cards
 
 -- lines and cards were written, and nothing else
-pub record HasWritten (place : Place) (lines : List PrintLine) (cards : List Card) (old new : Received) : Type 0 where
+pub record HasWritten (place : PaperPlace) (lines : List PrintLine) (cards : List Card) (old new : Received) : Type 0 where
   pub paper : Appends old.paper new.paper (paper_text place lines)
   pub punch : Appends old.punch new.punch (cards_text cards)
 
 -- beginnings of these texts were written, and nothing else
-pub record HasWrittenPart (place : Place) (lines : List PrintLine) (cards : List Card) (old new : Received)
+pub record HasWrittenPart (place : PaperPlace) (lines : List PrintLine) (cards : List Card) (old new : Received)
     : Type 0 where
   pub paper : AppendsPart old.paper new.paper (paper_text place lines)
   pub punch : AppendsPart old.punch new.punch (cards_text cards)
@@ -72,7 +72,7 @@ rest_of None limit s = unattended limit s
 rest_of (Some why) limit s = record { state = s; steps = 0; stop = why; lines = []; cards = [] }
 
 -- a stretch wrote what its steps print and punch, and leaves the rest of the job
-pub record RanStretch (limit : ℕ) (place : Place) (before after : State) (old new : Received) (stretch : Stretch)
+pub record RanStretch (limit : ℕ) (place : PaperPlace) (before after : State) (old new : Received) (stretch : Stretch)
     : Type 0 where
   pub lines : List PrintLine
   pub cards : List Card

@@ -16,7 +16,9 @@ use crate::watching::{HowFar, Watch};
 use bytes_streams::{Sink, put_all};
 use cpu_1401::{Machine, Stop};
 use devices_1401::{Card, PrintLine};
-use job_runner::{CardList, Collected, Deck, Place, press_load_key, put_cards, put_paper, run_job};
+use job_runner::{
+    CardList, Collected, Deck, PaperPlace, press_load_key, put_cards, put_paper, run_job,
+};
 use job_trace::Work;
 use program_call::Start;
 use std::alloc::Global;
@@ -47,7 +49,7 @@ struct Stretch {
     /// Why the job ended, if it did.
     stop: Option<Stop>,
     /// Where the paper goes on.
-    place: Place,
+    place: PaperPlace,
     /// How many lines were printed.
     printed: u64,
     /// How many cards were punched.
@@ -58,10 +60,10 @@ struct Stretch {
 #[tactic(auto, using(crate::proofs::WrittenLemmas::nothing_yet))]
 fn write_paper<W: Sink>(
     alloc: Global,
-    place: Place,
+    place: PaperPlace,
     lines: &[PrintLine],
     paper: &mut W,
-) -> Result<Place, Broken>
+) -> Result<PaperPlace, Broken>
     ensures place { IfOk result (λ next. next ≡ place_behind place lines.now) }
     ensures text { OnOk result (Appends (W.received paper.old) (W.received paper.new) (paper_text place lines.now)) }
     ensures good { OnOk result (W.has_failed paper.new ≡ W.has_failed paper.old) }
@@ -136,7 +138,7 @@ fn run_stretch<'d, W: Sink, P: Sink, F: Sink>(
     machine: &mut Machine,
     deck: &mut Deck<'d>,
     left: u32,
-    place: Place,
+    place: PaperPlace,
     paper: &mut W,
     punch: &mut P,
     trace: &mut Trace<F>,
@@ -240,7 +242,7 @@ fn run_deck<'d, W: Sink, P: Sink, F: Sink, T: Watch>(
 {
     trace.begin(alloc, machine)?;
     let mut left = limit;
-    let mut place = Place::FIRST;
+    let mut place = PaperPlace::FIRST;
     let mut printed: u64 = 0;
     let mut punched: u64 = 0;
     loop {

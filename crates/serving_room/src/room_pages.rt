@@ -8,7 +8,7 @@ use crate::watch::Watch;
 use room_1401::RoomId;
 use serving_http::answer_bytes;
 use serving_page::{RoomName, WholeRequest};
-use serving_seats::{SeatsFault, Service};
+use serving_seats::{SeatService, SeatsFault};
 use std::alloc::AllocGlobal;
 use std::random::RandomSource;
 use std::sync::{Mutex, Wait};
@@ -59,7 +59,7 @@ pub(crate) struct Serving<'a, J: RoomId, R> {
     /// What the threads are run by.
     pub rt: &'a R,
     /// The seats.
-    pub service: &'a Service<J>,
+    pub service: &'a SeatService<J>,
     /// What the pages have in common.
     pub pages: &'a RoomPages,
     /// What the room comes to.

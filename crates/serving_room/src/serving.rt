@@ -13,7 +13,7 @@ use bytes_sockets::shut_down;
 use bytes_streams::Source;
 use console_1401::Door;
 use room_1401::{Keeper, Room, RoomId, Seat, SharedRoom};
-use serving_seats::{SeatsFault, Service, accept_each};
+use serving_seats::{SeatService, SeatsFault, accept_each};
 use std::alloc::AllocGlobal;
 use std::net::TcpListener;
 use std::random::RandomSource;
@@ -88,7 +88,7 @@ where
     ensures accounted { result.fault ≢ Some SeatsFault.Unreturned
         → IsAccounted J.seats (kept_part (K.has_failed result.keeper) result.room.journal) }
 {
-    let (seats, fault) = match Service::new(rt.alloc(), seats) {
+    let (seats, fault) = match SeatService::new(rt.alloc(), seats) {
         Ok(service) => {
             let in_common = RoomPages::new(rt);
             let serving = Serving {

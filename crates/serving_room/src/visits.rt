@@ -4,7 +4,7 @@ use crate::arrivals::Asked;
 use crossbeam_channel::{Receiver, RecvTimeoutError, Sender};
 use room_1401::RoomId;
 use serving_page::{Requests, WholeRequest, is_accepted};
-use serving_seats::Service;
+use serving_seats::SeatService;
 use std::sync::Wait;
 use std::sync::atomic::Ordering::SeqCst;
 use std::time::{Clock, Duration, Instant};
@@ -20,7 +20,7 @@ const LOOK: u64 = 1;
 #[derive(Drop)]
 pub(crate) struct Visits<'a, J: RoomId, R: Wait + Clock> {
     rt: &'a R,
-    service: &'a Service<J>,
+    service: &'a SeatService<J>,
     asked: Receiver<Asked>,
     // The request that is answered next.
     next: Option<Asked>,
@@ -36,7 +36,7 @@ impl<'a, J: RoomId, R: Wait + Clock> Visits<'a, J, R> {
     /// Those that are received here.
     pub(crate) fn new(
         rt: &'a R,
-        service: &'a Service<J>,
+        service: &'a SeatService<J>,
         asked: Receiver<Asked>,
     ) -> Visits<'a, J, R> {
         Visits {

@@ -3,7 +3,7 @@ ghost use Rattle.std.specs.Prelude.{◌≡◌, ◌<◌, ◌≤◌};
 ghost use Rattle.serving_seats.specs.Places.{IsAdmission};
 
 use crate::desk::Admission;
-use crate::service::Service;
+use crate::service::SeatService;
 use crate::until_closing::UntilClosing;
 use crate::while_open::WhileOpen;
 use bytes_sockets::linger;
@@ -26,7 +26,7 @@ pub fn accept_each<'s, E: 's, J, H, K, R, D>(
     alloc: Global,
     rt: &'s R,
     room: &'s SharedRoom<J, H, K>,
-    service: &'s Service<J>,
+    service: &'s SeatService<J>,
     listener: &TcpListener,
     door: &'s D,
 )
@@ -56,7 +56,7 @@ fn attend_connection<J: RoomId, H: Wait + Drop, K: Keeper + Drop, R: Wait + Cloc
     alloc: Global,
     rt: &R,
     room: &SharedRoom<J, H, K>,
-    service: &Service<J>,
+    service: &SeatService<J>,
     stream: TcpStream,
     number: u8,
     door: &D,
@@ -75,7 +75,7 @@ fn attend_stream<J: RoomId, H: Wait + Drop, K: Keeper + Drop, R: Wait, D: Door>(
     alloc: Global,
     rt: &R,
     room: &SharedRoom<J, H, K>,
-    service: &Service<J>,
+    service: &SeatService<J>,
     seat: Seat<J>,
     stream: &TcpStream,
     door: &D,
@@ -98,7 +98,7 @@ fn attend_stream<J: RoomId, H: Wait + Drop, K: Keeper + Drop, R: Wait, D: Door>(
 /// if many connections are ending, the seat is kept as long as this one is.
 fn end_connection<J: RoomId, R: Wait + Clock>(
     rt: &R,
-    service: &Service<J>,
+    service: &SeatService<J>,
     seat: Seat<J>,
     stream: &TcpStream,
 )
@@ -116,7 +116,7 @@ fn end_connection<J: RoomId, R: Wait + Clock>(
 }
 
 /// Gives a connection the lowest free seat, unless the room is being closed.
-fn admit<J: RoomId, R: Wait>(rt: &R, service: &Service<J>) -> Admission
+fn admit<J: RoomId, R: Wait>(rt: &R, service: &SeatService<J>) -> Admission
     ensures { IsAdmission J.seats result }
 {
     service.desk.lock(rt).admit()
@@ -128,7 +128,7 @@ fn start_console<'s, E: 's, J, H, K, R, D>(
     alloc: Global,
     rt: &'s R,
     room: &'s SharedRoom<J, H, K>,
-    service: &'s Service<J>,
+    service: &'s SeatService<J>,
     stream: TcpStream,
     number: u8,
     door: &'s D,

@@ -12,7 +12,7 @@ ghost use Rattle.serving_seats.specs.Places.{with_place, with_seat, without_free
 
 use crate::fault::SeatsFault;
 use crate::input::InputEnd;
-use crate::place::Place;
+use crate::place::SeatPlace;
 use room_1401::{RoomId, Seat};
 use std::alloc::{AllocError, Global};
 use std::marker::Model;
@@ -31,7 +31,7 @@ pub(crate) enum Admission {
 /// being closed.
 #[derive(Drop)]
 pub(crate) struct Desk<J: RoomId> {
-    places: Vec<Place<J>>,
+    places: Vec<SeatPlace<J>>,
     // Empty, with room for all seats when they are back.
     back: Vec<Seat<J>>,
     fault: Option<SeatsFault>,
@@ -231,19 +231,19 @@ impl<J: RoomId> Desk<J> {
 }
 
 /// The free places of these seats.
-fn place_each<J: RoomId>(seats: Vec<Seat<J>>, places: Vec<Place<J>>) -> Vec<Place<J>>
+fn place_each<J: RoomId>(seats: Vec<Seat<J>>, places: Vec<SeatPlace<J>>) -> Vec<SeatPlace<J>>
     requires { (places.items ≡ []) × (vec_len seats ≤ vec_capacity places) }
     ensures { result.items ≡ map free_place seats.items }
 {
     let mut places = places;
     for seat in seats {
-        places.push_reserved(Place::new(seat));
+        places.push_reserved(SeatPlace::new(seat));
     }
     places
 }
 
 /// The seats of these places, if all of them are back.
-fn collect<J: RoomId>(places: Vec<Place<J>>, back: Vec<Seat<J>>) -> Option<Vec<Seat<J>>>
+fn collect<J: RoomId>(places: Vec<SeatPlace<J>>, back: Vec<Seat<J>>) -> Option<Vec<Seat<J>>>
     requires { (back.items ≡ []) × (vec_len places ≤ vec_capacity back) }
     ensures numbers { IfSome result (λ seats. numbers_of seats.items ≡ numbers_in places.items) }
     ensures back { IfSome result (λ seats. AreBack places.items seats.items) }
@@ -260,7 +260,7 @@ fn collect<J: RoomId>(places: Vec<Place<J>>, back: Vec<Seat<J>>) -> Option<Vec<S
 }
 
 /// The number of the first of these places that is free.
-fn lowest_free<J: RoomId>(places: &[Place<J>]) -> Option<u8>
+fn lowest_free<J: RoomId>(places: &[SeatPlace<J>]) -> Option<u8>
     ensures { result ≡ lowest_free_in places.now }
 {
     match places {
@@ -276,7 +276,7 @@ fn lowest_free<J: RoomId>(places: &[Place<J>]) -> Option<u8>
 }
 
 /// Adds the numbers of those of these places that aren't free.
-fn put_taken<J: RoomId>(places: &[Place<J>], taken: &mut Vec<u8>) -> Result<(), AllocError>
+fn put_taken<J: RoomId>(places: &[SeatPlace<J>], taken: &mut Vec<u8>) -> Result<(), AllocError>
     ensures { OnOk result (taken.new.items ≡ taken.old.items ++ taken_in places.now) }
 {
     match places {
@@ -293,7 +293,7 @@ fn put_taken<J: RoomId>(places: &[Place<J>], taken: &mut Vec<u8>) -> Result<(), 
 }
 
 /// Whether each of these places has its seat.
-fn are_back<J: RoomId>(places: &[Place<J>]) -> bool
+fn are_back<J: RoomId>(places: &[SeatPlace<J>]) -> bool
     ensures { result ≡ list_all has_seat places.now }
 {
     match places {

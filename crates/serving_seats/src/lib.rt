@@ -2,7 +2,7 @@
 //! closed by its input.
 //!
 //! ```text
-//! let service = Service::new(alloc, seats)?;
+//! let service = SeatService::new(alloc, seats)?;
 //! accept_each(scope, alloc, rt, &room, &service, &listener, &OpenDoor)   // a console for each connection
 //! service.close_by(rt, &mut input)                                       // until the input says QUIT
 //! service.into_seats()                                                   // all seats, and what went wrong first
@@ -33,5 +33,5 @@ pub use consoles::accept_each;
 pub use fault::SeatsFault;
 pub use giving::{GiveFault, foreign_seat, give, give_entries};
 pub use input::InputEnd;
-pub use service::Service;
+pub use service::SeatService;
 pub use taking_turns::TakingTurns;

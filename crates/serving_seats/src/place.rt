@@ -9,13 +9,13 @@ use std::marker::Model;
 
 /// The place of a seat. It is free, or it is given to a connection, whose thread then takes the seat.
 #[derive(Drop)]
-pub(crate) struct Place<J: RoomId> {
+pub(crate) struct SeatPlace<J: RoomId> {
     number: u8,
     seat: Option<Seat<J>>,
     is_given: bool,
 }
 
-impl<J: RoomId> Model for Place<J> {
+impl<J: RoomId> Model for SeatPlace<J> {
     ghost use Rattle.std.specs.Prelude.{◌≡◌, IfSome};
     ghost use Rattle.serving_seats.specs.Places.{PlaceView};
 
@@ -30,12 +30,12 @@ impl<J: RoomId> Model for Place<J> {
     ghost invariant = { λ place. IfSome place.seat (λ seat. seat.number ≡ place.number) };
 }
 
-impl<J: RoomId> Place<J> {
+impl<J: RoomId> SeatPlace<J> {
     /// The free place of a seat.
-    pub(crate) fn new(seat: Seat<J>) -> Place<J>
+    pub(crate) fn new(seat: Seat<J>) -> SeatPlace<J>
         ensures { result ≡ free_place seat }
     {
-        Place {
+        SeatPlace {
             number: seat.number(),
             seat: Some(seat),
             is_given: false,
@@ -112,7 +112,7 @@ impl<J: RoomId> Place<J> {
         ensures seat { result ≡ self.seat }
         ensures number { IfSome result (λ seat. seat.number ≡ self.number) }
     {
-        let Place {
+        let SeatPlace {
             number: _,
             seat,
             is_given: _,

@@ -27,7 +27,7 @@ const NAPS: u32 = 100;
 
 /// The places of a room's seats, and whether the room is being closed. Contracts see how many seats the room has.
 #[derive(Drop)]
-pub struct Service<J: RoomId> {
+pub struct SeatService<J: RoomId> {
     seats: u8,
     /// Whether the room is being closed, which is written under the lock alone.
     pub is_closing: AtomicBool,
@@ -40,7 +40,7 @@ pub struct Service<J: RoomId> {
     pub(crate) desk: Mutex<Desk<J>>,
 }
 
-impl<J: RoomId> Model for Service<J> {
+impl<J: RoomId> Model for SeatService<J> {
     ghost use Rattle.std.specs.Prelude.{◌≡◌, ℕ};
 
     ghost Value = { ℕ };
@@ -50,20 +50,20 @@ impl<J: RoomId> Model for Service<J> {
     ghost invariant = { λ service. service.seats ≡ J.seats };
 }
 
-impl<J: RoomId> Service<J> {
+impl<J: RoomId> SeatService<J> {
     /// A service whose room is open.
     ///
     /// # Errors
     ///
     /// If there is no memory for the places of the seats, which are handed back.
-    pub fn new(alloc: Global, seats: Vec<Seat<J>>) -> Result<Service<J>, Vec<Seat<J>>>
+    pub fn new(alloc: Global, seats: Vec<Seat<J>>) -> Result<SeatService<J>, Vec<Seat<J>>>
         requires seats { AreAllSeats J.seats seats.items }
         requires count { J.seats < 2 ^ 8 }
         ensures err { IfErr result (λ back. AreAllSeats J.seats back.items) }
     {
         let count = seats.len() as u8;
         let desk = Desk::new(alloc, seats)?;
-        Ok(Service {
+        Ok(SeatService {
             seats: count,
             is_closing: AtomicBool::new(false),
             is_over: AtomicBool::new(false),
@@ -186,7 +186,7 @@ impl<J: RoomId> Service<J> {
     pub fn into_seats(self) -> (Option<Vec<Seat<J>>>, Option<SeatsFault>)
         ensures { IfSome result.0 (λ seats. AreAllSeats J.seats seats.items) }
     {
-        let Service {
+        let SeatService {
             seats: _,
             is_closing: _,
             is_over: _,

@@ -7,8 +7,8 @@ use bcd_1401::Char;
 use cpu_1401::{Machine, Stop};
 use devices_1401::{Card, PrintLine};
 use job_runner::{
-    CardList, Cards, Collected, Deck, DeckTextFault, JobEnd, JobFault, Output, Place, ReadDeck,
-    press_load_key, put_cards, put_paper, read_deck, run_job,
+    CardList, Cards, Collected, Deck, DeckTextFault, JobEnd, JobFault, Output, PaperPlace,
+    ReadDeck, press_load_key, put_cards, put_paper, read_deck, run_job,
 };
 use std::process::Abort;
 
@@ -352,11 +352,11 @@ fn a_byte_that_no_card_has_is_told_with_its_place(rt: HostRuntime) {
 fn put_number(
     rt: &impl Abort,
     text: &mut Vec<u8>,
-    place: Place,
+    place: PaperPlace,
     form: u16,
     line: u8,
     number: u16,
-) -> Place {
+) -> PaperPlace {
     let printed = PrintLine {
         form,
         line,
@@ -373,8 +373,8 @@ fn put_times(rt: &impl Abort, text: &mut Vec<u8>, count: u8, bytes: &[u8]) {
 }
 
 /// Adds four printed lines on three forms to a text, and returns the place below the last.
-fn put_four(rt: &impl Abort, text: &mut Vec<u8>) -> Place {
-    let place = put_number(rt, text, Place::FIRST, 1, 3, 1);
+fn put_four(rt: &impl Abort, text: &mut Vec<u8>) -> PaperPlace {
+    let place = put_number(rt, text, PaperPlace::FIRST, 1, 3, 1);
     let place = put_number(rt, text, place, 1, 4, 2);
     let place = put_number(rt, text, place, 3, 1, 3);
     put_number(rt, text, place, 3, 66, 4)
@@ -394,5 +394,5 @@ fn lines_stand_at_their_places(rt: HostRuntime) {
     let mut wanted = Vec::new(rt.alloc());
     put_wanted(&rt, &mut wanted);
     expect_bytes(&rt, text.as_slice(), wanted.as_slice());
-    expect_same(&rt, &place, &Place { form: 3, line: 67 }, "place");
+    expect_same(&rt, &place, &PaperPlace { form: 3, line: 67 }, "place");
 }

@@ -1,7 +1,7 @@
 -- A byte can count the seats, and counts all of them.
 use Rattle.std.proofs.Common.{arith}
 use Rattle.serving_seats.proofs.PlacesLemmas.{length_seats}
-use Rattle.serving_seats.proofs.service.Service.new.Goals as goal
+use Rattle.serving_seats.proofs.service.SeatService.new.Goals as goal
 
 pub overflow_cast-count : goal.overflow_cast-count
 overflow_cast-count g c =
