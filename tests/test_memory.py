@@ -32,6 +32,49 @@ SPARSE = {"empty lines": EMPTY_LINES, "comments": COMMENTS}
 # What is done with a source.
 OF_SOURCES = (["assemble"], ["assemble", "--deck", "deck"], ["run"])
 
+# The letters of labels and their digits.
+LETTERS = "ABCDEFGHIJKLMNOPQRSTUVWXYZ"
+GRAPHICS = LETTERS + "0123456789"
+# The end of a source that has placed its lines again and again.
+PLACED_AGAIN = b"               ORG  400\n"
+
+
+def label(number):
+    """A label of two letters or more, another one for each number; the short ones come first."""
+    found = ""
+    while number >= 0:
+        number, graphic = divmod(number, len(GRAPHICS))
+        found += GRAPHICS[graphic]
+        number -= 1
+    return "L" + found
+
+
+def again(size, line):
+    """A source of this many bytes or a few fewer, whose lines are what `line` gives for each number from 0 on."""
+    lines, rest, number = [BEGIN], size - len(BEGIN) - len(PLACED_AGAIN) - len(END), 0
+    while len(text := line(number).encode()) <= rest:
+        lines.append(text)
+        rest, number = rest - len(text), number + 1
+    return b"".join([*lines, PLACED_AGAIN, END])
+
+
+def labelled(number):
+    """An instruction with a label of its own; each thousandth goes back to the first place."""
+    return f"     {label(number):10}H\n" + PLACED_AGAIN.decode() * (number % 1_000 == 999)
+
+
+# Sources whose lines say something, each with its status in both languages: a line of one byte, an operation that isn't
+# known; a label alone, which is none either; an instruction with a label; EQUs of a number; and short statements.
+SAYING = {
+    "lines of one byte": (1, lambda number: "1\n"),
+    "labels alone": (1, lambda number: f"     {label(number)}\n"),
+    "labelled instructions": (0, labelled),
+    "EQUs": (0, lambda number: f"     {label(number):10}EQU  1\n"),
+    "short statements": (0, lambda number: "               ORG  0\n"),
+}
+# What is done with these.
+OF_STATEMENTS = (["assemble"], ["assemble", "--language", "ibm"], ["run"])
+
 # Calls that hold one segment of an image at a time, each with its status and the image.
 OF_IMAGES = {
     "short segments disassembled": (0, SHORT_SEGMENTS, ["disassemble"]),
@@ -41,14 +84,12 @@ OF_IMAGES = {
 }
 
 # What some calls take at most for each byte of a file of this many bytes. It is more than the others do, since a text
-# is written whole or not at all, and since a call holds each statement. It doesn't grow.
+# is written whole or not at all. It doesn't grow.
 SHORTER_BYTES = 4_194_304
 MORE_EACH = {
     "a source of empty lines listed": (14, 0, EMPTY_LINES, ["assemble", "--list"]),
     "the same with its tables": (15, 0, EMPTY_LINES, ["assemble", "--list", "--symbols", "--xref"]),
-    "a source of short statements assembled": (9, 0, STATEMENTS, ["assemble"]),
-    "the same listed": (11, 0, STATEMENTS, ["assemble", "--list"]),
-    "the same run": (10, 0, STATEMENTS, ["run"]),
+    "a source of short statements listed": (11, 0, STATEMENTS, ["assemble", "--list"]),
 }
 
 
@@ -145,6 +186,13 @@ class MemoryTest(unittest.TestCase):
             for call in OF_SOURCES:
                 with self.subTest(f"{name}: {' '.join(call)}"):
                     self.expect_few(0, first + again + last, first + again * many + last, *call, "file")
+
+    def test_lines_that_say_something_take_a_few_bytes_a_byte(self):
+        for name, (status, line) in SAYING.items():
+            large = again(MOST_BYTES, line)
+            for call in OF_STATEMENTS:
+                with self.subTest(f"{name}: {' '.join(call)}"):
+                    self.expect_few(status, again(1_000, line), large, *call, "file")
 
     def test_sources_and_listings_take_no_more_than_they_do(self):
         for name, (most, status, (first, again, last), call) in MORE_EACH.items():

@@ -119,7 +119,7 @@ pub fn assemble(alloc: Global, source: &[u8], size: u16) -> Result<Assembly, Asm
 ///
 /// # Errors
 ///
-/// `Memory` if memory is refused or the source has too many lines. Otherwise the lowest fault of the first line that
+/// `Memory` if memory is refused or the source is too long. Otherwise the lowest fault of the first line that
 /// has one of kinds 2 to 8, 10 and 11; if no line has one, `OutOfCore` for the first line of which something isn't in
 /// core.
 #[tactic(auto, using(crate::proofs::AssemblyLemmas::placed_in_turn, crate::proofs::LanguagesLemmas::agrees_with_plain))]

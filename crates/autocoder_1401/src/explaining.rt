@@ -49,7 +49,7 @@ fn add_outside_explained(
 ///
 /// # Errors
 ///
-/// `Memory` if memory is refused or the source has too many lines.
+/// `Memory` if memory is refused or the source is too long.
 #[tactic(auto, using(crate::proofs::LanguagesLemmas::agrees_with_plain))]
 pub fn explained_faults(
     alloc: Global,

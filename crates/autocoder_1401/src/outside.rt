@@ -241,7 +241,8 @@ fn outside_in(
     let all = place_all(alloc, hashing, chains, lines)?;
     let mut so_far = Placing::new(alloc, hashing, chains);
     for i in 0..lines.len() {
-        let Some(statement) = &lines.line(i).statement else {
+        let line = lines.line(i);
+        let Some(statement) = &line.statement else {
             continue;
         };
         let row = statement.body.describe();

@@ -107,7 +107,7 @@ fn faultless_tables(
 ///
 /// # Errors
 ///
-/// `Memory` if memory is refused or the source has too many lines; otherwise the fault that `assemble_in` tells.
+/// `Memory` if memory is refused or the source is too long; otherwise the fault that `assemble_in` tells.
 #[tactic(auto, using(crate::proofs::LanguagesLemmas::agrees_with_plain))]
 pub fn assemble_with_tables(
     alloc: Global,

@@ -17,7 +17,7 @@ use std::alloc::Global;
 ///
 /// # Errors
 ///
-/// `Memory` if memory is refused or the source has too many lines.
+/// `Memory` if memory is refused or the source is too long.
 #[tactic(auto, using(crate::proofs::LanguagesLemmas::agrees_with_plain))]
 pub fn warnings(
     alloc: Global,

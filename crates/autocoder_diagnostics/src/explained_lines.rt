@@ -91,7 +91,7 @@ fn put_all_explained(
     let mut before = Before::NOTHING;
     let mut sources = source;
     for i in 0..lines.len() {
-        let line = lines.line(i);
+        let line = &lines.line(i);
         let Some((text, behind)) = split_line(sources) else {
             unreachable!()
         };
@@ -144,7 +144,7 @@ fn line_explanations(
 ///
 /// # Errors
 ///
-/// `Memory` if memory is refused or the source has too many lines.
+/// `Memory` if memory is refused or the source is too long.
 pub fn source_explanations(
     alloc: Global,
     language: Language,

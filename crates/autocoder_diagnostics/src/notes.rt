@@ -258,7 +258,7 @@ fn have_operation(operation: u8, lines: &Lines<'_>) -> bool
     ensures { result ≡ list_any (has_operation operation) lines.now }
 {
     for i in 0..lines.len() {
-        if has_operation(operation, lines.line(i)) {
+        if has_operation(operation, &lines.line(i)) {
             return true;
         }
     }
@@ -277,7 +277,7 @@ fn named_labels(
 {
     let mut labels = IndexSet::with_hasher(alloc, hashing);
     for i in 0..lines.len() {
-        note_named(&mut labels, lines.line(i))?;
+        note_named(&mut labels, &lines.line(i))?;
     }
     Ok(labels)
 }
@@ -294,7 +294,7 @@ fn number_labels(
 {
     let mut labels = IndexSet::with_hasher(alloc, hashing);
     for i in 0..lines.len() {
-        note_number(&mut labels, lines.line(i))?;
+        note_number(&mut labels, &lines.line(i))?;
     }
     Ok(labels)
 }
@@ -311,7 +311,7 @@ fn signed_labels(
 {
     let mut labels = IndexSet::with_hasher(alloc, hashing);
     for i in 0..lines.len() {
-        note_signed(&mut labels, lines.line(i))?;
+        note_signed(&mut labels, &lines.line(i))?;
     }
     Ok(labels)
 }

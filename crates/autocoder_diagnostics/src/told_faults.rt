@@ -51,7 +51,7 @@ fn put_faults(
 {
     let mut before = Before::NOTHING;
     for i in 0..lines.len() {
-        let line = lines.line(i);
+        let line = &lines.line(i);
         put_told(
             faults,
             before.at.number,
@@ -97,7 +97,7 @@ fn line_faults(
 ///
 /// # Errors
 ///
-/// `Memory` if memory is refused or the source has too many lines.
+/// `Memory` if memory is refused or the source is too long.
 pub fn source_faults(
     alloc: Global,
     language: Language,

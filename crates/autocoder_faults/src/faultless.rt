@@ -19,9 +19,9 @@ use std::alloc::Global;
 
 /// The lines of a source without a fault.
 #[derive(Drop)]
-pub struct FaultlessLines {
+pub struct FaultlessLines<'s> {
     /// The lines.
-    pub lines: KeptLines,
+    pub lines: KeptLines<'s>,
     /// How their labels and literals are hashed.
     pub hashing: SourceHashing,
     /// Their chains of EQUs.
@@ -61,17 +61,17 @@ fn faultless_chains(
     Ok(symbols.chains)
 }
 
-impl FaultlessLines {
+impl<'s> FaultlessLines<'s> {
     /// The lines of a source in this language.
     ///
     /// # Errors
     ///
-    /// The first line with a fault, and its lowest kind; `Memory` if memory is refused or the source has too many lines.
+    /// The first line with a fault, and its lowest kind; `Memory` if memory is refused or the source is too long.
     pub fn read(
         alloc: Global,
         language: Language,
-        source: &[u8],
-    ) -> Result<FaultlessLines, AsmFault>
+        source: &'s [u8],
+    ) -> Result<FaultlessLines<'s>, AsmFault>
         ensures lines { IfOk result (λ this. this.lines ≡ lines_in language source.now) }
         ensures as_many { IfOk result (λ this. length this.lines ≡ length (lines_of source.now)) }
         ensures few { IfOk result (λ this. length this.lines < 2 ^ 32) }

@@ -307,7 +307,7 @@ pub fn first_fault(symbols: &Symbols, lines: &Lines<'_>) -> Option<AsmFault>
 {
     let mut at = LineContext::FIRST;
     for i in 0..lines.len() {
-        let line = lines.line(i);
+        let line = &lines.line(i);
         if let Some(kind) = lowest_kind(symbols, at, line) {
             return Some(AsmFault {
                 line: at.number,

@@ -20,7 +20,8 @@ fn entry(all: &Placing<'_>, lines: &Lines<'_>) -> Result<i64, AsmFault>
     ensures err { IfErr result IsMemory }
 {
     for i in 0..lines.len() {
-        let Some(Statement { body, .. }) = lines.line(i).statement else {
+        let line = lines.line(i);
+        let Some(Statement { body, .. }) = line.statement else {
             continue;
         };
         match body.describe().addressing {

@@ -67,7 +67,8 @@ impl<'a> SegmentsSoFar<'a> {
             ⊎ (first_outside_from size (places_of all.now) 1 (places_of self.old.so_far) lines.now ≡ Some fault)) }
     {
         for i in 0..lines.len() {
-            let Some(statement) = &lines.line(i).statement else {
+            let line = lines.line(i);
+            let Some(statement) = &line.statement else {
                 continue;
             };
             let row = statement.body.describe();

@@ -87,7 +87,7 @@ pub(crate) fn uses_of(
 {
     let mut uses = IndexMap::with_hasher(alloc, hashing);
     for i in 0..lines.len() {
-        note_line(alloc, &mut uses, lines.line(i), i as u64 + 1)?;
+        note_line(alloc, &mut uses, &lines.line(i), i as u64 + 1)?;
     }
     Ok(uses)
 }

@@ -144,7 +144,7 @@ fn put_rows<'a>(
     ensures err { IfErr result IsMemory }
 {
     for i in 0..lines.len() {
-        let line = lines.line(i);
+        let line = &lines.line(i);
         let row = row_of(alloc, all, so_far, i as u64 + 1, line, &lines.behind(i))?;
         put_row(rows, row)?;
         so_far.place(line)?;

@@ -71,7 +71,7 @@ impl<'a> ListingSoFar<'a> {
     {
         let mut sources = source;
         for i in 0..lines.len() {
-            let line = lines.line(i);
+            let line = &lines.line(i);
             let Some((text, behind)) = split_line(sources) else {
                 unreachable!()
             };

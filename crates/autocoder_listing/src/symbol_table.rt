@@ -185,7 +185,7 @@ pub(crate) fn symbols_of(
     let mut symbols = Vec::new(alloc);
     let mut so_far = Placing::new(alloc, hashing, all.chains);
     for i in 0..lines.len() {
-        let line = lines.line(i);
+        let line = &lines.line(i);
         put_symbols(all, &so_far, i as u64 + 1, line, &mut symbols)?;
         so_far.place(line)?;
     }

@@ -368,7 +368,7 @@ fn mark_fields(area: &mut [Cell], lines: &Lines<'_>)
     ensures { area.new ≡ fold with_field area.old (fields_behind lines.now) }
 {
     for i in 0..lines.len() {
-        let line = lines.line(i);
+        let line = &lines.line(i);
         let Some(statement) = &line.statement else {
             continue;
         };

@@ -126,7 +126,14 @@ fn put_lines(
     ensures err { IfErr result IsMemory }
 {
     for i in 0..lines.len() {
-        put_line(alloc, all, so_far, lines.line(i), &lines.behind(i), storage)?;
+        put_line(
+            alloc,
+            all,
+            so_far,
+            &lines.line(i),
+            &lines.behind(i),
+            storage,
+        )?;
     }
     Ok(())
 }

@@ -506,7 +506,7 @@ impl<'a> Placing<'a> {
         ensures err { IfErr result IsMemory }
     {
         for i in 0..lines.len() {
-            self.place(lines.line(i))?;
+            self.place(&lines.line(i))?;
         }
         Ok(())
     }

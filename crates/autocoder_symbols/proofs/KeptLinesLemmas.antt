@@ -1,12 +1,11 @@
 -- What is held of lines.
-use Rattle.std.proofs.Common.{ℕ, zero, suc, ◌+◌, ◌-◌, ◌≤◌, ◌<◌, ◌≢◌, List, [], ◌∷◌, ◌++◌, length, map, drop, get_or}
+use Rattle.std.proofs.Common.{ℕ, zero, suc, ◌+◌, ◌-◌, ◌≤◌, ◌<◌, ◌≢◌, ◌⊎◌, inl, inr, List, [], ◌∷◌, ◌++◌, length, map}
+use Rattle.std.proofs.Common.{drop, get_or, length-take}
 use Rattle.std.proofs.Common.{◌≡◌, refl, sym, ap, subst, ◌∙◌, arith, length-append}
-use Rattle.std.proofs.lemmas.List.{drop-map, drop_more, get_or_append_left, get_or_past, get_or_push, get_or-map}
-use Rattle.std.proofs.lemmas.List.{length-map, map-append}
-use Rattle.autocoder_statements.specs.Context.{with_registers}
+use Rattle.std.proofs.lemmas.List.{drop-map, drop_more, get_or_append_left, get_or_push, get_or-map}
+use Rattle.std.proofs.lemmas.List.{length-map, map-append, take_all, take-append-le, get_or-take}
 use Rattle.autocoder_statements.specs.declared.statement.Line.{Line}
-use Rattle.autocoder_statements.specs.declared.symbols.Registers.{Registers}
-use Rattle.autocoder_symbols.specs.KeptLines.{comment, line_kept, AreKept}
+use Rattle.autocoder_symbols.specs.KeptLines.{comment, line_kept, AreKept, AreHeld}
 
 -- one more that says something moves no line
 said_more : (said : List Line) (line : Line) (place : ℕ) → place ≤ length said
@@ -60,33 +59,48 @@ pub last_within : (said : List Line) (line : Line) (place : ℕ) → place ≡ l
     → place ≤ length (said ++ line ∷ [])
 last_within said line place is = omega (arith, length-append said (line ∷ []), is)
 
--- X1 to X3 as labels make no difference to a comment, and the same one to a line wherever it is
-settled_at : (registers : Registers) (said : List Line) (place : ℕ)
-    → line_kept (map (with_registers registers) said) place ≡ with_registers registers (line_kept said place)
-settled_at registers said zero = refl
-settled_at registers said (suc n) = get_or_map_comment registers said n
-  where
-    get_or_map_comment : (registers : Registers) (said : List Line) (n : ℕ)
-        → get_or (map (with_registers registers) said) n comment ≡ with_registers registers (get_or said n comment)
-    get_or_map_comment registers [] n = refl
-    get_or_map_comment registers (line ∷ said) zero = refl
-    get_or_map_comment registers (line ∷ said) (suc n) = get_or_map_comment registers said n
+-- one more line is held, or none
+pub held_more : (held new said : List Line) (line : Line) → AreHeld held said
+    → (new ≡ held) ⊎ ((length held ≡ length said) × (new ≡ held ++ line ∷ [])) → AreHeld new (said ++ line ∷ [])
+held_more held new said line are (inl same) =
+    subst (λ (all : List Line). AreHeld all (said ++ line ∷ [])) (sym same)
+    (are
+    ∙ sym (take-append-le (length held) said (line ∷ []) (omega (arith, ap length are, length-take (length held) said))))
+held_more held new said line are (inr more) =
+    let all : held ≡ said = are ∙ take_all (length held) said (omega (arith, more.0)) in
+    let both : new ≡ said ++ line ∷ [] = more.1 ∙ ap (λ (lines : List Line). lines ++ line ∷ []) all in
+    both ∙ sym (take_all (length new) (said ++ line ∷ []) (omega (arith, ap length both)))
 
-pub all_settled : (registers : Registers) (said : List Line) (places : List ℕ)
-    → map (line_kept (map (with_registers registers) said)) places
-    ≡ map (with_registers registers) (map (line_kept said) places)
-all_settled registers said [] = refl
-all_settled registers said (place ∷ places) =
-    ap (λ (each : Line). each ∷ map (line_kept (map (with_registers registers) said)) places)
-    (settled_at registers said place)
-    ∙ ap (λ (rest : List Line). with_registers registers (line_kept said place) ∷ rest)
-    (all_settled registers said places)
+-- a line that is held is the one that is read again
+pub line_held : (held said : List Line) (i : ℕ) (d : Line) → AreHeld held said → i < length held
+    → get_or held i d ≡ get_or said i d
+line_held held said i d are within =
+    ap (λ (lines : List Line). get_or lines i d) are ∙ get_or-take (length held) said i d within
 
-pub kept_settled : (registers : Registers) (said : List Line) (places : List ℕ) → AreKept said places
-    → AreKept (map (with_registers registers) said) places
-kept_settled registers said [] kept = tt
-kept_settled registers said (place ∷ places) kept =
-    (omega (arith, length-map said (with_registers registers), kept.0), kept_settled registers said places kept.1)
+-- once a line is read that says something, and its place is the last, all are kept and held
+pub all_kept : (said new : List Line) (line : Line) (places more : List ℕ) (place : ℕ) → new ≡ said ++ line ∷ []
+    → more ≡ places ++ place ∷ [] → place ≡ length said + 1 → AreKept said places → AreKept new more
+all_kept said new line places more place is last at kept =
+    subst (λ (all : List ℕ). AreKept new all) (sym last)
+    (subst (λ (all : List Line). AreKept all (places ++ place ∷ [])) (sym is)
+    (more_kept (said ++ line ∷ []) places place (still_kept said line places kept) (last_within said line place at)))
+
+pub all_held : (held more said new : List Line) (line : Line) → new ≡ said ++ line ∷ [] → AreHeld held said
+    → (more ≡ held) ⊎ ((length held ≡ length said) × (more ≡ held ++ line ∷ [])) → AreHeld more new
+all_held held more said new line is are how =
+    subst (λ (all : List Line). AreHeld more all) (sym is) (held_more held more said line are how)
+
+-- and the lines are those that were, and this one
+pub all_lines : (said new : List Line) (line : Line) (places more : List ℕ) (place : ℕ) → new ≡ said ++ line ∷ []
+    → more ≡ places ++ place ∷ [] → place ≡ length said + 1 → AreKept said places
+    → map (line_kept new) more ≡ map (line_kept said) places ++ line ∷ []
+all_lines said new line places more place is last at kept =
+    ap (λ (all : List Line). map (line_kept all) more) is ∙ ap (map (line_kept (said ++ line ∷ []))) last
+    ∙ one_said said line places place kept at
+
+-- so no more are held than are read again
+pub no_more_held : (held said : List Line) → AreHeld held said → length held ≤ length said
+no_more_held held said are = omega (arith, ap length are, length-take (length held) said)
 
 -- where the line of a place is that isn't a comment's
 pub line_of_place : (said : List Line) (place : ℕ) → place ≢ 0 → line_kept said place ≡ get_or said (place - 1) comment

@@ -4,4 +4,5 @@ pub mod KeptLines
 pub mod Known
 pub mod Reading
 pub mod Symbols
+pub mod Unread
 pub mod View

@@ -1,5 +1,5 @@
 //! Chains of EQUs: what a label stands for whose EQU names one without a value so far.
-ghost use Rattle.std.specs.Prelude.{◌≡◌, ◌<◌, ◌^◌, length, map, max, IfOk, IfErr, OnOk};
+ghost use Rattle.std.specs.Prelude.{◌≡◌, ◌<◌, ◌^◌, length, map, max, position, IfOk, IfErr, OnOk};
 ghost use Rattle.indexmap.specs.IndexMap.{get};
 ghost use Rattle.autocoder_statements.specs.Statement.{is_end};
 ghost use Rattle.autocoder_symbols.specs.Chains.{no_chains, has_value, link_in_base, link_in, is_declared_here};
@@ -28,13 +28,13 @@ pub struct Link {
     /// The symbol.
     pub to: Label,
     /// The index of the link whose label that is. If a chain has one after all its links it never ends.
-    pub next: Option<usize>,
+    pub next: Option<u32>,
     /// What is added to the symbol's value.
     pub added: i64,
     /// The number of the index register that goes before the symbol's, 0 for none; nothing if the symbol's stays.
     pub index: Option<u8>,
     /// The last of the lines that say so.
-    pub last: u64,
+    pub last: u32,
 }
 
 /// The EQUs that name a symbol without a value so far.
@@ -45,6 +45,9 @@ pub struct Chains {
     /// What each says of its label.
     pub links: Vec<Link>,
 }
+
+/// The greatest index of a link.
+const MOST_LINKS: usize = 4_294_967_295;
 
 /// How often each link is followed twice as far: a source has fewer than 2 ^ 32 lines.
 const DOUBLINGS: usize = 32;
@@ -73,7 +76,7 @@ impl Link {
         let Some(next) = self.next else {
             return Ok(self);
         };
-        match links.get(next) {
+        match links.get(next as usize) {
             Some(that) => self.beyond(*that),
             None => Ok(self),
         }
@@ -109,19 +112,19 @@ fn far(alloc: Global, links: Vec<Link>) -> Result<Vec<Link>, AsmFault>
 fn has_value(
     sites: &Sites,
     labels: &IndexSet<Label, SourceHashing>,
-    number: u64,
+    number: u32,
     symbol: Label,
 ) -> bool
     ensures { result ≡ has_value (get same_label sites.now) labels.now.keys number symbol }
 {
-    is_label_before(number, sites.get(&symbol).copied()) && !labels.contains(&symbol)
+    is_label_before(u64::from(number), sites.get(&symbol).copied()) && !labels.contains(&symbol)
 }
 
 /// What an EQU on the line of this number says of its label, if it is a link.
 fn link_to_address(
     sites: &Sites,
     labels: &IndexSet<Label, SourceHashing>,
-    number: u64,
+    number: u32,
     address: Address,
 ) -> Option<Link>
     ensures { result ≡ link_in_base (get same_label sites.now) labels.now.keys number address address.base }
@@ -148,7 +151,7 @@ fn link_to_address(
 fn link_in(
     sites: &Sites,
     labels: &IndexSet<Label, SourceHashing>,
-    number: u64,
+    number: u32,
     addressing: &Addressing,
 ) -> Option<Link>
     ensures { result ≡ link_in (get same_label sites.now) labels.now.keys number addressing.now }
@@ -167,12 +170,27 @@ fn link_in(
 }
 
 /// Whether a symbol is declared on the line of this number.
-fn is_declared_here(sites: &Sites, number: u64, label: Label) -> bool
+fn is_declared_here(sites: &Sites, number: u32, label: Label) -> bool
     ensures { result ≡ is_declared_here number (get same_label sites.now label) }
 {
     match sites.get(&label).copied() {
         Some(declaration) => declaration.line == number,
         None => false,
+    }
+}
+
+/// The index of the link whose label this is, if there is one.
+fn link_named(
+    labels: &IndexSet<Label, SourceHashing>,
+    label: Label,
+) -> Result<Option<u32>, AsmFault>
+    ensures ok { IfOk result (λ next. next ≡ position (same_label label) labels.now.keys) }
+    ensures err { IfErr result IsMemory }
+{
+    match labels.get_index_of(&label) {
+        Some(next) if next <= MOST_LINKS => Ok(Some(next as u32)),
+        Some(_) => Err(AsmFault::MEMORY),
+        None => Ok(None),
     }
 }
 
@@ -201,7 +219,7 @@ impl Chains {
     }
 
     /// Adds the link that a line of this number is, and says whether it is END.
-    fn add_line(&mut self, sites: &Sites, number: u64, line: &Line) -> Result<bool, AsmFault>
+    fn add_line(&mut self, sites: &Sites, number: u32, line: &Line) -> Result<bool, AsmFault>
         ensures ok { OnOk result
             (chains_view self.new ≡ with_line (get same_label sites.now) number (chains_view self.old) line.now) }
         ensures end { IfOk result (λ end. end ≡ is_end line.now) }
@@ -229,7 +247,7 @@ impl Chains {
     {
         for i in 0..lines.len() {
             let line = lines.line(i);
-            let is_end = self.add_line(sites, i as u64 + 1, line)?;
+            let is_end = self.add_line(sites, i as u32 + 1, &line)?;
             if is_end {
                 return Ok(());
             }
@@ -245,10 +263,8 @@ impl Chains {
     {
         let mut links = Vec::new(alloc);
         for link in &self.links {
-            links.push(Link {
-                next: self.labels.get_index_of(&link.to),
-                ..*link
-            })?;
+            let next = link_named(&self.labels, link.to)?;
+            links.push(Link { next, ..*link })?;
         }
         Ok(links)
     }
@@ -259,11 +275,13 @@ impl Chains {
         ensures err { IfErr result IsMemory }
     {
         let joined = self.join(alloc)?;
+        let Chains {
+            labels,
+            links: before,
+        } = self;
+        drop(before);
         let links = far(alloc, joined)?;
-        Ok(Chains {
-            labels: self.labels,
-            links,
-        })
+        Ok(Chains { labels, links })
     }
 
     /// The link that gives a label its value. If there is none, no label is hashed.

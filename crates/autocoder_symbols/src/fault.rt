@@ -10,7 +10,7 @@ use thiserror::Error;
 /// without any of them is placed, and then searched for kind 9.
 #[derive(Clone, Copy, Debug, PartialEq, Eq, Error)]
 pub enum AsmKind {
-    /// 1: memory was refused, or the source has more than 4,294,967,295 lines.
+    /// 1: memory was refused, or the source has more than 4,294,967,295 bytes.
     #[error("1 MEMORY")]
     Memory = 1,
     /// 2: a line has more than 80 bytes.

@@ -46,7 +46,7 @@ impl Declaration {
     {
         match self.area {
             Some(_) => Known::WhenPlaced,
-            None => Known::From(self.line),
+            None => Known::From(u64::from(self.line)),
         }
     }
 }
@@ -71,8 +71,8 @@ fn known_by_chain(sites: &Sites, link: Link) -> Known
         return Known::Never;
     }
     match sites.get(&link.to).copied() {
-        Some(root) => root.known().behind(link.last),
-        None => Known::From(link.last),
+        Some(root) => root.known().behind(u64::from(link.last)),
+        None => Known::From(u64::from(link.last)),
     }
 }
 

@@ -13,6 +13,7 @@
 
 pub mod fault; // the kinds of fault
 pub mod hashing; // how labels and literals are hashed
+pub mod unread; // lines that are read again when they are asked for
 pub mod kept_lines; // what is held of the lines
 pub mod reading; // a source as its lines, each with its neighbours
 pub mod symbols; // which line declares a symbol

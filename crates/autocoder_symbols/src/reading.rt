@@ -10,15 +10,16 @@ ghost use Rattle.autocoder_statements.specs.declared.language.Language.TheVarian
 ghost use Rattle.autocoder_symbols.specs.Fault.{IsMemory};
 
 use crate::fault::AsmFault;
-use crate::kept_lines::KeptLines;
-use autocoder_statements::{Context, Language, Line, Registers, split_line};
+use crate::kept_lines::{KeptLines, LinesSoFar};
+use crate::unread::{Reading, bytes_from, bytes_to_next, first_line, with_registers};
+use autocoder_statements::{Context, Language, Line, Registers};
 use std::alloc::Global;
 
 /// The lines of a source in the wider language, with what the lines above each say of it.
 #[derive(Drop)]
-struct LinesInContext {
+struct LinesInContext<'s> {
     /// The lines.
-    lines: KeptLines,
+    lines: KeptLines<'s>,
     /// Which of X1 to X3 some line has as its label.
     registers: Registers,
 }
@@ -30,74 +31,90 @@ fn most_lines(source: &[u8]) -> usize {
 }
 
 /// What the lines of a source in the plain language say.
-fn read_plain_lines(alloc: Global, source: &[u8]) -> Result<KeptLines, AsmFault>
+fn read_plain_lines(alloc: Global, source: &[u8]) -> Result<KeptLines<'_>, AsmFault>
     ensures lines { IfOk result (λ v. v ≡ map line_of (lines_of source.now)) }
     ensures few { IfOk result (λ v. length v < 2 ^ 32) }
     ensures err { IfErr result IsMemory }
 {
-    let mut lines = KeptLines::new(alloc, most_lines(source))?;
-    let mut rest = source;
-    while let Some((line, behind)) = split_line(rest) {
-        lines.push(Line::from_bytes(line))?;
-        rest = behind;
+    let reading = Reading {
+        source,
+        language: Language::Plain,
+        registers: Registers::NONE,
+    };
+    let mut lines = LinesSoFar::new(alloc, reading, most_lines(source))?;
+    let mut start = 0;
+    while start < source.len() {
+        let rest = bytes_from(source, start);
+        let line = Line::from_bytes(first_line(rest));
+        lines.push(start, Context::NOTHING, line)?;
+        start += bytes_to_next(rest);
     }
-    Ok(lines)
+    Ok(lines.finish())
 }
 
-/// What the lines of a source in the wider language say below the lines above them.
-fn read_in_context(alloc: Global, source: &[u8]) -> Result<LinesInContext, AsmFault>
+/// What the lines of a source in the wider language say below the lines above them, with these as labels.
+fn read_in_context(
+    alloc: Global,
+    registers: Registers,
+    source: &[u8],
+) -> Result<LinesInContext<'_>, AsmFault>
     ensures lines { IfOk result (λ read. read.lines
-        ≡ with_context nothing_above (map (line_in Ibm) (lines_of source.now))) }
+        ≡ map (with_registers registers) (with_context nothing_above (map (line_in Ibm) (lines_of source.now)))) }
     ensures registers { IfOk result (λ read. read.registers
         ≡ registers_of (with_context nothing_above (map (line_in Ibm) (lines_of source.now)))) }
     ensures few { IfOk result (λ read. length read.lines < 2 ^ 32) }
     ensures err { IfErr result IsMemory }
 {
-    let mut lines = KeptLines::new(alloc, most_lines(source))?;
-    let mut registers = Registers::NONE;
+    let reading = Reading {
+        source,
+        language: Language::Ibm,
+        registers,
+    };
+    let mut lines = LinesSoFar::new(alloc, reading, most_lines(source))?;
+    let mut found = Registers::NONE;
     let mut context = Context::NOTHING;
-    let mut rest = source;
-    while let Some((text, behind)) = split_line(rest) {
-        let mut line = Line::in_language(Language::Ibm, text);
+    let mut start = 0;
+    while start < source.len() {
+        let rest = bytes_from(source, start);
+        let mut line = Line::in_language(Language::Ibm, first_line(rest));
         let below = context.below(&line);
         context.settle(&mut line);
-        registers = registers.and(&line);
-        lines.push(line)?;
+        found = found.and(&line);
+        lines.push(start, context, with_registers(registers, line))?;
         context = below;
-        rest = behind;
+        start += bytes_to_next(rest);
     }
-    Ok(LinesInContext { lines, registers })
+    Ok(LinesInContext {
+        lines: lines.finish(),
+        registers: found,
+    })
 }
 
-/// Makes of each line what it says if these are labels. If there are none, that is what it says already.
-fn settle(lines: &mut KeptLines, registers: Registers)
-    ensures { lines.new ≡ map (with_registers registers) lines.old }
-{
-    if registers.any() {
-        lines.settle(registers);
-    }
-}
-
-/// What the lines of a source in the wider language say.
-fn read_wide_lines(alloc: Global, source: &[u8]) -> Result<KeptLines, AsmFault>
+/// What the lines of a source in the wider language say. If X1 to X3 are labels, they are read once more.
+fn read_wide_lines(alloc: Global, source: &[u8]) -> Result<KeptLines<'_>, AsmFault>
     ensures lines { IfOk result (λ v. v ≡ settled (map (line_in Ibm) (lines_of source.now))) }
     ensures few { IfOk result (λ v. length v < 2 ^ 32) }
     ensures err { IfErr result IsMemory }
 {
-    let LinesInContext {
-        mut lines,
-        registers,
-    } = read_in_context(alloc, source)?;
-    settle(&mut lines, registers);
-    Ok(lines)
+    let LinesInContext { lines, registers } = read_in_context(alloc, Registers::NONE, source)?;
+    if !registers.any() {
+        return Ok(lines);
+    }
+    drop(lines);
+    let again = read_in_context(alloc, registers, source)?;
+    Ok(again.lines)
 }
 
 /// What the lines of a source in this language say, each with its neighbours.
 ///
 /// # Errors
 ///
-/// `Memory` if there is no room for them, or they are too many.
-pub fn read_lines(alloc: Global, language: Language, source: &[u8]) -> Result<KeptLines, AsmFault>
+/// `Memory` if there is no room for them, or the source has more than 4,294,967,295 bytes.
+pub fn read_lines(
+    alloc: Global,
+    language: Language,
+    source: &[u8],
+) -> Result<KeptLines<'_>, AsmFault>
     ensures lines { IfOk result (λ v. v ≡ lines_said language (lines_of source.now)) }
     ensures as_many { IfOk result (λ v. length v ≡ length (lines_of source.now)) }
     ensures few { IfOk result (λ v. length v < 2 ^ 32) }

@@ -19,7 +19,7 @@ use std::alloc::Global;
 #[derive(Clone, Copy, Debug, PartialEq, Eq)]
 pub struct Declaration {
     /// The line's number.
-    pub line: u64,
+    pub line: u32,
     /// How many places the area literal has that declares it there; nothing if it is the line's label.
     pub area: Option<u8>,
 }
@@ -32,7 +32,7 @@ pub fn is_before(number: u64, declared: Option<Declaration>) -> bool
     ensures { result ≡ is_before number declared }
 {
     match declared {
-        Some(declaration) => declaration.line < number,
+        Some(declaration) => u64::from(declaration.line) < number,
         None => false,
     }
 }
@@ -42,7 +42,7 @@ pub fn is_label_before(number: u64, declared: Option<Declaration>) -> bool
     ensures { result ≡ is_label_before number declared }
 {
     match declared {
-        Some(declaration) => declaration.line < number && declaration.area.is_none(),
+        Some(declaration) => u64::from(declaration.line) < number && declaration.area.is_none(),
         None => false,
     }
 }
@@ -60,7 +60,7 @@ fn note(sites: &mut Sites, symbol: Label, declaration: Declaration) -> Result<()
 }
 
 /// Notes the label of a line with this number, if it has one.
-fn note_label(sites: &mut Sites, label: Option<Label>, number: u64) -> Result<(), AsmFault>
+fn note_label(sites: &mut Sites, label: Option<Label>, number: u32) -> Result<(), AsmFault>
     ensures noted { OnOk result ((other : ALabel) → get same_label sites.new other
         ≡ option_or (get same_label sites.old other) (declared_if (has_label other label) (as_label number))) }
     ensures err { IfErr result IsMemory }
@@ -76,7 +76,7 @@ fn note_label(sites: &mut Sites, label: Option<Label>, number: u64) -> Result<()
 }
 
 /// Notes the symbol of an area literal on a line with this number, if it is one.
-fn note_area(sites: &mut Sites, area: Option<AreaLiteral>, number: u64) -> Result<(), AsmFault>
+fn note_area(sites: &mut Sites, area: Option<AreaLiteral>, number: u32) -> Result<(), AsmFault>
     ensures noted { OnOk result ((label : ALabel) → get same_label sites.new label
         ≡ option_or (get same_label sites.old label) (declared_as_area number area label)) }
     ensures err { IfErr result IsMemory }
@@ -92,7 +92,7 @@ fn note_area(sites: &mut Sites, area: Option<AreaLiteral>, number: u64) -> Resul
 }
 
 /// Notes the symbols of the area literals of a line with this number.
-fn note_areas(sites: &mut Sites, areas: DeclaredAreas, number: u64) -> Result<(), AsmFault>
+fn note_areas(sites: &mut Sites, areas: DeclaredAreas, number: u32) -> Result<(), AsmFault>
     ensures noted { OnOk result ((label : ALabel) → get same_label sites.new label
         ≡ option_or (get same_label sites.old label) (declared_by_areas number areas label)) }
     ensures err { IfErr result IsMemory }
@@ -103,7 +103,7 @@ fn note_areas(sites: &mut Sites, areas: DeclaredAreas, number: u64) -> Result<()
 }
 
 /// Notes the symbols that a line with this number declares.
-fn note_line(sites: &mut Sites, line: &Line, number: u64) -> Result<(), AsmFault>
+fn note_line(sites: &mut Sites, line: &Line, number: u32) -> Result<(), AsmFault>
     ensures noted { OnOk result ((label : ALabel) → get same_label sites.new label
         ≡ option_or (get same_label sites.old label) (declared_by number line.now label)) }
     ensures err { IfErr result IsMemory }
@@ -131,7 +131,7 @@ pub fn sites_anywhere(
     let mut sites = IndexMap::with_hasher(alloc, hashing);
     for i in 0..lines.len() {
         let line = lines.line(i);
-        note_line(&mut sites, line, i as u64 + 1)?;
+        note_line(&mut sites, &line, i as u32 + 1)?;
     }
     Ok(sites)
 }
@@ -154,7 +154,7 @@ pub(crate) fn sites_of(
     let mut sites = IndexMap::with_hasher(alloc, hashing);
     for i in 0..lines.len() {
         let line = lines.line(i);
-        note_line(&mut sites, line, i as u64 + 1)?;
+        note_line(&mut sites, &line, i as u32 + 1)?;
         if line.is_end() {
             return Ok(sites);
         }

@@ -94,7 +94,7 @@ fn entry_from(number: u32, lines: &Lines<'_>) -> Option<u64>
 {
     let mut at = u64::from(number);
     for i in 0..lines.len() {
-        if is_entry_line(lines.line(i)) {
+        if is_entry_line(&lines.line(i)) {
             return Some(at);
         }
         at += 1;

@@ -714,7 +714,7 @@ impl<'a> WarningsSoFar<'a> {
                 unreachable!()
             };
             let behind = lines.behind(i);
-            self.put_line(alloc, this, all, lines, i, text, lines.line(i), &behind)?;
+            self.put_line(alloc, this, all, lines, i, text, &lines.line(i), &behind)?;
             sources = rest;
         }
         Ok(())
@@ -789,7 +789,7 @@ fn warnings_in(
 ///
 /// # Errors
 ///
-/// `Memory` if memory is refused or the source has too many lines.
+/// `Memory` if memory is refused or the source is too long.
 #[tactic(auto, using(crate::proofs::PlainWarningsLemmas::plain_is_carried_out))]
 pub fn source_warnings(
     alloc: Global,

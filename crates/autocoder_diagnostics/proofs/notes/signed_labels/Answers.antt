@@ -9,7 +9,7 @@ use Rattle.autocoder_diagnostics.proofs.notes.signed_labels.Goals as goal
 
 pub loop-i-preserved : goal.loop-i-preserved
 loop-i-preserved c = λ label.
-    line_noted (is_signed_in label) c.args.lines.now c.loop-i.i c.line.result.now (contains same_label c.loop-i.labels label)
+    line_noted (is_signed_in label) c.args.lines.now c.loop-i.i c.line.result (contains same_label c.loop-i.labels label)
     (contains same_label c.note_signed.new.labels label) (list_any (is_signed_in label) c.args.lines.now) c.line.ensures.rest
     (c.in_ok-note_signed.ensures.noted label) (c.loop-i.invariant label)
 

@@ -11,7 +11,7 @@ use Rattle.autocoder_symbols.proofs.symbols.sites_anywhere.Goals as goal
 pub loop-i-preserved : goal.loop-i-preserved
 loop-i-preserved c = λ label.
     let rest : List Line = drop (c.loop-i.i + 1) c.args.lines.now in
-    line_noted c.loop-i.sites c.note_line.new.sites (c.loop-i.i + 1) c.line-line.result.now rest label
+    line_noted c.loop-i.sites c.note_line.new.sites (c.loop-i.i + 1) c.line-line.result rest label
     (c.in_ok-note_line.ensures.noted label)
     ∙ ap (λ (lines : List Line). option_or (get same_label c.loop-i.sites label) (first_from (c.loop-i.i + 1) lines label))
     (sym c.line-line.ensures.rest)

@@ -3,7 +3,6 @@ use Rattle.std.proofs.Common.{◌+◌, List, drop, sym, ap, ◌∙◌, arith}
 use Rattle.std.specs.Option.{option_or}
 use Rattle.std.proofs.lemmas.List.{drop_all}
 use Rattle.indexmap.specs.IndexMap.{get}
-use Rattle.autocoder_statements.specs.Statement.{is_end}
 use Rattle.autocoder_statements.specs.declared.statement.Line.{Line}
 use Rattle.autocoder_symbols.specs.Symbols.{same_label, first_from, sites_of, up_to_end}
 use Rattle.autocoder_symbols.proofs.SymbolsLemmas.{goes_on, line_noted, none_left}
@@ -11,7 +10,7 @@ use Rattle.autocoder_symbols.proofs.symbols.sites_of.Goals as goal
 
 pub loop-i-preserved : goal.loop-i-preserved
 loop-i-preserved c = λ label.
-    let line : Line = c.line-line.result.now in
+    let line : Line = c.line-line.result in
     let rest : List Line = drop (c.loop-i.i + 1) c.args.lines.now in
     line_noted c.loop-i.sites c.note_line.new.sites (c.loop-i.i + 1) line (up_to_end rest) label
     (c.in_ok-note_line.ensures.noted label)
