@@ -11,13 +11,13 @@ loop-i-preserved c =
     let low : c.loop-i.i < length c.args.lines.now = omega (arith, c.loop-i-test.true, c.len-i-end.ensures) in
     record {
       value = grind (arith, common_steps);
-      place = next_place_is c.args.lines.now c.loop-i.i c.line-line.result c.loop-i.at c.behind-at.result
+      place = next_place_is c.args.lines.now c.loop-i.i c.line.result c.loop-i.at c.behind-at.result
           low c.loop-i.invariant.place
-          (c.behind-at.ensures ∙ ap (place_behind c.loop-i.at) c.line-line.ensures.is);
+          (c.behind-at.ensures ∙ ap (place_behind c.loop-i.at) c.line.ensures.is);
       within = omega (arith, low);
-      clean = next_clean (symbols_view c.args.symbols.now) c.args.lines.now c.loop-i.i c.line-line.result
+      clean = next_clean (symbols_view c.args.symbols.now) c.args.lines.now c.loop-i.i c.line.result
           c.loop-i.at c.loop-i.invariant.clean low c.loop-i.invariant.place
-          (subst (IsClean (symbols_view c.args.symbols.now) c.loop-i.at) c.line-line.ensures.is c.in_default.ensures.clean);
+          (subst (IsClean (symbols_view c.args.symbols.now) c.loop-i.at) c.line.ensures.is c.in_default.ensures.clean);
     }
 
 pub returns-else-at-clause-first : goal.returns-else-at-clause-first
