@@ -1,0 +1,5 @@
+pub mod FieldLemmas
+pub mod FieldTextLemmas
+pub mod NumberLemmas
+pub mod RulerLemmas
+pub mod ValueLemmas

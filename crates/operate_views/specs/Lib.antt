@@ -1,0 +1,5 @@
+pub mod FieldFault
+pub mod FieldText
+pub mod NumberText
+pub mod Ruler
+pub mod Value
