@@ -1,8 +1,8 @@
 -- Characters of a field from its high place on.
-use Rattle.std.proofs.Common.{◌≡◌, ℕ, ◌+◌, ◌-◌, ◌<◌, ◌≤◌, List, [], ◌∷◌, ◌++◌, length, take, map, get_or, reverse}
+use Rattle.std.proofs.Common.{◌≡◌, ℕ, ◌+◌, ◌-◌, ◌<◌, List, [], ◌∷◌, ◌++◌, length, take, map, get_or, reverse}
 use Rattle.std.proofs.Common.{sym, ◌∙◌, ap, arith}
 use Rattle.std.specs.Prelude.{slice_index}
-use Rattle.std.proofs.lemmas.List.{take_more, take-map, get_or-reverse, length-reverse, length-map, map-append}
+use Rattle.std.proofs.lemmas.List.{take_more, take-map, get_or-reverse, length-reverse, map-append}
 use Rattle.bcd_1401.specs.Graphic.{graphics}
 use Rattle.bcd_1401.specs.declared.cell.Cell.{Cell}
 use Rattle.core_1401.specs.Storage.{blank}

@@ -1,17 +1,17 @@
 -- Values put into fields.
 use Rattle.std.proofs.Common.{◌≡◌, ℕ, zero, suc, ◌+◌, ◌-◌, ◌*◌, ◌<◌, ◌≤◌, ◌==◌, ◌&&◌, Bool, true, false, List, [], ◌∷◌}
-use Rattle.std.proofs.Common.{◌++◌, length, drop, take, map, get_or, reverse, refl, sym, ◌∙◌, ap, arith, fold, inl, inr}
-use Rattle.std.proofs.Common.{Option, None, Some, slice_index_or}
+use Rattle.std.proofs.Common.{◌++◌, length, drop, take, get_or, reverse, refl, sym, ◌∙◌, ap, arith}
+use Rattle.std.proofs.Common.{Option, None, Some}
 use Rattle.std.specs.Prelude.{if◌then◌else◌}
 use Rattle.std.specs.List.{list_all}
-use Rattle.std.proofs.lemmas.Bool.{cases_lt, false≢true}
+use Rattle.std.proofs.lemmas.Bool.{false≢true}
 use Rattle.std.proofs.lemmas.Bool.Decides.{nat_tests}
-use Rattle.std.proofs.lemmas.List.{drop_more, get_or-reverse, get_or_past, length-reverse, reverse-append, reverse-reverse, take_more}
+use Rattle.std.proofs.lemmas.List.{drop_more, get_or-reverse, length-reverse, reverse-append, reverse-reverse, take_more}
 use Rattle.bcd_1401.specs.Character.{digit_of, digit_under, zone_of}
-use Rattle.bcd_1401.specs.Digits.{is_digit, value_of, with_digit}
+use Rattle.bcd_1401.specs.Digits.{is_digit, value_of}
 use Rattle.bcd_1401.specs.declared.cell.Cell.{Cell}
 use Rattle.core_1401.specs.Storage.{blank}
-use Rattle.fields_1401.specs.Number.{magnitude_of, sign_of, sign_under, sign_zone}
+use Rattle.fields_1401.specs.Number.{magnitude_of, sign_of, sign_under}
 use Rattle.fields_1401.specs.declared.sign.Sign.{Sign}
 use Rattle.fields_1401.specs.declared.sign.Sign.TheVariants.{Plus, Minus}
 use Rattle.operate_views.specs.Value.{filled, lettered, marks_of, sign_meant, with_code, with_number, zone_under}

@@ -1,5 +1,9 @@
+pub mod Cards
 pub mod FieldFault
 pub mod FieldText
+pub mod Lines
 pub mod NumberText
+pub mod Paper
+pub mod Registers
 pub mod Ruler
 pub mod Value

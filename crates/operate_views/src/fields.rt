@@ -9,11 +9,12 @@ use core_1401::Core;
 use std::alloc::{AllocError, Global};
 
 /// The cells at a place and below it, the upper ones first.
-#[tactic(auto, using(crate::proofs::FieldLemmas::cell_more))]
+#[tactic(auto, using(crate::proofs::FieldLemmas::cells_from))]
 fn cells_down(alloc: Global, core: &Core, at: u16, len: u16) -> Result<Vec<Cell>, AllocError>
     requires at { at < length core.now }
     requires len { len ≤ at + 1 }
-    ensures { IfOk result (λ cells. cells.items ≡ take len (cells_down core.now at)) }
+    ensures cells { IfOk result (λ cells. cells.items ≡ take len (cells_down core.now at)) }
+    ensures count { length (take len (cells_down core.now at)) ≡ len }
 {
     let mut cells = Vec::new(alloc);
     for i in 0..len {
@@ -29,6 +30,8 @@ fn cells_down(alloc: Global, core: &Core, at: u16, len: u16) -> Result<Vec<Cell>
 /// If no field ends there, or if there is no room for the cells.
 pub fn field_cells(alloc: Global, core: &Core, at: u16) -> Result<Vec<Cell>, FieldFault>
     ensures ok { IfOk result (λ cells. field_at core.now at ≡ Some cells.items) }
+    ensures some { IfOk result (λ cells. 0 < length cells.items) }
+    ensures places { IfOk result (λ cells. length cells.items ≤ at + 1) }
     ensures err { IfErr result (IsFieldFault core.now at) }
 {
     if !core.in_core(at) {

@@ -4,7 +4,7 @@
 //! ```text
 //! let cells = field_cells(alloc, core, 496)?;         // the field with its units at 496, units first
 //! put_number(&mut text, &cells)?                      // of 0000050!: -500
-//! filled_with_number(alloc, &cells, number)?          // the cells that `set` deposits
+//! cells_with_number(alloc, &cells, None, b"495")?      // the cells that `set` deposits
 //! put_core(alloc, &mut text, core, 201, 241)?         // these places under a ruler
 //! ```
 #![tactic(auto)]
@@ -18,12 +18,24 @@ pub mod fields;
 pub mod numbers;
 pub mod values;
 
+// registers, indicators and devices
+pub mod cards;
+pub mod paper;
+pub mod registers;
+
 // core as text
 pub mod ruler;
 
+// a line of the program
+pub mod lines;
+
+pub use cards::put_cards;
 pub use fault::{FieldFault, ValueFault};
 pub use field_text::put_field;
 pub use fields::field_cells;
+pub use lines::{Statement, listed_places, put_listed};
 pub use numbers::{is_number, put_number};
+pub use paper::{put_paper, put_printed};
+pub use registers::{put_place, put_registers, put_switches};
 pub use ruler::put_core;
 pub use values::{cells_with_number, cells_with_text};

@@ -63,7 +63,7 @@ fn row_cells(
 }
 
 /// The characters of cells.
-fn chars_of(alloc: Global, cells: &[Cell]) -> Result<Vec<Char>, AllocError>
+pub(crate) fn chars_of(alloc: Global, cells: &[Cell]) -> Result<Vec<Char>, AllocError>
     ensures { IfOk result (λ chars. chars.items ≡ chars_of cells.now) }
 {
     let mut chars = Vec::new(alloc);

@@ -1,5 +1,5 @@
 -- The digits so far are those of the cells from the high place down.
-use Rattle.std.proofs.Common.{◌≡◌, ◌≤◌, ◌++◌, ◌==◌, drop, length, ℕ, []}
+use Rattle.std.proofs.Common.{◌≡◌, ◌≤◌, ◌++◌, ◌==◌, drop, length}
 use Rattle.operate_views.specs.NumberText.{figures}
 use Rattle.operate_views.proofs.numbers.put_figures.Given as goal
 

@@ -1,5 +1,5 @@
 -- All cells are there.
-use Rattle.std.proofs.Common.{◌∙◌, arith, reverse, length}
+use Rattle.std.proofs.Common.{◌∙◌, arith, reverse}
 use Rattle.std.proofs.lemmas.List.{take_all, length-reverse}
 use Rattle.operate_views.specs.Value.{lettered}
 use Rattle.operate_views.proofs.ValueLemmas.{length-lettered}
