@@ -5,7 +5,7 @@ use Rattle.std.specs.Prelude.{None, Some, codes}
 use Rattle.bcd_1401.specs.Graphic.{graphics}
 use Rattle.fields_1401.specs.declared.sign.Sign.TheVariants.{Minus}
 use Rattle.machine_notation.specs.Characters.{graphics_of}
-use Rattle.operate_views.specs.FieldText.{characters_text, equals_text, field_text, places_text}
+use Rattle.operate_views.specs.FieldText.{change_text, characters_text, equals_text, field_text, places_text}
 use Rattle.operate_views.specs.NumberText.{is_number, number_text}
 use Rattle.operate_views.specs.Value.{lettered, with_number}
 use Rattle.operate_views.proofs.ExampleCells.{cell, cells}
@@ -61,3 +61,8 @@ without_a_sign_there_is_no_zone = refl
 a_text_begins_at_the_high_place : lettered [] (cells (codes "ABC")) ≡ cells (codes "   ")
 unfolding graphics cell cells
 a_text_begins_at_the_high_place = refl
+
+a_sum_changed : change_text (codes "TOTAL") (reverse (cells (codes "0000050!"))) (reverse (cells (codes "0000000N")))
+    ≡ codes "TOTAL 0000050! -> 0000000N"
+unfolding graphics cell cells graphics_of change_text
+a_sum_changed = refl

@@ -13,7 +13,8 @@ use Rattle.operate_views.specs.NumberText.{figures, or_zero, with_figure}
 pub value_of_push : (digits : List ℕ) (digit : ℕ) → value_of (digits ++ digit ∷ []) ≡ with_digit (value_of digits) digit
 value_of_push digits digit = from 0 digits
   where
-    from : (start : ℕ) (ds : List ℕ) → fold with_digit start (ds ++ digit ∷ []) ≡ with_digit (fold with_digit start ds) digit
+    from : (start : ℕ) (ds : List ℕ)
+        → fold with_digit start (ds ++ digit ∷ []) ≡ with_digit (fold with_digit start ds) digit
     from start [] = refl
     from start (d ∷ ds) = from (with_digit start d) ds
 
@@ -30,7 +31,8 @@ value_of_figure (first ∷ more) digit = value_of_push (first ∷ more) (48 + di
 pub value_of_figures : (cells : List Cell) → value_of (figures cells) ≡ magnitude_of cells
 value_of_figures [] = refl
 value_of_figures (cell ∷ cells) =
-    value_of_figure (figures cells) (digit_of cell.char) ∙ ap (λ n. digit_of cell.char + 10 * n) (value_of_figures cells)
+    value_of_figure (figures cells) (digit_of cell.char)
+    ∙ ap (λ n. digit_of cell.char + 10 * n) (value_of_figures cells)
 
 or_zero_value : (front : List ℕ) → value_of (or_zero front) ≡ value_of front
 or_zero_value [] = refl

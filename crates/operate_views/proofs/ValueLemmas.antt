@@ -6,7 +6,8 @@ use Rattle.std.specs.Prelude.{if◌then◌else◌}
 use Rattle.std.specs.List.{list_all}
 use Rattle.std.proofs.lemmas.Bool.{false≢true}
 use Rattle.std.proofs.lemmas.Bool.Decides.{nat_tests}
-use Rattle.std.proofs.lemmas.List.{drop_more, get_or-reverse, length-reverse, reverse-append, reverse-reverse, take_more}
+use Rattle.std.proofs.lemmas.List.{drop_more, get_or-reverse, length-reverse, reverse-append, reverse-reverse}
+use Rattle.std.proofs.lemmas.List.{take_more}
 use Rattle.bcd_1401.specs.Character.{digit_of, digit_under, zone_of}
 use Rattle.bcd_1401.specs.Digits.{is_digit, value_of}
 use Rattle.bcd_1401.specs.declared.cell.Cell.{Cell}
@@ -83,7 +84,8 @@ length-filled zone (d ∷ ds) (cell ∷ cells) = ap suc (length-filled 0 ds cell
 pub numbered_more : (zone : ℕ) (digits : List ℕ) (cells : List Cell) (left : ℕ) → left < length cells
     → reverse (drop left (filled zone digits cells))
     ≡ reverse (drop (left + 1) (filled zone digits cells))
-    ++ with_code (digit_under (if left == 0 then zone else 0) (get_or digits left 48 - 48)) (get_or cells left blank) ∷ []
+    ++ with_code (digit_under (if left == 0 then zone else 0) (get_or digits left 48 - 48)) (get_or cells left blank)
+    ∷ []
 numbered_more zone digits cells left lt =
     let all = filled zone digits cells in
     ap reverse (drop_more all left blank (omega (arith, length-filled zone digits cells)))
@@ -140,7 +142,8 @@ all_reversed : (digits : List ℕ) → list_all is_digit digits ≡ true → lis
 all_reversed [] all = refl
 all_reversed (d ∷ ds) all =
     let each = both (is_digit d) (list_all is_digit ds) all in
-    ap (list_all is_digit) (reverse_cons d ds) ∙ all_append (reverse ds) (d ∷ []) ∙ ap (λ b. b && list_all is_digit (d ∷ [])) (all_reversed ds each.1)
+    ap (list_all is_digit) (reverse_cons d ds) ∙ all_append (reverse ds) (d ∷ [])
+    ∙ ap (λ b. b && list_all is_digit (d ∷ [])) (all_reversed ds each.1)
     ∙ ap (λ b. b && true) each.0
 
 meant : (sign : Option Sign) → sign_under (zone_under sign) ≡ sign_meant sign
@@ -199,7 +202,8 @@ length-lettered (char ∷ chars) (cell ∷ cells) = ap suc (length-lettered char
 pub lettered_marks : (chars : List ℕ) (cells : List Cell) → marks_of (lettered chars cells) ≡ marks_of cells
 lettered_marks chars [] = refl
 lettered_marks [] (cell ∷ cells) = ap (λ (marks : List Bool). cell.mark ∷ marks) (lettered_marks [] cells)
-lettered_marks (char ∷ chars) (cell ∷ cells) = ap (λ (marks : List Bool). cell.mark ∷ marks) (lettered_marks chars cells)
+lettered_marks (char ∷ chars) (cell ∷ cells) =
+    ap (λ (marks : List Bool). cell.mark ∷ marks) (lettered_marks chars cells)
 
 -- one cell more, from the high place down
 pub lettered_more : (chars : List ℕ) (cells : List Cell) (i : ℕ) → i < length cells

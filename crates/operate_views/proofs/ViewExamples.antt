@@ -1,7 +1,7 @@
 -- Core and registers as text, computed from the transcripts of a sitting.
 use Rattle.std.proofs.Common.{◌≡◌, ◌∷◌, ◌++◌, [], refl}
 use Rattle.std.specs.Fmt.{digits}
-use Rattle.std.specs.Prelude.{codes}
+use Rattle.std.specs.Prelude.{None, codes}
 use Rattle.bcd_1401.specs.Graphic.{graphics}
 use Rattle.core_1401.specs.Storage.{blank}
 use Rattle.cpu_1401.specs.State.{power_on}
@@ -9,7 +9,8 @@ use Rattle.devices_1401.specs.Devices.{no_cards}
 use Rattle.machine_mnemonics.specs.InstructionText.{operands_text}
 use Rattle.machine_mnemonics.specs.Mnemonic.{columns_of, operations_with_d}
 use Rattle.machine_notation.specs.Characters.{graphics_of, trimmed}
-use Rattle.operate_views.specs.Lines.{cells_line, front_text, instruction_line}
+use Rattle.operate_views.specs.Lines.{cells_line, front_text, instruction_columns, instruction_line, step_front}
+use Rattle.operate_views.specs.Lines.{step_line}
 use Rattle.operate_views.specs.Cards.{cards_text, pile_text}
 use Rattle.operate_views.specs.Paper.{form_text as form_column, printed_text}
 use Rattle.operate_views.specs.Registers.{addresses_text, answer_text, carriage_text, compared_text, comparison_text}
@@ -35,22 +36,31 @@ a_place_with_its_line = refl
 registers_at_power_on : registers_text (power_on 1400) [] [] (codes "HEAD")
     ≡ codes "I  0000\nA  0000, B  0000 HEAD\nlast comparison: equal; overflow: no\nswitches on: none\n"
     ++ codes "hopper 0, stacker 0, paper 0; the carriage is at line 1 of form 1\n"
-unfolding registers_text addresses_text place_text labelled_text indicators_text compared_text overflow_text answer_text comparison_text switches_text switches_on_text on_text index_text index_at devices_text counts_text carriage_text line_text form_text pending_text digits
+unfolding registers_text addresses_text place_text labelled_text indicators_text compared_text overflow_text
+    answer_text comparison_text switches_text switches_on_text on_text index_text index_at devices_text counts_text
+    carriage_text line_text form_text pending_text digits
 registers_at_power_on = refl
 
-an_instruction_without_a_source : instruction_line 32 404 (cells (codes "F1")) ≡ codes " 00404 F1               CC   1\n"
-unfolding graphics cell cells graphics_of trimmed digits instruction_line front_text columns_of operations_with_d operands_text
+an_instruction_without_a_source : instruction_line 32 404 (cells (codes "F1"))
+    ≡ codes " 00404 F1               CC   1\n"
+unfolding graphics cell cells graphics_of trimmed digits instruction_line front_text columns_of operations_with_d
+    operands_text
 an_instruction_without_a_source = refl
 
 no_blanks_follow_an_instruction : instruction_line 32 412 (cells (codes "/")) ≡ codes " 00412 /                CS\n"
-unfolding graphics cell cells graphics_of trimmed digits instruction_line front_text columns_of operations_with_d operands_text
+unfolding graphics cell cells graphics_of trimmed digits instruction_line front_text columns_of operations_with_d
+    operands_text
 no_blanks_follow_an_instruction = refl
 
 cells_alone : cells_line 62 500 (cells (codes "HI")) ≡ codes ">00500 HI\n"
 unfolding graphics cell cells graphics_of trimmed digits cells_line
 cells_alone = refl
 
-a_printed_line_has_its_form_and_its_line : printed_text (record { form = 1; line = 3; text = chars_of (cells (codes "TOTAL    ")) })
+a_printed_line_has_its_form_and_its_line : printed_text (record {
+  form = 1;
+  line = 3;
+  text = chars_of (cells (codes "TOTAL    "));
+})
     ≡ codes "   1/03 |TOTAL\n"
 unfolding graphics cell cells graphics_of trimmed digits form_column printed_text
 a_printed_line_has_its_form_and_its_line = refl
@@ -58,3 +68,13 @@ a_printed_line_has_its_form_and_its_line = refl
 nothing_in_the_hopper : cards_text no_cards ≡ codes "hopper: empty\nstacker: empty\n"
 unfolding cards_text pile_text
 nothing_in_the_hopper = refl
+
+a_step_without_a_source : step_line 1 None (cells (codes ",008015"))
+    (codes "00008 gets a word mark; 00015 gets a word mark")
+    ≡ codes "00001        SW   008,015             00008 gets a word mark; 00015 gets a word mark\n"
+unfolding graphics cell cells digits step_line step_front instruction_columns columns_of operations_with_d operands_text
+a_step_without_a_source = refl
+
+no_blanks_follow_a_step_that_did_nothing : step_line 404 None (cells (codes "/")) [] ≡ codes "00404        CS\n"
+unfolding graphics cell cells digits step_line step_front instruction_columns columns_of operations_with_d operands_text
+no_blanks_follow_a_step_that_did_nothing = refl

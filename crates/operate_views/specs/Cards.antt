@@ -1,4 +1,5 @@
--- The hopper and the stacker in words (own): how many cards there are, and the one that is read next or was punched last.
+-- The hopper and the stacker in words (own): how many cards there are, and the one that is read next or was punched
+-- last.
 use Rattle.std.specs.Prelude.{ℕ, ◌==◌, if◌then◌else◌, List, ◌++◌, codes, length, Option, None, Some}
 use Rattle.devices_1401.specs.Devices.{Devices, last_punched, next_card}
 use Rattle.devices_1401.specs.declared.card.Card.{Card}

@@ -46,3 +46,9 @@ equals_text cells = if is_number cells then codes "  = " ++ number_text cells el
 unfoldable pub field_text : List ℕ → ℕ → List Cell → List ℕ
 field_text name at cells =
     name_text name ++ places_text at (length cells) ++ codes "  " ++ characters_text cells ++ equals_text cells
+
+-- a field, by its name or by its places, that changed: its characters before and after, both given units first
+unfoldable pub change_text : List ℕ → List Cell → List Cell → List ℕ
+change_text name before after =
+    name ++ codes " " ++ graphics_of (take (length before) (characters_down before)) ++ codes " -> "
+    ++ graphics_of (take (length after) (characters_down after))

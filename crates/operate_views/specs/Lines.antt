@@ -37,12 +37,14 @@ front_text mark at shown = (mark ∷ []) ++ digits_in 5 at ++ codes " " ++ padde
 -- the line of a place whose cells a line of the source made
 unfoldable pub source_line : ℕ → ℕ → List Cell → Statement → List ℕ
 source_line mark at cells statement =
-    front_text mark at (shown_cells cells) ++ statement_text statement ++ codes " line " ++ digits_in 1 statement.line ++ codes "\n"
+    front_text mark at (shown_cells cells) ++ statement_text statement ++ codes " line " ++ digits_in 1 statement.line
+    ++ codes "\n"
 
 -- the line of a place where an instruction begins that no line of the source made
 unfoldable pub instruction_line : ℕ → ℕ → List Cell → List ℕ
 instruction_line mark at cells =
-    front_text mark at (shown_cells cells) ++ codes "       " ++ without_last_blanks (instruction_text cells) ++ codes "\n"
+    front_text mark at (shown_cells cells) ++ codes "       " ++ without_last_blanks (instruction_text cells)
+    ++ codes "\n"
 
 -- the line of a place where none begins
 unfoldable pub cells_line : ℕ → ℕ → List Cell → List ℕ
@@ -69,3 +71,23 @@ abbrev pub listed_places : Storage → ℕ → Bool → ℕ
 listed_places storage at is_sourced =
     if is_sourced then min 64 (next_mark_from storage at)
     else (if (cell_at storage at).mark then length (instruction_at storage at) else min 8 (next_mark_from storage at))
+
+-- what a step carried out: the statement of the line of the source that made it, if there is one, else the instruction
+unfoldable pub statement_columns : Statement → List ℕ
+statement_columns statement =
+    padded 7 statement.label.now ++ padded 5 statement.operation.now ++ padded 19 statement.operands.now
+
+unfoldable pub instruction_columns : List Cell → List ℕ
+instruction_columns cells = codes "       " ++ padded 24 (instruction_text cells)
+
+abbrev pub stepped_columns : Option Statement → List Cell → List ℕ
+stepped_columns None cells = instruction_columns cells
+stepped_columns (Some statement) cells = statement_columns statement
+
+-- a step: where it was, what it carried out, and what it did, without blanks at the end
+unfoldable pub step_front : ℕ → Option Statement → List Cell → List ℕ
+step_front at statement cells = digits_in 5 at ++ codes " " ++ stepped_columns statement cells ++ codes " "
+
+unfoldable pub step_line : ℕ → Option Statement → List Cell → List ℕ → List ℕ
+step_line at statement cells effect =
+    without_last_blanks (step_front at statement cells ++ effect) ++ codes "\n"

@@ -1,5 +1,6 @@
 -- Core storage as text, fifty places a row under a ruler, with a row of tildes below those that have a word mark (own).
-use Rattle.std.specs.Prelude.{ℕ, ◌+◌, ◌-◌, ◌*◌, ◌/◌, ◌==◌, ◌&&◌, not, nat_le, nat_lt, Bool, if◌then◌else◌, List, [], ◌++◌}
+use Rattle.std.specs.Prelude.{ℕ, ◌+◌, ◌-◌, ◌*◌, ◌/◌, ◌==◌, ◌&&◌, not, nat_le, nat_lt, Bool, List, [], ◌++◌}
+use Rattle.std.specs.Prelude.{if◌then◌else◌}
 use Rattle.std.specs.Prelude.{codes, length, map, take}
 use Rattle.std.specs.List.{flat_map, list_all, range_with_len, suffix_len}
 use Rattle.bcd_1401.specs.declared.cell.Cell.{Cell}

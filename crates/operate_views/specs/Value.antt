@@ -1,5 +1,5 @@
--- What is put into a field, which keeps its places and its word marks (own: the zone over the units is that of a sign in
--- a result, and there is none without a sign; a text begins at the high place, and blanks follow it).
+-- What is put into a field, which keeps its places and its word marks (own: the zone over the units is that of a sign
+-- in a result, and there is none without a sign; a text begins at the high place, and blanks follow it).
 use Rattle.std.specs.Prelude.{◌≡◌, ℕ, ◌-◌, ◌<◌, Bool, List, [], ◌∷◌, map, reverse, Option, None, Some}
 use Rattle.bcd_1401.specs.Character.{digit_under}
 use Rattle.bcd_1401.specs.declared.cell.Cell.{Cell}

@@ -1,8 +1,8 @@
-//! A field as `print` shows it.
+//! A field as `print` shows it, and how it changed.
 ghost use Rattle.std.specs.Prelude.{◌≡◌, ◌+◌, ◌<◌, ◌≤◌, ◌++◌, length, take, OnOk};
 ghost use Rattle.machine_notation.specs.Characters.{graphics_of};
-ghost use Rattle.operate_views.specs.FieldText.{characters_down, characters_text, equals_text, field_text, name_text};
-ghost use Rattle.operate_views.specs.FieldText.{places_text};
+ghost use Rattle.operate_views.specs.FieldText.{change_text, characters_down, characters_text, equals_text, field_text};
+ghost use Rattle.operate_views.specs.FieldText.{name_text, places_text};
 
 use crate::numbers::{is_number, put_number};
 use bcd_1401::Cell;
@@ -98,4 +98,25 @@ pub fn put_field(text: &mut Vec<u8>, name: &[u8], at: u16, cells: &[Cell]) -> Re
     text.extend_from_slice(b"  ".as_slice())?;
     put_characters(text, cells)?;
     put_equals(text, cells)
+}
+
+/// Adds a field that changed, by its name or its places, with its characters before and after, both given units first.
+///
+/// # Errors
+///
+/// If the memory for the text is refused. Some of the text may have been added then.
+#[tactic(auto, unfolding(crate::specs::FieldText::change_text))]
+pub fn put_change(
+    text: &mut Vec<u8>,
+    name: &[u8],
+    before: &[Cell],
+    after: &[Cell],
+) -> Result<(), AllocError>
+    ensures { OnOk result (text.new.items ≡ text.old.items ++ change_text name.now before.now after.now) }
+{
+    text.extend_from_slice(name)?;
+    text.push(b' ')?;
+    put_graphics(text, before, before.len())?;
+    text.extend_from_slice(b" -> ".as_slice())?;
+    put_graphics(text, after, after.len())
 }

@@ -26,14 +26,14 @@ pub mod registers;
 // core as text
 pub mod ruler;
 
-// a line of the program
+// a line of the program, in `list` and after a step
 pub mod lines;
 
 pub use cards::put_cards;
 pub use fault::{FieldFault, ValueFault};
-pub use field_text::put_field;
+pub use field_text::{put_change, put_field};
 pub use fields::field_cells;
-pub use lines::{Statement, listed_places, put_listed};
+pub use lines::{Statement, listed_places, put_listed, put_step};
 pub use numbers::{is_number, put_number};
 pub use paper::{put_paper, put_printed};
 pub use registers::{put_place, put_registers, put_switches};

@@ -1,6 +1,8 @@
-//! The lines of `list`.
+//! The lines of `list` and of `step`.
 ghost use Rattle.std.specs.Prelude.{◌≡◌, ◌-◌, ◌<◌, ◌≤◌, ◌++◌, length, replicate, IfOk, OnOk};
 ghost use Rattle.machine_mnemonics.specs.InstructionText.{instruction_text};
+ghost use Rattle.operate_views.specs.Lines.{instruction_columns, statement_columns, step_front, step_line};
+ghost use Rattle.operate_views.specs.Lines.{stepped_columns};
 ghost use Rattle.operate_views.specs.Lines.{cells_line, cells_to_mark, listed_line, listed_places, unsourced_line};
 ghost use Rattle.operate_views.specs.Lines.{front_text, instruction_line, padded, shown_cells, source_line};
 ghost use Rattle.operate_views.specs.Lines.{statement_text, without_last_blanks};
@@ -24,6 +26,9 @@ const LABEL_COLUMNS: usize = 7;
 const OPERATION_COLUMNS: usize = 5;
 
 const OPERAND_COLUMNS: usize = 20;
+
+/// The columns of operands in the line of a step.
+const STEP_COLUMNS: usize = 19;
 
 /// The most cells that a line shows.
 const MOST_SHOWN: u16 = 8;
@@ -292,4 +297,103 @@ pub fn listed_places(core: &Core, at: u16, is_sourced: bool) -> u16
     } else {
         core.next_mark(at, MOST_SHOWN)
     }
+}
+
+/// Adds the fields of a statement, in the columns of a step.
+#[tactic(auto, unfolding(crate::specs::Lines::statement_columns))]
+fn put_statement_columns(text: &mut Vec<u8>, statement: &Statement<'_>) -> Result<(), AllocError>
+    ensures { OnOk result (text.new.items ≡ text.old.items ++ statement_columns statement.now) }
+{
+    put_padded(text, statement.label, LABEL_COLUMNS)?;
+    put_padded(text, statement.operation, OPERATION_COLUMNS)?;
+    put_padded(text, statement.operands, STEP_COLUMNS)
+}
+
+/// Adds an instruction as Autocoder writes it, in the columns of a step.
+#[tactic(auto, unfolding(crate::specs::Lines::instruction_columns))]
+fn put_instruction_columns(
+    alloc: Global,
+    text: &mut Vec<u8>,
+    cells: &[Cell],
+) -> Result<(), AllocError>
+    requires { length cells.now ≤ 8 }
+    ensures { OnOk result (text.new.items ≡ text.old.items ++ instruction_columns cells.now) }
+{
+    let whole = written(alloc, cells)?;
+    text.extend_from_slice(b"       ".as_slice())?;
+    put_padded(text, whole.as_slice(), OPERATION_COLUMNS + STEP_COLUMNS)
+}
+
+/// Adds what a step carried out.
+fn put_stepped(
+    alloc: Global,
+    text: &mut Vec<u8>,
+    statement: Option<Statement<'_>>,
+    cells: &[Cell],
+) -> Result<(), AllocError>
+    requires { length cells.now ≤ 8 }
+    ensures { OnOk result (text.new.items ≡ text.old.items ++ stepped_columns statement.entry cells.now) }
+{
+    match statement {
+        None => put_instruction_columns(alloc, text, cells),
+        Some(statement) => put_statement_columns(text, &statement),
+    }
+}
+
+/// Adds where a step was, and what it carried out.
+#[tactic(auto, unfolding(crate::specs::Lines::step_front))]
+fn put_step_front(
+    alloc: Global,
+    text: &mut Vec<u8>,
+    at: u16,
+    statement: Option<Statement<'_>>,
+    cells: &[Cell],
+) -> Result<(), AllocError>
+    requires { length cells.now ≤ 8 }
+    ensures { OnOk result (text.new.items ≡ text.old.items ++ step_front at statement.entry cells.now) }
+{
+    put_digits(text, ADDRESS_DIGITS, u64::from(at))?;
+    text.push(b' ')?;
+    put_stepped(alloc, text, statement, cells)?;
+    Ok(text.push(b' ')?)
+}
+
+/// The line of a step, with blanks at its end if it did nothing that is shown.
+fn step_whole(
+    alloc: Global,
+    at: u16,
+    statement: Option<Statement<'_>>,
+    cells: &[Cell],
+    effect: &[u8],
+) -> Result<Vec<u8>, AllocError>
+    requires { length cells.now ≤ 8 }
+    ensures { IfOk result (λ whole. whole.items ≡ step_front at statement.entry cells.now ++ effect.now) }
+{
+    let mut whole = Vec::new(alloc);
+    put_step_front(alloc, &mut whole, at, statement, cells)?;
+    whole.extend_from_slice(effect)?;
+    Ok(whole)
+}
+
+/// Adds the line of a step: where it was, the statement of the line of the source that made its instruction, else the
+/// instruction, and what it did. `cells` are those of the instruction, `effect` is the text of what it did.
+///
+/// # Errors
+///
+/// If memory is refused. Some of the text may have been added then.
+#[tactic(auto, unfolding(crate::specs::Lines::step_line))]
+pub fn put_step(
+    alloc: Global,
+    text: &mut Vec<u8>,
+    at: u16,
+    statement: Option<Statement<'_>>,
+    cells: &[Cell],
+    effect: &[u8],
+) -> Result<(), AllocError>
+    requires { length cells.now ≤ 8 }
+    ensures { OnOk result (text.new.items ≡ text.old.items ++ step_line at statement.entry cells.now effect.now) }
+{
+    let whole = step_whole(alloc, at, statement, cells, effect)?;
+    text.extend_from_slice(without_last_blanks(whole.as_slice()))?;
+    Ok(text.push(b'\n')?)
 }

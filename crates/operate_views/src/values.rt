@@ -1,6 +1,6 @@
 //! What is put into a field.
-ghost use Rattle.std.specs.Prelude.{◌≡◌, ◌-◌, ◌+◌, ◌<◌, ◌≤◌, ◌==◌, true, if◌then◌else◌, length, reverse, slice_index_or};
-ghost use Rattle.std.specs.Prelude.{IfOk, IfErr, OnOk};
+ghost use Rattle.std.specs.Prelude.{◌≡◌, ◌-◌, ◌+◌, ◌<◌, ◌≤◌, ◌==◌, true, if◌then◌else◌, length, reverse};
+ghost use Rattle.std.specs.Prelude.{slice_index_or, IfOk, IfErr, OnOk};
 ghost use Rattle.std.specs.List.{list_all};
 ghost use Rattle.bcd_1401.specs.Character.{digit_under};
 ghost use Rattle.bcd_1401.specs.Digits.{is_digit, value_of};

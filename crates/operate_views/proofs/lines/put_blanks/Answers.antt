@@ -5,6 +5,7 @@ use Rattle.operate_views.proofs.lines.put_blanks.Goals as goal
 
 pub loop-column-preserved : goal.loop-column-preserved
 loop-column-preserved c =
-    ap (λ (items : List ℕ). items ++ replicate (c.args.width - (c.loop-column.column + 1)) 32) c.in_ok-push.ensures.items
+    ap (λ (items : List ℕ). items ++ replicate (c.args.width - (c.loop-column.column + 1)) 32)
+    c.in_ok-push.ensures.items
     ∙ blank_more c.loop-column.text.items c.loop-column.column c.args.width c.loop-column-test.true
     ∙ c.loop-column.invariant

@@ -9,4 +9,5 @@ unfolding compared_text
 returns c =
     subst (λ (t : List ℕ). OnOk c.put_comparison.result (c.put_comparison.new.text.items ≡ t))
     (ap (λ (front : List ℕ). front ++ comparison_text c.args.regs.now) c.in_ok-extend_from_slice.ensures.items
-    ∙ append_assoc c.args.text.now.items (codes "last comparison: ") (comparison_text c.args.regs.now)) c.put_comparison.ensures
+    ∙ append_assoc c.args.text.now.items (codes "last comparison: ") (comparison_text c.args.regs.now))
+    c.put_comparison.ensures

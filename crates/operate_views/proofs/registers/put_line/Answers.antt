@@ -10,4 +10,5 @@ unfolding line_text
 returns c =
     subst (λ (t : List ℕ). OnOk c.put_digits.result (c.put_digits.new.text.items ≡ t))
     (ap (λ (front : List ℕ). front ++ digits_in 1 c.args.line) c.in_ok-extend_from_slice.ensures.items
-    ∙ append_assoc c.args.text.now.items (codes "; the carriage is at line ") (digits_in 1 c.args.line)) c.put_digits.ensures.text
+    ∙ append_assoc c.args.text.now.items (codes "; the carriage is at line ") (digits_in 1 c.args.line))
+    c.put_digits.ensures.text

@@ -9,4 +9,5 @@ unfolding overflow_text
 returns c =
     subst (λ (t : List ℕ). OnOk c.put_answer.result (c.put_answer.new.text.items ≡ t))
     (ap (λ (front : List ℕ). front ++ answer_text c.args.regs.now.overflow) c.in_ok-extend_from_slice.ensures.items
-    ∙ append_assoc c.args.text.now.items (codes "; overflow: ") (answer_text c.args.regs.now.overflow)) c.put_answer.ensures
+    ∙ append_assoc c.args.text.now.items (codes "; overflow: ") (answer_text c.args.regs.now.overflow))
+    c.put_answer.ensures

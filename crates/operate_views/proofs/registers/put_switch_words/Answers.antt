@@ -9,4 +9,5 @@ unfolding switches_on_text
 returns c =
     subst (λ (t : List ℕ). OnOk c.put_switches_on.result (c.put_switches_on.new.text.items ≡ t))
     (ap (λ (front : List ℕ). front ++ on_text c.args.switches.now) c.in_ok-extend_from_slice.ensures.items
-    ∙ append_assoc c.args.text.now.items (codes "switches on: ") (on_text c.args.switches.now)) c.put_switches_on.ensures
+    ∙ append_assoc c.args.text.now.items (codes "switches on: ") (on_text c.args.switches.now))
+    c.put_switches_on.ensures

@@ -15,5 +15,6 @@ loop-number-preserved c =
     ap (λ (text : List ℕ). text ++ rest) c.in_ok-put_numbered_row.ensures
     ∙ append_assoc c.loop-number.text.items (row k) rest
     ∙ ap (λ (text : List ℕ). c.loop-number.text.items ++ text)
-    (sym (row_more s c.args.first c.args.end k last (omega (arith, c.loop-number-test.true, c.div_ceil-number-end.ensures))))
+    (sym (row_more s c.args.first c.args.end k last
+    (omega (arith, c.loop-number-test.true, c.div_ceil-number-end.ensures))))
     ∙ c.loop-number.invariant
