@@ -1,0 +1,12 @@
+-- What was read so far, and what is left to read, are all of them.
+use Rattle.std.proofs.Common.{◌≡◌, ◌-◌, length, take}
+use Rattle.operate_orders.specs.List.{field, listed}
+use Rattle.operate_orders.specs.declared.words.Keyword.TheVariants.{Print}
+use Rattle.operate_orders.proofs.ListLemmas.{with_front}
+use Rattle.operate_orders.proofs.lists.fields.Given as goal
+
+abbrev pub invariant-loop-i : goal.invariant-loop-i
+invariant-loop-i l = record {
+  so_far : with_front (take l.i l.fields) (listed Print field (8 - l.i) l.rest) ≡ listed Print field 8 l.operands;
+  room : length l.fields ≡ 8;
+}

@@ -1,0 +1,13 @@
+pub mod ActLine
+pub mod FaultText
+pub mod List
+pub mod LookLine
+pub mod NoteLine
+pub mod Operands
+pub mod OrderLine
+pub mod Parts
+pub mod Place
+pub mod Range
+pub mod Text
+pub mod Value
+pub mod Words

@@ -1,0 +1,206 @@
+//! The lines that note something beside the machine.
+ghost use Rattle.std.specs.Prelude.{◌≡◌};
+ghost use Rattle.operate_orders.specs.NoteLine.{if_in, counted_in, uncounted_in, when_in, break_of, paper_at, places_at};
+ghost use Rattle.operate_orders.specs.NoteLine.{watch_of, delete_of, do_of, transcript_of, assert_of, help_on};
+ghost use Rattle.operate_orders.specs.NoteLine.{help_of, save_of};
+
+use crate::fault::OrderFault;
+use crate::lists::numbers;
+use crate::looking::alone;
+use crate::operands::{count_operand, lone_file, lone_range, place_operand};
+use crate::orders::{Note, Order, Watched};
+use crate::parts::{behind_first, byte_at, is_end, is_word, split_operand, without_blanks};
+use crate::text::Text;
+use crate::values::{Condition, condition_operand, quoted};
+use crate::words::Keyword;
+
+/// From the condition on: nothing, or if CONDITION.
+#[tactic(auto, unfolding(crate::specs::NoteLine::if_in))]
+fn condition(rest: &[u8]) -> Result<Option<Condition>, OrderFault>
+    ensures { result ≡ if_in rest.now }
+{
+    let (word, behind) = split_operand(rest);
+    if word.is_empty() {
+        return Ok(None);
+    }
+    if !is_word(word, b"IF") {
+        return Err(OrderFault::Usage(Keyword::Break));
+    }
+    let condition = condition_operand(Keyword::Break, behind)?;
+    Ok(Some(condition))
+}
+
+/// A count, and a condition after it.
+#[tactic(auto, unfolding(crate::specs::NoteLine::counted_in))]
+fn counted(rest: &[u8]) -> Result<(Option<u32>, Option<Condition>), OrderFault>
+    ensures { result ≡ counted_in rest.now }
+{
+    let (word, behind) = split_operand(rest);
+    let after = count_operand(word)?;
+    if after.is_none() {
+        return Err(OrderFault::Usage(Keyword::Break));
+    }
+    let condition = condition(behind)?;
+    Ok((after, condition))
+}
+
+/// A condition alone.
+fn uncounted(rest: &[u8]) -> Result<(Option<u32>, Option<Condition>), OrderFault>
+    ensures { result ≡ uncounted_in rest.now }
+{
+    let condition = condition(rest)?;
+    Ok((None, condition))
+}
+
+/// When a break stops, which follows its place.
+#[tactic(auto, unfolding(crate::specs::NoteLine::when_in))]
+fn when(rest: &[u8]) -> Result<(Option<u32>, Option<Condition>), OrderFault>
+    ensures { result ≡ when_in rest.now }
+{
+    let (word, behind) = split_operand(rest);
+    if is_word(word, b"AFTER") {
+        counted(behind)
+    } else {
+        uncounted(rest)
+    }
+}
+
+/// `break ADDRESS [after N] [if CONDITION]`.
+#[tactic(auto, unfolding(crate::specs::NoteLine::break_of))]
+pub(crate) fn break_line(rest: &[u8]) -> Result<Order, OrderFault>
+    ensures { result ≡ break_of rest.now }
+{
+    let (word, behind) = split_operand(rest);
+    let place = place_operand(Keyword::Break, word)?;
+    let (after, condition) = when(behind)?;
+    Ok(Order::Note(Note::Break {
+        place,
+        after,
+        condition,
+    }))
+}
+
+/// Printed lines, from their text on.
+#[tactic(auto, unfolding(crate::specs::NoteLine::paper_at))]
+fn paper_at(rest: &[u8]) -> Result<Order, OrderFault>
+    ensures { result ≡ paper_at rest.now }
+{
+    if is_end(rest) {
+        return Ok(Order::Note(Note::Watch(Watched::Paper(None))));
+    }
+    let text = without_blanks(rest);
+    if byte_at(text, 0) != b'@' {
+        return Err(OrderFault::Usage(Keyword::Watch));
+    }
+    let text = quoted(Keyword::Watch, behind_first(text))?;
+    Ok(Order::Note(Note::Watch(Watched::Paper(Some(text)))))
+}
+
+/// Places.
+#[tactic(auto, unfolding(crate::specs::NoteLine::places_at))]
+fn places_at(rest: &[u8]) -> Result<Order, OrderFault>
+    ensures { result ≡ places_at rest.now }
+{
+    let range = lone_range(Keyword::Watch, rest)?;
+    Ok(Order::Note(Note::Watch(Watched::Places(range))))
+}
+
+/// `watch ..`.
+#[tactic(auto, unfolding(crate::specs::NoteLine::watch_of))]
+pub(crate) fn watch(rest: &[u8]) -> Result<Order, OrderFault>
+    ensures { result ≡ watch_of rest.now }
+{
+    let (word, behind) = split_operand(rest);
+    if is_word(word, b"PAPER") {
+        paper_at(behind)
+    } else if is_word(word, b"READER") {
+        alone(
+            Keyword::Watch,
+            behind,
+            Order::Note(Note::Watch(Watched::Reader)),
+        )
+    } else if is_word(word, b"PUNCH") {
+        alone(
+            Keyword::Watch,
+            behind,
+            Order::Note(Note::Watch(Watched::Punch)),
+        )
+    } else {
+        places_at(rest)
+    }
+}
+
+/// `delete [N ..]`.
+#[tactic(auto, unfolding(crate::specs::NoteLine::delete_of))]
+pub(crate) fn delete(rest: &[u8]) -> Result<Order, OrderFault>
+    ensures { result ≡ delete_of rest.now }
+{
+    let numbers = numbers(rest)?;
+    Ok(Order::Note(Note::Delete(numbers)))
+}
+
+/// `do FILE`.
+#[tactic(auto, unfolding(crate::specs::NoteLine::do_of))]
+pub(crate) fn do_line(rest: &[u8]) -> Result<Order, OrderFault>
+    ensures { result ≡ do_of rest.now }
+{
+    let file = lone_file(Keyword::Do, rest)?;
+    Ok(Order::Note(Note::Do(file)))
+}
+
+/// `transcript FILE`, `transcript off`.
+#[tactic(auto, unfolding(crate::specs::NoteLine::transcript_of))]
+pub(crate) fn transcript(rest: &[u8]) -> Result<Order, OrderFault>
+    ensures { result ≡ transcript_of rest.now }
+{
+    let file = lone_file(Keyword::Transcript, rest)?;
+    if is_word(file.as_slice(), b"OFF") {
+        Ok(Order::Note(Note::Transcript(None)))
+    } else {
+        Ok(Order::Note(Note::Transcript(Some(file))))
+    }
+}
+
+/// `assert CONDITION`.
+#[tactic(auto, unfolding(crate::specs::NoteLine::assert_of))]
+pub(crate) fn assert_line(rest: &[u8]) -> Result<Order, OrderFault>
+    ensures { result ≡ assert_of rest.now }
+{
+    let condition = condition_operand(Keyword::Assert, rest)?;
+    Ok(Order::Note(Note::Assert(condition)))
+}
+
+/// Help on the word that some letters mean.
+#[tactic(auto, unfolding(crate::specs::NoteLine::help_on))]
+fn help_on(letters: &[u8]) -> Result<Order, OrderFault>
+    ensures { result ≡ help_on letters.now }
+{
+    match Keyword::from_letters(letters) {
+        Some(keyword) => Ok(Order::Note(Note::Help(Some(keyword)))),
+        None => Err(OrderFault::Word(Text::as_typed(letters))),
+    }
+}
+
+/// `help [WORD]`.
+#[tactic(auto, unfolding(crate::specs::NoteLine::help_of))]
+pub(crate) fn help(rest: &[u8]) -> Result<Order, OrderFault>
+    ensures { result ≡ help_of rest.now }
+{
+    let (letters, behind) = split_operand(rest);
+    if letters.is_empty() {
+        return Ok(Order::Note(Note::Help(None)));
+    }
+    if !is_end(behind) {
+        return Err(OrderFault::Usage(Keyword::Help));
+    }
+    help_on(letters)
+}
+
+/// `save FILE`.
+#[tactic(auto, unfolding(crate::specs::NoteLine::save_of))]
+pub(crate) fn save(rest: &[u8]) -> Result<Order, OrderFault>
+    ensures { result ≡ save_of rest.now }
+{
+    let file = lone_file(Keyword::Save, rest)?;
+    Ok(Order::Note(Note::Save(file)))
+}

@@ -1,0 +1,138 @@
+//! The operands of a line, each with its fault.
+ghost use Rattle.std.specs.Prelude.{◌≡◌};
+ghost use Rattle.operate_orders.specs.Operands.{place_operand, range_operand, count_operand, lone_place};
+ghost use Rattle.operate_orders.specs.Operands.{lone_range, lone_count, lone_file};
+
+use crate::fault::OrderFault;
+use crate::parts::{file_name, is_end, numeral, split_operand};
+use crate::places::{Place, read_place};
+use crate::ranges::{Range, read_range};
+use crate::text::Text;
+use crate::words::Keyword;
+
+/// The place that a word is.
+///
+/// # Errors
+///
+/// `Usage` if there is no word, `Place` if it is no address.
+#[tactic(auto, unfolding(crate::specs::Operands::place_operand))]
+pub(crate) fn place_operand(keyword: Keyword, word: &[u8]) -> Result<Place, OrderFault>
+    ensures { result ≡ place_operand keyword word.now }
+{
+    if word.is_empty() {
+        return Err(OrderFault::Usage(keyword));
+    }
+    let capitals = Text::in_capitals(word);
+    match read_place(capitals.as_slice()) {
+        Some(place) => Ok(place),
+        None => Err(OrderFault::Place(Text::as_typed(word))),
+    }
+}
+
+/// The range that a word is.
+///
+/// # Errors
+///
+/// `Usage` if there is no word, `Range` if it is no range.
+#[tactic(auto, unfolding(crate::specs::Operands::range_operand))]
+pub(crate) fn range_operand(keyword: Keyword, word: &[u8]) -> Result<Range, OrderFault>
+    ensures { result ≡ range_operand keyword word.now }
+{
+    if word.is_empty() {
+        return Err(OrderFault::Usage(keyword));
+    }
+    let capitals = Text::in_capitals(word);
+    match read_range(capitals.as_slice()) {
+        Some(range) => Ok(range),
+        None => Err(OrderFault::Range(Text::as_typed(word))),
+    }
+}
+
+/// The number from 1 on that a word is, none where there is no word.
+///
+/// # Errors
+///
+/// `Count` if the word is no such number.
+#[tactic(auto, unfolding(crate::specs::Operands::count_operand))]
+pub(crate) fn count_operand(word: &[u8]) -> Result<Option<u32>, OrderFault>
+    ensures { result ≡ count_operand word.now }
+{
+    if word.is_empty() {
+        return Ok(None);
+    }
+    match numeral(word) {
+        Some(0) | None => Err(OrderFault::Count(Text::as_typed(word))),
+        Some(count) => Ok(Some(count)),
+    }
+}
+
+/// A place, and nothing after it.
+///
+/// # Errors
+///
+/// `Usage` if there is no word or another follows, `Place` if it is no address.
+#[tactic(auto, unfolding(crate::specs::Operands::lone_place))]
+pub(crate) fn lone_place(keyword: Keyword, rest: &[u8]) -> Result<Place, OrderFault>
+    ensures { result ≡ lone_place keyword rest.now }
+{
+    let (word, behind) = split_operand(rest);
+    let place = place_operand(keyword, word)?;
+    if is_end(behind) {
+        Ok(place)
+    } else {
+        Err(OrderFault::Usage(keyword))
+    }
+}
+
+/// A range, and nothing after it.
+///
+/// # Errors
+///
+/// `Usage` if there is no word or another follows, `Range` if it is no range.
+#[tactic(auto, unfolding(crate::specs::Operands::lone_range))]
+pub(crate) fn lone_range(keyword: Keyword, rest: &[u8]) -> Result<Range, OrderFault>
+    ensures { result ≡ lone_range keyword rest.now }
+{
+    let (word, behind) = split_operand(rest);
+    let range = range_operand(keyword, word)?;
+    if is_end(behind) {
+        Ok(range)
+    } else {
+        Err(OrderFault::Usage(keyword))
+    }
+}
+
+/// A number from 1 on or none, and nothing after it.
+///
+/// # Errors
+///
+/// `Count` if a word is no such number, `Usage` if another follows.
+#[tactic(auto, unfolding(crate::specs::Operands::lone_count))]
+pub(crate) fn lone_count(keyword: Keyword, rest: &[u8]) -> Result<Option<u32>, OrderFault>
+    ensures { result ≡ lone_count keyword rest.now }
+{
+    let (word, behind) = split_operand(rest);
+    let count = count_operand(word)?;
+    if is_end(behind) {
+        Ok(count)
+    } else {
+        Err(OrderFault::Usage(keyword))
+    }
+}
+
+/// The name of a file.
+///
+/// # Errors
+///
+/// `Usage` if there is none.
+#[tactic(auto, unfolding(crate::specs::Operands::lone_file))]
+pub(crate) fn lone_file(keyword: Keyword, rest: &[u8]) -> Result<Text, OrderFault>
+    ensures { result ≡ lone_file keyword rest.now }
+{
+    let name = file_name(rest);
+    if name.is_empty() {
+        Err(OrderFault::Usage(keyword))
+    } else {
+        Ok(Text::as_typed(name))
+    }
+}

@@ -1,0 +1,155 @@
+//! The parts of a line: its operands, and numbers among them.
+ghost use Rattle.std.specs.Prelude.{◌≡◌, ◌==◌, ◌≤◌, length, drop, slice_index};
+ghost use Rattle.std.specs.List.{prefix_len, suffix_len, position_or_len, list_all};
+ghost use Rattle.std.specs.Str.{bytes_eq};
+ghost use Rattle.bcd_1401.specs.Digits.{is_digit};
+ghost use Rattle.console_text.specs.Words.{is_blank, without_blanks};
+ghost use Rattle.operate_orders.specs.Parts.{operand_in, behind_operand, is_end, before_byte, from_byte, file_in};
+ghost use Rattle.operate_orders.specs.Parts.{are_digits, has_graphics, numeral_in};
+ghost use Rattle.operate_orders.specs.Text.{capitals};
+
+use crate::text::Text;
+use bcd_1401::Char;
+use machine_notation::read_digits;
+
+/// The most digits that a number has.
+const MOST_DIGITS: usize = 9;
+
+/// How many blanks a text begins with.
+fn blanks_in_front(text: &[u8]) -> usize
+    ensures value { result ≡ prefix_len is_blank text.now }
+    ensures bound { result ≤ length text.now }
+{
+    text.iter().take_while(|byte| **byte == b' ').count()
+}
+
+/// How many bytes stand before the first of a kind.
+fn bytes_before(text: &[u8], end: u8) -> usize
+    ensures value { result ≡ position_or_len (λ byte. byte == end) text.now }
+    ensures bound { result ≤ length text.now }
+{
+    text.iter().take_while(|byte| **byte != end).count()
+}
+
+/// A byte of a text, and 0 after its end.
+pub(crate) fn byte_at(text: &[u8], at: usize) -> u8
+    ensures { result ≡ slice_index text.now at }
+{
+    if at < text.len() { text[at] } else { 0 }
+}
+
+/// What follows the first byte of a text.
+pub(crate) fn behind_first(text: &[u8]) -> &[u8]
+    ensures { result.now ≡ drop 1 text.now }
+{
+    text.get(1..).unwrap_or(&[])
+}
+
+/// A text from its first byte on that is no blank.
+pub(crate) fn without_blanks(text: &[u8]) -> &[u8]
+    ensures { result.now ≡ without_blanks text.now }
+{
+    &text[blanks_in_front(text)..]
+}
+
+/// What stands before the first byte of a kind, and the text from there on.
+#[tactic(auto, unfolding(crate::specs::Parts::before_byte, crate::specs::Parts::from_byte))]
+pub(crate) fn split_before(text: &[u8], end: u8) -> (&[u8], &[u8])
+    ensures before { result.0.now ≡ before_byte end text.now }
+    ensures from { result.1.now ≡ from_byte end text.now }
+{
+    text.split_at(bytes_before(text, end))
+}
+
+/// The next operand of a line, empty if none follows, and what follows it.
+#[tactic(auto, unfolding(crate::specs::Parts::operand_in, crate::specs::Parts::behind_operand))]
+pub(crate) fn split_operand(text: &[u8]) -> (&[u8], &[u8])
+    ensures operand { result.0.now ≡ operand_in text.now }
+    ensures behind { result.1.now ≡ behind_operand text.now }
+{
+    let text = without_blanks(text);
+    if byte_at(text, 0) == b'#' {
+        let none: &[u8] = &[];
+        return (none, none);
+    }
+    split_before(text, b' ')
+}
+
+/// Whether no operand follows.
+#[tactic(auto, unfolding(crate::specs::Parts::is_end))]
+pub(crate) fn is_end(text: &[u8]) -> bool
+    ensures { result ≡ is_end text.now }
+{
+    let (operand, _) = split_operand(text);
+    operand.is_empty()
+}
+
+/// How many blanks a text ends with.
+fn blanks_at_end(text: &[u8]) -> usize
+    ensures value { result ≡ suffix_len is_blank text.now }
+    ensures bound { result ≤ length text.now }
+{
+    text.iter().rev().take_while(|byte| **byte == b' ').count()
+}
+
+/// The name of a file: all that follows, without the blanks around it.
+#[tactic(auto, unfolding(crate::specs::Parts::file_in))]
+pub(crate) fn file_name(text: &[u8]) -> &[u8]
+    ensures { result.now ≡ file_in text.now }
+{
+    let text = without_blanks(text);
+    &text[..text.len() - blanks_at_end(text)]
+}
+
+/// Whether a word, capitals or small letters, is this one.
+pub(crate) fn is_word(word: &[u8], name: &[u8]) -> bool
+    ensures { result ≡ bytes_eq (capitals word.now) name.now }
+{
+    let held = Text::in_capitals(word);
+    held.as_slice() == name
+}
+
+/// Whether a byte is a digit.
+pub(crate) fn is_digit(byte: u8) -> bool
+    ensures { result ≡ is_digit byte }
+{
+    byte >= b'0' && byte <= b'9'
+}
+
+/// Whether each byte is a digit.
+fn all_digits(text: &[u8]) -> bool
+    ensures { result ≡ list_all is_digit text.now }
+{
+    text.iter().all(|byte| is_digit(*byte))
+}
+
+/// Whether a text is one digit or more.
+#[tactic(auto, unfolding(crate::specs::Parts::are_digits))]
+pub(crate) fn are_digits(text: &[u8]) -> bool
+    ensures { result ≡ are_digits text.now }
+{
+    if text.is_empty() {
+        false
+    } else {
+        all_digits(text)
+    }
+}
+
+/// Whether each byte is the graphic of a character.
+#[tactic(auto, unfolding(crate::specs::Parts::has_graphics))]
+pub(crate) fn has_graphics(text: &[u8]) -> bool
+    ensures { result ≡ has_graphics text.now }
+{
+    text.iter().all(|byte| Char::from_graphic(*byte).is_some())
+}
+
+/// The number that a text of one to nine digits is.
+#[tactic(auto, unfolding(crate::specs::Parts::numeral_in))]
+pub(crate) fn numeral(text: &[u8]) -> Option<u32>
+    ensures { result ≡ numeral_in text.now }
+{
+    if text.is_empty() || text.len() > MOST_DIGITS {
+        return None;
+    }
+    read_digits(text)
+}
