@@ -48,7 +48,7 @@ unfolding kept capitals before_byte from_byte operand_in behind_operand is_end f
     graphics
 says line = order_of line
 
--- each of these lines says what is beside it
+-- each of these lines says what is next to it
 abbrev pub AllSay : List (List ℕ × Said) → Type 0
 AllSay lines = map (λ line. order_of line.0) lines ≡ map (λ line. line.1) lines
 
@@ -59,7 +59,7 @@ adjusted base first second third = record { base = base; adjustments = first ∷
 abbrev pub plain : Base → Place
 plain base = adjusted base None None None
 
--- the place that a number is, the one that a label is, the first of a line
+-- the place of a number, of a label, and the first of a line of the source
 abbrev pub at : ℕ → Place
 at number = plain (Number number)
 

@@ -1,4 +1,4 @@
--- The lines that note something beside the machine (own).
+-- The lines that note something next to the machine (own).
 use Rattle.std.specs.Prelude.{ℕ, ◌==◌, not, if◌then◌else◌, List, length, drop, Option, None, Some, is_none}
 use Rattle.std.specs.Prelude.{Result, Ok, Err, codes}
 use Rattle.std.specs.Str.{bytes_eq}

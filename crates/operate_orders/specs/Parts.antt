@@ -11,7 +11,7 @@ use Rattle.console_text.specs.Words.{is_blank, without_blanks, blank}
 abbrev pub first_of : List ℕ → ℕ
 first_of text = slice_index text 0
 
--- what stands before the first byte of a kind, and the text from there on
+-- what comes before the first byte of a kind, and the text from there on
 unfoldable pub before_byte : ℕ → List ℕ → List ℕ
 before_byte end text = take (position_or_len (λ byte. byte == end) text) text
 

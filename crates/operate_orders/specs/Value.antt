@@ -19,7 +19,7 @@ use Rattle.operate_orders.specs.declared.values.Value.{Value}
 use Rattle.operate_orders.specs.declared.values.Value.TheVariants as value
 use Rattle.operate_orders.specs.declared.words.Keyword.{Keyword}
 
--- it stands before a text and after it
+-- it comes before a text and after it
 abbrev pub at_sign : ℕ
 at_sign = 64
 

@@ -101,7 +101,7 @@ fn bytes_of_line(line: &[u8]) -> usize
     line.iter().take_while(|byte| is_of_line(**byte)).count()
 }
 
-/// What a line says: at most 200 bytes, without the one that ends it. Small letters are read as capitals, but for the
+/// What a line says: at most 200 bytes, without the byte that ends it. Small letters are read as capitals, but for the
 /// names of files.
 ///
 /// # Errors

@@ -1,4 +1,4 @@
-//! The lines that note something beside the machine.
+//! The lines that note something next to the machine.
 ghost use Rattle.std.specs.Prelude.{◌≡◌};
 ghost use Rattle.operate_orders.specs.NoteLine.{if_in, counted_in, uncounted_in, when_in, break_of, paper_at, places_at};
 ghost use Rattle.operate_orders.specs.NoteLine.{watch_of, delete_of, do_of, transcript_of, assert_of, help_on};

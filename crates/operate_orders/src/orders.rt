@@ -22,7 +22,7 @@ pub enum Order {
     Act(Act),
     /// What was recorded is taken back.
     Past(Past),
-    /// Something is noted beside the machine.
+    /// Something is noted next to the machine.
     Note(Note),
     /// `quit`: the end.
     Quit,
@@ -132,7 +132,7 @@ pub enum Note {
     Break {
         /// The place of the instruction.
         place: Place,
-        /// The how manieth time it stops, if not each time.
+        /// Which visit it stops at, counted from 1; each visit if there is none.
         after: Option<u32>,
         /// Where it stops, if not always.
         condition: Option<Condition>,

@@ -23,7 +23,7 @@ fn blanks_in_front(text: &[u8]) -> usize
     text.iter().take_while(|byte| **byte == b' ').count()
 }
 
-/// How many bytes stand before the first of a kind.
+/// How many bytes come before the first of a kind.
 fn bytes_before(text: &[u8], end: u8) -> usize
     ensures value { result ≡ position_or_len (λ byte. byte == end) text.now }
     ensures bound { result ≤ length text.now }
@@ -52,7 +52,7 @@ pub(crate) fn without_blanks(text: &[u8]) -> &[u8]
     &text[blanks_in_front(text)..]
 }
 
-/// What stands before the first byte of a kind, and the text from there on.
+/// What comes before the first byte of a kind, and the text from there on.
 #[tactic(auto, unfolding(crate::specs::Parts::before_byte, crate::specs::Parts::from_byte))]
 pub(crate) fn split_before(text: &[u8], end: u8) -> (&[u8], &[u8])
     ensures before { result.0.now ≡ before_byte end text.now }

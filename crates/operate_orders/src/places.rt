@@ -223,7 +223,7 @@ fn is_sign(byte: u8) -> bool
     byte == b'+' || byte == b'-'
 }
 
-/// How many bytes stand before the first sign.
+/// How many bytes come before the first sign.
 fn bytes_before_sign(text: &[u8]) -> usize
     ensures value { result ≡ position_or_len is_sign text.now }
     ensures bound { result ≤ length text.now }

@@ -177,7 +177,7 @@ fn is_relation(byte: u8) -> bool
     byte == b'=' || byte == b'<' || byte == b'>'
 }
 
-/// How many bytes stand before a relation.
+/// How many bytes come before a relation.
 fn bytes_before_relation(text: &[u8]) -> usize
     ensures value { result ≡ position_or_len is_relation text.now }
     ensures bound { result ≤ length text.now }
@@ -210,7 +210,7 @@ fn related(first: u8, second: u8) -> Option<Relation>
     }
 }
 
-/// The text behind a relation.
+/// The text after a relation.
 #[tactic(auto, unfolding(crate::specs::Value::behind_relation))]
 fn behind_relation(relation: Relation, text: &[u8]) -> &[u8]
     ensures { result.now ≡ behind_relation relation text.now }
