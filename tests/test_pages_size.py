@@ -15,7 +15,7 @@ MOST_LINES = {
     "docs/ARCHITECTURE.md": 160,
     "docs/CONTRIBUTING.md": 120,
     "docs/COSTS.md": 120,
-    "docs/THEOREMS.md": 330,
+    "docs/THEOREMS.md": 345,
     "docs/DECISIONS.md": 500,
     "docs/GLOSSARY.md": 60,
 }

@@ -20,7 +20,7 @@ use Rattle.operate_views.specs.Registers.{registers_text, switches_on_text, swit
 use Rattle.operate_views.specs.Ruler.{chars_of, core_text, marks_row, row_cells, row_text, ruler}
 use Rattle.operate_views.proofs.ExampleCells.{cell, cells}
 
--- places 1 to 6 of a storage of eight, of which 1 and 4 have word marks, and 7 is not asked for
+-- places 1 to 6 of a storage of eight, with word marks at 1 and 4; 7 is not asked for
 a_tilde_is_below_a_word_mark : core_text (blank ∷ cells (codes "000") ++ cells (codes "49") ++ cells (codes "57")) 1 7
     ≡ codes "       0         10        20        30        40\n"
     ++ codes "       |....:....|....:....|....:....|....:....|....:....\n"

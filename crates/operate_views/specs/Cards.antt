@@ -1,5 +1,4 @@
--- The hopper and the stacker in words (own): how many cards there are, and the one that is read next or was punched
--- last.
+-- The hopper and the stacker in words (own): how many cards there are, and the next of them or the last one punched.
 use Rattle.std.specs.Prelude.{ℕ, ◌==◌, if◌then◌else◌, List, ◌++◌, codes, length, Option, None, Some}
 use Rattle.devices_1401.specs.Devices.{Devices, last_punched, next_card}
 use Rattle.devices_1401.specs.declared.card.Card.{Card}
@@ -13,7 +12,7 @@ count_text count = if count == 1 then codes "1 card\n" else digits_in 1 count ++
 unfoldable pub card_text : Card → List ℕ
 card_text card = codes "  |" ++ graphics_of (trimmed card.0) ++ codes "\n"
 
--- this many cards, of which one is shown
+-- this many cards, one of them shown
 unfoldable pub pile_text : ℕ → Option Card → List ℕ
 pile_text count None = codes "empty\n"
 pile_text count (Some card) = count_text count ++ card_text card

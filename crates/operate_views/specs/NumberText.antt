@@ -12,7 +12,7 @@ use Rattle.fields_1401.specs.declared.sign.Sign.TheVariants.{Plus, Minus}
 abbrev pub is_plain_digit : Cell → Bool
 is_plain_digit cell = is_digit cell.char && (zone_of cell.char == 0)
 
--- whether cells, units first, are a number: digits 0 to 9, of which the units alone may have a zone
+-- whether cells, units first, are a number: digits 0 to 9, and a zone over the units alone
 abbrev pub is_number : List Cell → Bool
 is_number [] = false
 is_number (units ∷ cells) = is_digit units.char && list_all is_plain_digit cells

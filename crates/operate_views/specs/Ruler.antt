@@ -12,11 +12,11 @@ use Rattle.machine_notation.specs.Digits.{digits_in}
 abbrev pub row_places : ℕ
 row_places = 50
 
--- what stands in the column of a place: its cell, if it is one of those from the first to before the end
+-- what is shown in the column of a place: its cell, if it is one of those from the first to before the end
 abbrev pub shown_at : Storage → ℕ → ℕ → ℕ → Cell
 shown_at storage first end at = if nat_le first at && nat_lt at end then cell_at storage at else blank
 
--- what stands in the fifty columns of a row, by the place of its first column
+-- what is shown in the fifty columns of a row, by the place of its first column
 unfoldable pub row_cells : Storage → ℕ → ℕ → ℕ → List Cell
 row_cells storage first end row = map (shown_at storage first end) (range_with_len row row_places)
 

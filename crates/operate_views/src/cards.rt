@@ -40,8 +40,7 @@ fn put_pile(text: &mut Vec<u8>, count: u16, card: Option<Card>) -> Result<(), Al
     put_card(text, &card)
 }
 
-/// Adds how many cards are in the hopper, with the one that is read next, and how many in the stacker, with the one
-/// that was punched last.
+/// Adds how many cards are in the hopper, with the next one, and how many in the stacker, with the last one punched.
 ///
 /// # Errors
 ///

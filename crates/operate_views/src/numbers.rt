@@ -34,7 +34,7 @@ fn are_plain_digits(cells: &[Cell]) -> bool
     cells.iter().all(|cell| is_plain_digit(*cell))
 }
 
-/// Whether the cells of a field, units first, are a number: digits 0 to 9, of which the units alone may have a zone.
+/// Whether the cells of a field, units first, are a number: digits 0 to 9, and a zone over the units alone.
 pub fn is_number(cells: &[Cell]) -> bool
     ensures { result ≡ is_number cells.now }
 {

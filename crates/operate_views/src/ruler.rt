@@ -30,7 +30,7 @@ fn put_ruler(text: &mut Vec<u8>) -> Result<(), AllocError>
     text.extend_from_slice(FIVES)
 }
 
-/// What stands in the column of a place: its cell if it is shown.
+/// What is shown in the column of a place: its cell if it is shown.
 fn shown_at(core: &Core, first: u16, end: u16, at: u16) -> Cell
     requires { end ≤ length core.now }
     ensures { result ≡ shown_at core.now first end at }
@@ -42,7 +42,7 @@ fn shown_at(core: &Core, first: u16, end: u16, at: u16) -> Cell
     }
 }
 
-/// What stands in the columns of a row, by the place of its first column.
+/// What is shown in the columns of a row, by the place of its first column.
 #[tactic(auto, using(crate::proofs::RulerLemmas::cell_more))]
 fn row_cells(
     alloc: Global,
@@ -87,7 +87,7 @@ fn are_unmarked(cells: &[Cell]) -> bool
     cells.iter().all(|cell| !cell.mark)
 }
 
-/// How many cells are behind the last with a word mark.
+/// How many cells follow the last with a word mark.
 fn unmarked_at_end(cells: &[Cell]) -> usize
     ensures value { result ≡ suffix_len is_unmarked cells.now }
     ensures bound { result ≤ length cells.now }
