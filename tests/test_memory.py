@@ -72,6 +72,16 @@ SAYING = {
     "EQUs": (0, lambda number: f"     {label(number):10}EQU  1\n"),
     "short statements": (0, lambda number: "               ORG  0\n"),
 }
+# Literals that differ, and the memory that they take: more than the others, and it doesn't grow.
+LITERALS_EACH = 18
+
+
+def with_literals(number):
+    """An instruction with two literals of its own; after each hundredth all are placed, from the same place on."""
+    placed = b"               EX   400\n" + PLACED_AGAIN
+    return f"               A    +{number + 1},-{number + 1}\n" + placed.decode() * (number % 100 == 99)
+
+
 # What is done with these.
 OF_STATEMENTS = (["assemble"], ["assemble", "--language", "ibm"], ["run"])
 
@@ -193,6 +203,10 @@ class MemoryTest(unittest.TestCase):
             for call in OF_STATEMENTS:
                 with self.subTest(f"{name}: {' '.join(call)}"):
                     self.expect_few(status, again(1_000, line), large, *call, "file")
+
+    def test_literals_take_no_more_than_they_do(self):
+        small, large = again(1_000, with_literals), again(SHORTER_BYTES, with_literals)
+        self.expect_few(0, small, large, "assemble", "file", most=LITERALS_EACH)
 
     def test_sources_and_listings_take_no_more_than_they_do(self):
         for name, (most, status, (first, again, last), call) in MORE_EACH.items():
