@@ -11,4 +11,3 @@ pub mod PlacedLemmas
 pub mod ReadLemmas
 pub mod SpellingLemmas
 pub mod WordLemmas
-pub mod SentLemmas

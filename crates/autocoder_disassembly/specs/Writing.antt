@@ -1,17 +1,13 @@
 -- The listing of an image as it is written, a page after the other (own).
-use Rattle.std.specs.Prelude.{◌≡◌, ℕ, ◌≤◌, List, [], ◌++◌, Option, vec_capacity}
-use Rattle.std.specs.Io.KnownBytes.{Appends}
+use Rattle.std.specs.Prelude.{◌≡◌, ℕ, ◌≤◌, List, [], ◌++◌, vec_capacity}
 use Rattle.std.specs.List.{flat_map}
 use Rattle.std.specs.declared.vec.Vec.{Vec}
 use Rattle.bcd_1401.specs.declared.cell.Cell.{Cell}
 use Rattle.autocoder_placing.specs.declared.segments.Builder.{Builder}
+use Rattle.bytes_pages.specs.Page.{most_in_page}
 use Rattle.autocoder_disassembly.specs.ImageListing.{marked_line}
 use Rattle.autocoder_disassembly.specs.Stretches.{built, IsReady}
 use Rattle.autocoder_disassembly.specs.declared.writing.ListingRoom.{ListingRoom}
-
--- how many bytes are written at once
-abbrev pub most_in_page : ℕ
-most_in_page = 16384
 
 -- a page, and the lines of what is built and of these cells after it
 abbrev pub listed : {Z : Type 0} → Vec ℕ Z → Builder → List (ℕ × Cell) → List ℕ
@@ -22,7 +18,3 @@ abbrev pub HasRoom : ListingRoom → Type 0
 HasRoom room =
     (room.text.items ≡ []) × (room.builder.address ≡ 0) × (room.builder.cells.items ≡ [])
     × (most_in_page ≤ vec_capacity room.text) × IsReady room.builder
-
--- of a text the front was received, and this is left
-abbrev pub Sent : Option (List ℕ) → Option (List ℕ) → List ℕ → List ℕ → Type 0
-Sent old new text left = (front : List ℕ) × (text ≡ front ++ left) × Appends old new front

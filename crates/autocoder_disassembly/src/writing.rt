@@ -5,20 +5,19 @@ ghost use Rattle.std.specs.Io.KnownBytes.{Appends};
 ghost use Rattle.bcd_1401.specs.declared.cell.Cell.{Cell as ACell};
 ghost use Rattle.core_1401.specs.Cells.{most_cells};
 ghost use Rattle.autocoder_placing.specs.Cells.{numbered};
+ghost use Rattle.bytes_pages.specs.Page.{most_in_page, Sent};
 ghost use Rattle.bytes_streams.specs.Sink.{AppendsPart};
 ghost use Rattle.autocoder_disassembly.specs.ImageListing.{listing_text, most_in_segment, start_line};
 ghost use Rattle.autocoder_disassembly.specs.Stretches.{placed_cells, IsReady};
-ghost use Rattle.autocoder_disassembly.specs.Writing.{listed, most_in_page, HasRoom, Sent};
+ghost use Rattle.autocoder_disassembly.specs.Writing.{listed, HasRoom};
 
 use crate::image_listing::{put_lines, put_segment, put_start};
 use autocoder_placing::Builder;
+use bytes_pages::{PAGE, make_room};
 use bytes_streams::{Failed, Sink, put_all};
 use core_1401::MOST_CELLS;
 use machine_image::{LentImage, Segment};
 use std::alloc::{AllocError, Global};
-
-/// How many bytes of a listing are written at once.
-const PAGE: usize = 16_384;
 
 /// The most bytes that the stretches of a segment take: 96 for each of its cells.
 const SEGMENT_BYTES: usize = 3_840;
@@ -50,23 +49,6 @@ impl ListingRoom {
             },
         })
     }
-}
-
-/// Writes a text, unless the stretches of a segment still have room after it. What is written is forgotten.
-fn make_room<W: Sink>(text: &mut Vec<u8>, writer: &mut W) -> Result<(), Failed>
-    requires { most_in_page ≤ vec_capacity text.old }
-    ensures sent { OnOk result
-        (Sent (W.received writer.old) (W.received writer.new) text.old.items text.new.items) }
-    ensures part { OnErr result (AppendsPart (W.received writer.old) (W.received writer.new) text.old.items) }
-    ensures failed { OnErr result (IsTrue (W.has_failed writer.new)) }
-    ensures room { OnOk result (length text.new.items + most_in_segment ≤ vec_capacity text.new) }
-    ensures capacity { vec_capacity text.old ≤ vec_capacity text.new }
-{
-    if text.len() > PAGE - SEGMENT_BYTES {
-        put_all(writer, text.as_slice())?;
-        text.clear();
-    }
-    Ok(())
 }
 
 /// Adds the lines of the stretches of a segment, but for the last stretch, which may go on. There is room for them.
@@ -103,7 +85,7 @@ fn write_segments<W: Sink>(
 {
     let mut rest = image.again();
     while let Some((segment, behind)) = rest.split_first() {
-        make_room(text, writer)?;
+        make_room(text, SEGMENT_BYTES, writer)?;
         put_in_room(text, builder, &segment);
         rest = behind;
     }
@@ -149,7 +131,7 @@ fn write_last<W: Sink>(
         (listed text.old builder.old [] ++ start_line start)) }
     ensures failed { OnErr result (IsTrue (W.has_failed writer.new)) }
 {
-    make_room(text, writer)?;
+    make_room(text, SEGMENT_BYTES, writer)?;
     put_last(text, builder, start);
     put_all(writer, text.as_slice())
 }

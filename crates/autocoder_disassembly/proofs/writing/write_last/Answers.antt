@@ -8,7 +8,7 @@ use Rattle.bytes_streams.specs.Sink.{AppendsPart}
 use Rattle.autocoder_disassembly.specs.ImageListing.{marked_line, start_line}
 use Rattle.autocoder_disassembly.specs.Stretches.{built}
 use Rattle.autocoder_disassembly.specs.Writing.{listed}
-use Rattle.autocoder_disassembly.proofs.SentLemmas.{part_before, sent_before, sent_part, sent_rest}
+use Rattle.bytes_pages.proofs.SentLemmas.{part_before, sent_before, sent_part, sent_rest}
 use Rattle.autocoder_disassembly.proofs.writing.write_last.Goals as goal
 
 pub returns-in_err-make_room-clause-part : goal.returns-in_err-make_room-clause-part

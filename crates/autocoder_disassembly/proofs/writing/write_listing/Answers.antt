@@ -10,7 +10,7 @@ use Rattle.autocoder_disassembly.specs.ImageListing.{marked_line, marked_text, s
 use Rattle.autocoder_disassembly.specs.Stretches.{placed_cells, stretches_of}
 use Rattle.autocoder_disassembly.specs.Writing.{listed, HasRoom}
 use Rattle.autocoder_disassembly.specs.declared.writing.ListingRoom.{ListingRoom}
-use Rattle.autocoder_disassembly.proofs.SentLemmas.{part_before, sent_before, sent_part, sent_rest}
+use Rattle.bytes_pages.proofs.SentLemmas.{part_before, sent_before, sent_part, sent_rest}
 use Rattle.autocoder_disassembly.proofs.writing.write_listing.Goals as goal
 
 nothing : (room : ListingRoom) (segments : List Segment) → HasRoom room

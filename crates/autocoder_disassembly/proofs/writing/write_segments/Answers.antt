@@ -5,8 +5,9 @@ use Rattle.machine_image.specs.declared.image.Segment.{Segment}
 use Rattle.machine_notation.proofs.RoomLemmas.{if_so}
 use Rattle.autocoder_disassembly.specs.ImageListing.{marked_line}
 use Rattle.autocoder_disassembly.specs.Stretches.{built, placed_cells}
-use Rattle.autocoder_disassembly.specs.Writing.{listed, Sent}
-use Rattle.autocoder_disassembly.proofs.SentLemmas.{part_before, sent_before, sent_more, sent_part}
+use Rattle.bytes_pages.specs.Page.{Sent}
+use Rattle.autocoder_disassembly.specs.Writing.{listed}
+use Rattle.bytes_pages.proofs.SentLemmas.{part_before, sent_before, sent_more, sent_part}
 use Rattle.autocoder_disassembly.proofs.writing.write_segments.Goals as goal
 
 pub returns-in_err-make_room-clause-part : goal.returns-in_err-make_room-clause-part

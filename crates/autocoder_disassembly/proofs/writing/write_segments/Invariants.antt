@@ -1,7 +1,8 @@
 -- What was written, what isn't written yet, and the lines of the segments that are left, are those of all segments.
 use Rattle.std.proofs.Common.{◌≤◌, length, vec_capacity}
 use Rattle.autocoder_disassembly.specs.Stretches.{placed_cells, IsReady}
-use Rattle.autocoder_disassembly.specs.Writing.{listed, most_in_page, Sent}
+use Rattle.bytes_pages.specs.Page.{most_in_page, Sent}
+use Rattle.autocoder_disassembly.specs.Writing.{listed}
 use Rattle.autocoder_disassembly.proofs.writing.write_segments.Given as goal
 
 abbrev pub invariant-loop-segment : goal.invariant-loop-segment

@@ -4,7 +4,7 @@ use Rattle.std.proofs.Common.{append-nil, subst}
 use Rattle.std.proofs.KnownBytes.{Appends-nil, Appends-trans}
 use Rattle.std.specs.Io.KnownBytes.{Appends}
 use Rattle.bytes_streams.specs.Sink.{AppendsPart}
-use Rattle.autocoder_disassembly.specs.Writing.{Sent}
+use Rattle.bytes_pages.specs.Page.{Sent}
 
 -- nothing was written, and all is left
 pub sent_none : (old : Option (List ℕ)) (text : List ℕ) → Sent old old text text
@@ -49,3 +49,21 @@ pub part_before : (old new : Option (List ℕ)) (text behind : List ℕ) → App
     → AppendsPart old new (text ++ behind)
 part_before old new text behind part =
     (part.0, (part.1.0 ++ behind, ap (λ all. all ++ behind) part.1.1 ∙ append_assoc part.0 part.1.0 behind), part.2)
+
+-- bytes were put after a page, and then others
+pub sent_then : (old between new : Option (List ℕ)) (page first next more less : List ℕ)
+    → Sent old between (page ++ first) next → Sent between new (next ++ more) less
+    → Sent old new (page ++ (first ++ more)) less
+sent_then old between new page first next more less one other =
+    subst (λ text. Sent old new text less) (append_assoc page first more)
+    (sent_more old between new ((page ++ first) ++ more) (next ++ more) less
+    (sent_before old between (page ++ first) next more one) other)
+
+-- bytes were put after a page, and then a part of others
+pub part_then : (old between new : Option (List ℕ)) (page first next more : List ℕ)
+    → Sent old between (page ++ first) next → AppendsPart between new (next ++ more)
+    → AppendsPart old new (page ++ (first ++ more))
+part_then old between new page first next more one other =
+    subst (λ text. AppendsPart old new text) (append_assoc page first more)
+    (sent_part old between new ((page ++ first) ++ more) (next ++ more)
+    (sent_before old between (page ++ first) next more one) other)
