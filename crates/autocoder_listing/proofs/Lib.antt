@@ -1,4 +1,8 @@
+pub mod BlanksLemmas
 pub mod CrossReferenceLemmas
+pub mod DigitsLemmas
+pub mod HeadsLemmas
+pub mod PageLemmas
 pub mod RowLawLemmas
 pub mod RowsLemmas
 mod PlacingExamples

@@ -7,7 +7,7 @@ use Rattle.autocoder_statements.specs.declared.statement.Line.{Line}
 use Rattle.autocoder_statements.specs.declared.statement.Statement.{Statement}
 use Rattle.autocoder_symbols.specs.Chains.{chains_of}
 use Rattle.autocoder_symbols.specs.Symbols.{sites_of}
-use Rattle.autocoder_placing.specs.Placement.{Placement, nothing_placed, placed, placed_after, unplaced}
+use Rattle.autocoder_placing.specs.Placement.{Placement, nothing_placed, placed, placed_after}
 use Rattle.autocoder_placing.proofs.UnplacedLemmas.{unplaced_is}
 use Rattle.autocoder_listing.specs.Listing.{address_shown, cells_at, characters_text}
 use Rattle.autocoder_listing.specs.Rows.{row_with, row_of, listed, rows_from, rows_of, last_at, line_of, shown_at}

@@ -1,5 +1,5 @@
 -- A line shows eight characters.
-use Rattle.std.proofs.Common.{◌≡◌, ℕ, ◌+◌, ◌-◌, ◌≤◌, List, ◌++◌, length, map, take, replicate, ap, ◌∙◌, arith}
+use Rattle.std.proofs.Common.{◌≡◌, ℕ, ◌-◌, ◌≤◌, List, length, map, take, replicate, ◌∙◌, arith}
 use Rattle.std.proofs.lemmas.List.{length-append, length-map, length-replicate, length-take}
 use Rattle.bcd_1401.specs.declared.cell.Cell.{Cell}
 use Rattle.autocoder_statements.specs.SourceLine.{padded}

@@ -29,6 +29,10 @@ use Rattle.autocoder_placing.specs.Literals.{key_of}
 use Rattle.autocoder_placing.specs.Placement.{Placement, point_value, behind_literal, start_of, placed_after, unplaced}
 use Rattle.autocoder_placing.specs.Placement.{placed}
 
+-- the most digits that a number of the machine this runs on has
+abbrev pub most_digits : ℕ
+most_digits = 20
+
 -- the number of a line in at least four digits; four blanks for a line that isn't in the source
 unfoldable pub number_text : Option ℕ → List ℕ
 number_text None = codes "    "

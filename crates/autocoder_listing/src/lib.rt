@@ -4,6 +4,8 @@
 //! ```text
 //! let all = place_all(alloc, hashing, &chains, lines)?;       // by `autocoder_placing`
 //! make_listing(alloc, &all, source, lines)?                   // the lines with their addresses and cells
+//! let ready = ready_listing(alloc, &all, source, lines)?;     // the same, made a page after the other
+//! write_listing(ready, source, &mut writer)?
 //! make_rows(alloc, &all, lines)?.line_of(alloc, at, &cells)?  // the line that placed cells
 //! make_tables(alloc, hashing, &all, lines)?.symbols           // a line for each label
 //! ```
@@ -14,8 +16,9 @@
 mod printing; // the parts of a line of the listing
 pub mod listing; // the source with its addresses and cells
 pub mod source_listing; // the same, line by line
-pub mod whole_text; // the same as one text
 pub mod rows; // what has an address in it
+mod heads; // what the lines have besides the source
+pub mod writing; // the listing, written as it is made
 mod symbol_table; // each label with its address, its length and its line
 mod cross_reference; // the lines that name each label
 pub mod tables; // both as texts
@@ -24,4 +27,4 @@ pub use listing::{Listing, ListingLine};
 pub use rows::{Row, Rows, make_rows};
 pub use source_listing::make_listing;
 pub use tables::{Tables, make_tables};
-pub use whole_text::listing_text;
+pub use writing::{ReadyListing, ready_listing, write_listing};

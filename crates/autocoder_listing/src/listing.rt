@@ -131,7 +131,7 @@ fn put_literal_lines(
 }
 
 /// The line of a literal that is placed at a place.
-fn literal_line(
+pub(crate) fn literal_line(
     alloc: Global,
     all: &Placing<'_>,
     from: i64,
@@ -162,7 +162,7 @@ fn pending_spellings<'b>(so_far: &'b Placing<'_>) -> &'b [Literal]
 }
 
 /// The literals that a statement with this effect on the location counter places, as they were first written.
-fn literals_by<'b>(so_far: &'b Placing<'_>, next: Next) -> &'b [Literal]
+pub(crate) fn literals_by<'b>(so_far: &'b Placing<'_>, next: Next) -> &'b [Literal]
     ensures { result.now ≡ literals_by (places_of so_far.now) next }
 {
     match next {

@@ -1,9 +1,10 @@
 //! The text of a line of the listing.
-ghost use Rattle.std.specs.Prelude.{◌≡◌, ◌≤◌, ◌-◌, ◌++◌, length, map, replicate, IfErr, OnOk};
+ghost use Rattle.std.specs.Prelude.{◌≡◌, ◌+◌, ◌<◌, ◌≤◌, ◌-◌, ◌++◌, length, map, replicate, vec_capacity, IfErr, OnOk, OnErr};
 ghost use Rattle.std.specs.List.{suffix_len};
 ghost use Rattle.autocoder_statements.specs.SourceLine.{is_blank};
+ghost use Rattle.machine_notation.specs.Digits.{digits_in};
 ghost use Rattle.autocoder_symbols.specs.Fault.{IsMemory};
-ghost use Rattle.autocoder_listing.specs.Listing.{number_text, address_text, graphic_of, characters_text};
+ghost use Rattle.autocoder_listing.specs.Listing.{most_digits, number_text, address_text, graphic_of, characters_text};
 ghost use Rattle.autocoder_listing.specs.Listing.{without_last_blanks, spelling, base_spelling, sign_spelling};
 ghost use Rattle.autocoder_listing.specs.Listing.{adjustment_spelling, index_spelling, literal_spelling};
 
@@ -34,14 +35,31 @@ fn put_blanks(text: &mut Vec<u8>, count: usize) -> Result<(), AsmFault>
     Ok(())
 }
 
+/// Adds a number with leading zeros up to the width: no more than 20 digits.
+#[tactic(auto, using(crate::proofs::DigitsLemmas::few_added, crate::proofs::DigitsLemmas::few_lacking))]
+fn put_few_digits(text: &mut Vec<u8>, width: u8, number: u64) -> Result<(), AsmFault>
+    requires { width ≤ most_digits }
+    ensures ok { OnOk result (text.new.items ≡ text.old.items ++ digits_in width number) }
+    ensures few { OnOk result (length text.new.items ≤ length text.old.items + most_digits) }
+    ensures full { OnErr result (vec_capacity text.old < length text.old.items + most_digits) }
+    ensures capacity { vec_capacity text.old ≤ vec_capacity text.new }
+    ensures err { IfErr result IsMemory }
+{
+    put_digits(text, width, number)?;
+    Ok(())
+}
+
 /// Adds the number of a line of the source, or blanks for a line that isn't there.
 #[tactic(auto, unfolding(crate::specs::Listing::number_text))]
 pub(crate) fn put_number(text: &mut Vec<u8>, number: Option<u64>) -> Result<(), AsmFault>
     ensures ok { OnOk result (text.new.items ≡ text.old.items ++ number_text number) }
+    ensures few { OnOk result (length text.new.items ≤ length text.old.items + most_digits) }
+    ensures full { OnErr result (vec_capacity text.old < length text.old.items + most_digits) }
+    ensures capacity { vec_capacity text.old ≤ vec_capacity text.new }
     ensures err { IfErr result IsMemory }
 {
     match number {
-        Some(number) => put_digits(text, NUMBER_DIGITS, number)?,
+        Some(number) => put_few_digits(text, NUMBER_DIGITS, number)?,
         None => text.extend_from_slice(b"    ")?,
     }
     Ok(())
@@ -51,10 +69,13 @@ pub(crate) fn put_number(text: &mut Vec<u8>, number: Option<u64>) -> Result<(), 
 #[tactic(auto, unfolding(crate::specs::Listing::address_text))]
 pub(crate) fn put_address(text: &mut Vec<u8>, address: Option<i64>) -> Result<(), AsmFault>
     ensures ok { OnOk result (text.new.items ≡ text.old.items ++ address_text address) }
+    ensures few { OnOk result (length text.new.items ≤ length text.old.items + most_digits) }
+    ensures full { OnErr result (vec_capacity text.old < length text.old.items + most_digits) }
+    ensures capacity { vec_capacity text.old ≤ vec_capacity text.new }
     ensures err { IfErr result IsMemory }
 {
     match address {
-        Some(address) => put_digits(text, ADDRESS_DIGITS, address.unsigned_abs())?,
+        Some(address) => put_few_digits(text, ADDRESS_DIGITS, address.unsigned_abs())?,
         None => text.extend_from_slice(b"     ")?,
     }
     Ok(())
@@ -86,7 +107,8 @@ pub(crate) fn put_characters(text: &mut Vec<u8>, cells: &[Cell]) -> Result<(), A
 /// Cuts off the blanks at the end of a text.
 #[tactic(auto, unfolding(crate::specs::Listing::without_last_blanks))]
 pub(crate) fn cut_last_blanks(text: &mut Vec<u8>)
-    ensures { text.new.items ≡ without_last_blanks text.old.items }
+    ensures cut { text.new.items ≡ without_last_blanks text.old.items }
+    ensures capacity { vec_capacity text.old ≤ vec_capacity text.new }
 {
     let count = len_without_last_blanks(text.as_slice());
     text.truncate(count);

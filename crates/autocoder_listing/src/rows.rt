@@ -101,7 +101,7 @@ fn row_with<'a>(
 }
 
 /// The row of a line here of this number, with these lines after it, if it has one.
-fn row_of<'a>(
+pub(crate) fn row_of<'a>(
     alloc: Global,
     all: &Placing<'a>,
     so_far: &Placing<'a>,
