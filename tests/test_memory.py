@@ -29,8 +29,11 @@ WORD_MARKS = (b"IMAGE2 16000\n", b"00400 40 " + b"~A" * 40 + b"\n", b"END 00400\
 
 # Sources of lines without statements, by what their lines are.
 SPARSE = {"empty lines": EMPTY_LINES, "comments": COMMENTS}
-# What is done with a source.
-OF_SOURCES = (["assemble"], ["assemble", "--deck", "deck"], ["run"])
+# What is done with a source. A listing is written a page after the other.
+TABLES = ["--symbols", "--xref"]
+OF_SOURCES = (
+    ["assemble"], ["assemble", "--list"], ["assemble", "--list", *TABLES], ["assemble", "--deck", "deck"], ["run"],
+)
 
 # The letters of labels and their digits.
 LETTERS = "ABCDEFGHIJKLMNOPQRSTUVWXYZ"
@@ -97,8 +100,7 @@ OF_IMAGES = {
 # is written whole or not at all. It doesn't grow.
 SHORTER_BYTES = 4_194_304
 MORE_EACH = {
-    "a source of empty lines listed": (14, 0, EMPTY_LINES, ["assemble", "--list"]),
-    "the same with its tables": (15, 0, EMPTY_LINES, ["assemble", "--list", "--symbols", "--xref"]),
+    "a listing of empty lines in a file": (10, 0, EMPTY_LINES, ["assemble", "-o", "out", "--list"]),
     "a source of short statements listed": (11, 0, STATEMENTS, ["assemble", "--list"]),
 }
 
@@ -199,10 +201,11 @@ class MemoryTest(unittest.TestCase):
 
     def test_lines_that_say_something_take_a_few_bytes_a_byte(self):
         for name, (status, line) in SAYING.items():
-            large = again(MOST_BYTES, line)
+            # The shorter one has more statements than are held.
+            small, large = again(SHORTER_BYTES // 4, line), again(SHORTER_BYTES, line)
             for call in OF_STATEMENTS:
                 with self.subTest(f"{name}: {' '.join(call)}"):
-                    self.expect_few(status, again(1_000, line), large, *call, "file")
+                    self.expect_few(status, small, large, *call, "file")
 
     def test_literals_take_no_more_than_they_do(self):
         small, large = again(1_000, with_literals), again(SHORTER_BYTES, with_literals)

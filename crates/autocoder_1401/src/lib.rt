@@ -17,7 +17,7 @@
 pub mod assembly; // the passes, in their order
 pub mod tables; // an assembly with its symbol table and its cross-reference
 pub mod rows; // an image with the rows of its listing
-pub mod listed; // the listing as one text
+pub mod listed; // the listing, ready to be written
 pub mod all_faults; // all faults of a source
 pub mod explaining; // all faults of a source, each with what is wrong
 pub mod outside; // what of a line isn't in core
@@ -29,6 +29,7 @@ pub use assembly::{Assembly, assemble, assemble_image, assemble_in};
 pub use autocoder_diagnostics::explanation::{Cause, Explanation};
 pub use autocoder_listing::listing::{Listing, ListingLine};
 pub use autocoder_listing::rows::{Row, Rows};
+pub use autocoder_listing::writing::{ReadyListing, write_listing};
 pub use autocoder_symbols::fault::{AsmFault, AsmKind};
 pub use explaining::explained_faults;
 pub use listed::assemble_listing;

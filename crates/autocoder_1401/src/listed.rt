@@ -1,4 +1,4 @@
-//! The text of a source's listing.
+//! A source's listing, ready to be written.
 ghost use Rattle.std.specs.Prelude.{◌≡◌, ◌<◌, ◌^◌, ◌⊎◌, length, None, Some, Ok, Err, IfOk, IfErr, OnOk};
 ghost use Rattle.autocoder_statements.specs.SourceLine.{lines_of};
 ghost use Rattle.autocoder_symbols.specs.Chains.{chains_of};
@@ -10,12 +10,13 @@ ghost use Rattle.autocoder_placing.specs.Placement.{placed};
 ghost use Rattle.autocoder_placing.specs.Values.{first_outside};
 ghost use Rattle.autocoder_placing.specs.View.{places_of};
 ghost use Rattle.autocoder_listing.specs.Listing.{listing_of, listing_text, listing_with};
+ghost use Rattle.autocoder_listing.specs.Writing.{IsReadyFor, text_for};
 ghost use Rattle.autocoder_1401.specs.Assembly.{assembly_in, assembly_of};
 ghost use Rattle.autocoder_1401.specs.Languages.{AgreesWithPlain};
 
 use autocoder_faults::FaultlessLines;
 use autocoder_image::make_image;
-use autocoder_listing::listing_text;
+use autocoder_listing::{ReadyListing, ready_listing};
 use autocoder_placing::{Placing, place_all};
 use autocoder_statements::Language;
 use autocoder_symbols::{AsmFault, Chains, Lines, SourceHashing};
@@ -38,28 +39,30 @@ fn check_places(
     Ok(())
 }
 
-/// The text of the listing of the lines of this source, once all is placed.
+/// The listing of the lines of this source, once all is placed.
 fn placed_listing(
     alloc: Global,
     all: &Placing<'_>,
     source: &[u8],
     lines: &Lines<'_>,
     size: u16,
-) -> Result<Vec<u8>, AsmFault>
+) -> Result<ReadyListing, AsmFault>
     requires as_many { length lines.now ≡ length (lines_of source.now) }
     requires few { length lines.now < 2 ^ 32 }
     requires placed { places_of all.now ≡ placed lines.now }
-    ensures text { IfOk result (λ text. text.items ≡ listing_text (listing_with lines.now (lines_of source.now))) }
+    ensures text { IfOk result (λ ready. text_for source.now ready
+        ≡ listing_text (listing_with lines.now (lines_of source.now))) }
+    ensures ready { IfOk result (IsReadyFor source.now) }
     ensures inside { OnOk result (first_outside size lines.now ≡ None) }
     ensures outside { IfErr result (λ fault. IsMemory fault
         ⊎ ((first_outside size lines.now ≡ Some fault) × IsFirstOutside size lines.now fault)) }
 {
     check_places(alloc, all, lines, size)?;
-    let text = listing_text(alloc, all, source, lines)?;
-    Ok(text)
+    let ready = ready_listing(alloc, all, source, lines)?;
+    Ok(ready)
 }
 
-/// The text of the listing of the lines of this source, which have no fault.
+/// The listing of the lines of this source, which have no fault.
 fn faultless_listing(
     alloc: Global,
     hashing: SourceHashing,
@@ -67,11 +70,13 @@ fn faultless_listing(
     source: &[u8],
     lines: &Lines<'_>,
     size: u16,
-) -> Result<Vec<u8>, AsmFault>
+) -> Result<ReadyListing, AsmFault>
     requires as_many { length lines.now ≡ length (lines_of source.now) }
     requires few { length lines.now < 2 ^ 32 }
     requires chains { chains_view chains.now ≡ chains_of (sites_of lines.now) lines.now }
-    ensures text { IfOk result (λ text. text.items ≡ listing_text (listing_with lines.now (lines_of source.now))) }
+    ensures text { IfOk result (λ ready. text_for source.now ready
+        ≡ listing_text (listing_with lines.now (lines_of source.now))) }
+    ensures ready { IfOk result (IsReadyFor source.now) }
     ensures inside { OnOk result (first_outside size lines.now ≡ None) }
     ensures outside { IfErr result (λ fault. IsMemory fault
         ⊎ ((first_outside size lines.now ≡ Some fault) × IsFirstOutside size lines.now fault)) }
@@ -80,8 +85,8 @@ fn faultless_listing(
     placed_listing(alloc, &all, source, lines, size)
 }
 
-/// The text of the listing of a source in this language: the lines of that of `assemble_in`, each with its line feed, in
-/// less memory.
+/// The listing of a source in this language, ready to be written: the lines of that of `assemble_in`, each with its line
+/// feed. Of its text one page is held, however long it is.
 ///
 /// # Errors
 ///
@@ -92,9 +97,11 @@ pub fn assemble_listing(
     language: Language,
     source: &[u8],
     size: u16,
-) -> Result<Vec<u8>, AsmFault>
-    // The text of the listing of a source that assembles.
-    ensures text { IfOk result (λ text. text.items ≡ listing_text (listing_of language (lines_of source.now))) }
+) -> Result<ReadyListing, AsmFault>
+    // What will be written is the listing of a source that assembles.
+    ensures text { IfOk result (λ ready. text_for source.now ready
+        ≡ listing_text (listing_of language (lines_of source.now))) }
+    ensures ready { IfOk result (IsReadyFor source.now) }
     ensures assembled { OnOk result (assembly_in language size source.now ≡ Ok (assembly_of language size source.now)) }
 
     // What the plain language takes means the same in each language.
@@ -105,6 +112,6 @@ pub fn assemble_listing(
 {
     let read = FaultlessLines::read(alloc, language, source)?;
     let lines = read.lines.lend();
-    let text = faultless_listing(alloc, read.hashing, &read.chains, source, &lines, size)?;
-    Ok(text)
+    let ready = faultless_listing(alloc, read.hashing, &read.chains, source, &lines, size)?;
+    Ok(ready)
 }

@@ -1,4 +1,4 @@
-//! The image of a source with its listing and its tables as texts.
+//! The image of a source with its listing, ready to be written, and its tables as texts.
 ghost use Rattle.std.specs.Prelude.{◌≡◌, ◌<◌, ◌^◌, ◌⊎◌, length, None, Some, IfOk, IfErr, OnOk};
 ghost use Rattle.autocoder_statements.specs.SourceLine.{lines_of};
 ghost use Rattle.autocoder_symbols.specs.Chains.{chains_of};
@@ -14,26 +14,27 @@ ghost use Rattle.autocoder_placing.specs.View.{places_of};
 ghost use Rattle.autocoder_listing.specs.CrossReference.{references_text};
 ghost use Rattle.autocoder_listing.specs.Listing.{listing_of, listing_text, listing_with};
 ghost use Rattle.autocoder_listing.specs.SymbolTable.{symbols_text};
+ghost use Rattle.autocoder_listing.specs.Writing.{IsReadyFor, text_for};
 ghost use Rattle.autocoder_1401.specs.Assembly.{assembly_in, with_listing};
 ghost use Rattle.autocoder_1401.specs.Languages.{AgreesWithPlain};
 ghost use Rattle.autocoder_1401.specs.declared.tables.AssemblyTables.{AssemblyTables as Made};
 
 use autocoder_faults::FaultlessLines;
 use autocoder_image::make_image;
-use autocoder_listing::{Tables, listing_text, make_tables};
+use autocoder_listing::{ReadyListing, Tables, make_tables, ready_listing};
 use autocoder_placing::{Placing, place_all};
 use autocoder_statements::Language;
 use autocoder_symbols::{AsmFault, Chains, Lines, SourceHashing};
 use machine_image::Image;
 use std::alloc::Global;
 
-/// The image of a source, with its listing, its symbol table and its cross-reference as texts.
+/// The image of a source, with its listing, its symbol table and its cross-reference.
 #[derive(Debug, Drop)]
 pub struct AssemblyTables {
     /// The core image.
     pub image: Image,
-    /// The listing: its lines, each with its line feed.
-    pub listing: Vec<u8>,
+    /// The listing, ready to be written: its lines, each with its line feed.
+    pub listing: ReadyListing,
     /// The symbol table: a line for each label.
     pub symbols: Vec<u8>,
     /// The cross-reference: a line for each label.
@@ -53,8 +54,9 @@ fn make_assembly_tables(
     requires few { length lines.now < 2 ^ 32 }
     requires placed { places_of all.now ≡ placed lines.now }
     ensures image { IfOk result (λ made. made.image ≡ image_of size lines.now) }
-    ensures listing { IfOk result (λ made. made.listing.items
+    ensures listing { IfOk result (λ made. text_for source.now made.listing
         ≡ listing_text (listing_with lines.now (lines_of source.now))) }
+    ensures ready { IfOk result (λ made. IsReadyFor source.now made.listing) }
     ensures symbols { IfOk result (λ made. made.symbols.items ≡ symbols_text lines.now) }
     ensures references { IfOk result (λ made. made.references.items ≡ references_text lines.now) }
     ensures inside { OnOk result (first_outside size lines.now ≡ None) }
@@ -62,7 +64,7 @@ fn make_assembly_tables(
         ⊎ ((first_outside size lines.now ≡ Some fault) × IsFirstOutside size lines.now fault)) }
 {
     let image = make_image(alloc, all, lines, size)?;
-    let listing = listing_text(alloc, all, source, lines)?;
+    let listing = ready_listing(alloc, all, source, lines)?;
     let Tables {
         symbols,
         references,
@@ -88,8 +90,9 @@ fn faultless_tables(
     requires few { length lines.now < 2 ^ 32 }
     requires chains { chains_view chains.now ≡ chains_of (sites_of lines.now) lines.now }
     ensures image { IfOk result (λ made. made.image ≡ image_of size lines.now) }
-    ensures listing { IfOk result (λ made. made.listing.items
+    ensures listing { IfOk result (λ made. text_for source.now made.listing
         ≡ listing_text (listing_with lines.now (lines_of source.now))) }
+    ensures ready { IfOk result (λ made. IsReadyFor source.now made.listing) }
     ensures symbols { IfOk result (λ made. made.symbols.items ≡ symbols_text lines.now) }
     ensures references { IfOk result (λ made. made.references.items ≡ references_text lines.now) }
     ensures inside { OnOk result (first_outside size lines.now ≡ None) }
@@ -100,7 +103,7 @@ fn faultless_tables(
     make_assembly_tables(alloc, hashing, &all, source, lines, size)
 }
 
-/// The core image and the text of the listing of a source in this language, with its symbol table and its
+/// The core image and the listing of a source in this language, ready to be written, with its symbol table and its
 /// cross-reference. Each has a line for each label, in the order of the lines that declare them: the symbol table
 /// with its address, how many places it names, and the number of its line; the cross-reference with the number of its
 /// line and of each line that names it.
@@ -119,8 +122,10 @@ pub fn assemble_with_tables(
     ensures exact { Gives (λ (made : Made). with_listing language source.now made.image) result
         (assembly_in language size source.now) }
 
-    // The text of the listing of the lines.
-    ensures listing { IfOk result (λ made. made.listing.items ≡ listing_text (listing_of language (lines_of source.now))) }
+    // What will be written is the listing of the lines.
+    ensures listing { IfOk result (λ made. text_for source.now made.listing
+        ≡ listing_text (listing_of language (lines_of source.now))) }
+    ensures ready { IfOk result (λ made. IsReadyFor source.now made.listing) }
 
     // What the plain language takes means the same in each language.
     ensures plain { AgreesWithPlain language size source.now }

@@ -5,6 +5,7 @@ pub mod HeadsLemmas
 pub mod PageLemmas
 pub mod RowLawLemmas
 pub mod RowsLemmas
+mod HeadsExamples
 mod PlacingExamples
 mod RowsExamples
 mod TablesExamples

@@ -16,7 +16,7 @@ use autocoder_statements::{Line, Literal};
 use autocoder_symbols::{AsmFault, Lines, checked_sum};
 use std::alloc::Global;
 
-/// How many bytes the shortest line has that a statement stands in: its operation begins in column 16.
+/// How many bytes the line of a statement has at least, with its line feed: its operation begins in column 16.
 const SHORTEST_STATEMENT: usize = 17;
 
 /// What the line of a statement has besides the line of the source.
@@ -154,7 +154,7 @@ impl Heads {
         ensures err { IfErr result IsMemory }
     {
         for i in 0..lines.len() {
-            let line = lines.line(i);
+            let line = &lines.line(i);
             self.put_line(alloc, all, so_far, i as u64 + 1, line, &lines.behind(i))?;
             so_far.place(line)?;
         }

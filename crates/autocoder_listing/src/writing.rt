@@ -53,7 +53,7 @@ impl ReadyListing {
     }
 }
 
-/// Makes the listing of lines, of which this is the source, ready to be written, once all is placed.
+/// Makes the listing of the lines of this source ready to be written, once all is placed.
 ///
 /// # Errors
 ///

@@ -1,2 +1,3 @@
 pub mod Assemble
 pub mod Disassemble
+pub mod ReadyTables

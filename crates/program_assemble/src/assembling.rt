@@ -1,17 +1,24 @@
 //! What the subcommand `assemble` does.
-ghost use Rattle.std.specs.Prelude.{◌≡◌, true, false, Ok, Err, IfOk, IfErr, OnOk, OnErr};
+ghost use Rattle.std.specs.Prelude.{◌≡◌, ◌++◌, true, false, if◌then◌else◌, [], Ok, Err, Some, None, IfOk, IfErr, OnOk};
+ghost use Rattle.std.specs.Prelude.{OnErr};
 ghost use Rattle.core_1401.specs.Storage.{is_core_size};
 ghost use Rattle.machine_image.specs.Image.{IsInCore};
+ghost use Rattle.autocoder_statements.specs.SourceLine.{lines_of};
+ghost use Rattle.autocoder_listing.specs.Writing.{IsReadyFor, text_for};
 ghost use Rattle.autocoder_1401.specs.Assembly.{assembly_in, with_listing};
 ghost use Rattle.program_call.specs.declared.call.Product.TheVariants.{Image as InImage, Listing, Tables as InTables};
-ghost use Rattle.program_assemble.specs.Assemble.{with_part, tables_text, IsProductOf, IsWhyNotAssembled};
+ghost use Rattle.program_assemble.specs.Assemble.{with_part, with_part_if, tables_text, IsProductOf, IsWhyNotAssembled};
+ghost use Rattle.program_assemble.specs.ReadyTables.{has_some, separator, ready_text, AreReadyFor};
 ghost use Rattle.program_assemble.specs.Assemble.{IsDeckOf, IsWhyNoDeckOf, Wrote, AssembleDid};
 
 use crate::fault::AssembleFault;
-use autocoder_1401::{AssemblyTables, assemble_image, assemble_listing, assemble_with_tables};
+use autocoder_1401::{
+    AssemblyTables, ReadyListing, assemble_image, assemble_listing, assemble_with_tables,
+    write_listing,
+};
 use autocoder_deck::{DeckFault, write_deck};
-use autocoder_statements::Language;
-use bytes_streams::{Sink, put_all};
+use autocoder_statements::{Language, split_line};
+use bytes_streams::{Sink, ToWriter, put_all};
 use core_1401::Core;
 use machine_image::{Image, write_image};
 use program_call::{Product, Tables};
@@ -19,6 +26,15 @@ use std::alloc::{AllocError, Global};
 
 /// What parts the listing and the tables.
 const EMPTY_LINE: &[u8] = b"\n";
+
+/// The listing of a source, if it is asked for, and its tables, ready to be written.
+#[derive(Drop)]
+pub(crate) struct ReadyTables {
+    /// The listing.
+    listing: Option<ReadyListing>,
+    /// The tables.
+    rest: Vec<u8>,
+}
 
 /// Looks at the size of core storage that is asked for.
 ///
@@ -54,8 +70,74 @@ pub fn write_assembly<W: Sink>(
     ensures { AssembleDid language size source.now product (W.received writer.old) (W.received writer.new)
         (W.has_failed writer.new) result }
 {
-    let text = assembly_text(alloc, language, source, size, product)?;
+    match product {
+        Product::Image => write_image_text(alloc, language, source, size, writer),
+        Product::Listing => write_source_listing(alloc, language, source, size, writer),
+        Product::Tables(asked) => write_source_tables(alloc, language, source, size, asked, writer),
+    }
+}
+
+/// Writes the text of a source's image.
+fn write_image_text<W: Sink>(
+    alloc: Global,
+    language: Language,
+    source: &[u8],
+    size: u16,
+    writer: &mut W,
+) -> Result<(), AssembleFault>
+    requires { is_core_size size ≡ true }
+    ensures { AssembleDid language size source.now InImage (W.received writer.old) (W.received writer.new)
+        (W.has_failed writer.new) result }
+{
+    let text = image_text(alloc, language, source, size)?;
     write_text(&text, writer)
+}
+
+/// Writes the listing of a source, a page after the other.
+fn write_source_listing<W: Sink>(
+    alloc: Global,
+    language: Language,
+    source: &[u8],
+    size: u16,
+    writer: &mut W,
+) -> Result<(), AssembleFault>
+    ensures { AssembleDid language size source.now Listing (W.received writer.old) (W.received writer.new)
+        (W.has_failed writer.new) result }
+{
+    let ready = source_listing(alloc, language, source, size)?;
+    write_ready(ready, source, writer)
+}
+
+/// Writes the tables of a source, and its listing before them if it is asked for.
+fn write_source_tables<W: Sink>(
+    alloc: Global,
+    language: Language,
+    source: &[u8],
+    size: u16,
+    asked: Tables,
+    writer: &mut W,
+) -> Result<(), AssembleFault>
+    ensures { AssembleDid language size source.now (InTables asked) (W.received writer.old) (W.received writer.new)
+        (W.has_failed writer.new) result }
+{
+    let tables = source_tables(alloc, language, source, size, asked)?;
+    write_tables(tables, source, writer)
+}
+
+/// Writes a listing that is ready.
+fn write_ready<W: Sink>(
+    ready: ReadyListing,
+    source: &[u8],
+    writer: &mut W,
+) -> Result<(), AssembleFault>
+    requires { IsReadyFor source.now ready }
+    ensures { Wrote (text_for source.now ready) (W.received writer.old) (W.received writer.new)
+        (W.has_failed writer.new) result }
+{
+    match write_listing(ready, source, writer) {
+        Ok(()) => Ok(()),
+        Err(_) => Err(AssembleFault::Output),
+    }
 }
 
 /// The text of what a source stands for: of its image, of its listing, or its tables.
@@ -76,8 +158,71 @@ pub(crate) fn assembly_text(
 {
     match product {
         Product::Image => image_text(alloc, language, source, size),
-        Product::Listing => source_listing(alloc, language, source, size),
-        Product::Tables(asked) => source_tables(alloc, language, source, size, asked),
+        Product::Listing => listing_text(alloc, language, source, size),
+        Product::Tables(asked) => asked_text(alloc, language, source, size, asked),
+    }
+}
+
+/// The text of a source's listing.
+fn listing_text(
+    alloc: Global,
+    language: Language,
+    source: &[u8],
+    size: u16,
+) -> Result<Vec<u8>, AssembleFault>
+    ensures ok { IfOk result (λ text. IsProductOf language size source.now Listing text.items) }
+    ensures err { IfErr result (IsWhyNotAssembled language size source.now) }
+{
+    let ready = source_listing(alloc, language, source, size)?;
+    whole_listing(alloc, ready, source)
+}
+
+/// The text of a source's tables, with the listing before them if it is asked for.
+fn asked_text(
+    alloc: Global,
+    language: Language,
+    source: &[u8],
+    size: u16,
+    asked: Tables,
+) -> Result<Vec<u8>, AssembleFault>
+    ensures ok { IfOk result (λ text. IsProductOf language size source.now (InTables asked) text.items) }
+    ensures err { IfErr result (IsWhyNotAssembled language size source.now) }
+{
+    let tables = source_tables(alloc, language, source, size, asked)?;
+    whole_tables(alloc, tables, source)
+}
+
+/// The text of a listing that is ready.
+fn whole_listing(
+    alloc: Global,
+    ready: ReadyListing,
+    source: &[u8],
+) -> Result<Vec<u8>, AssembleFault>
+    requires { IsReadyFor source.now ready }
+    ensures text { IfOk result (λ text. text.items ≡ text_for source.now ready) }
+    ensures err { IfErr result (λ fault. fault ≡ AssembleFault.Memory) }
+{
+    let mut writer = ToWriter::new(Vec::new(alloc));
+    match write_listing(ready, source, &mut writer) {
+        Ok(()) => Ok(writer.into_inner()),
+        Err(_) => Err(AssembleFault::Memory),
+    }
+}
+
+/// The text of tables that are ready.
+fn whole_tables(
+    alloc: Global,
+    tables: ReadyTables,
+    source: &[u8],
+) -> Result<Vec<u8>, AssembleFault>
+    requires { AreReadyFor source.now tables }
+    ensures text { IfOk result (λ text. text.items ≡ ready_text source.now tables) }
+    ensures err { IfErr result (λ fault. fault ≡ AssembleFault.Memory) }
+{
+    let mut writer = ToWriter::new(Vec::new(alloc));
+    match write_tables(tables, source, &mut writer) {
+        Ok(()) => Ok(writer.into_inner()),
+        Err(_) => Err(AssembleFault::Memory),
     }
 }
 
@@ -141,59 +286,150 @@ pub(crate) fn source_deck(
     }
 }
 
-/// The text of a source's listing.
+/// The listing of a source, ready to be written.
 fn source_listing(
     alloc: Global,
     language: Language,
     source: &[u8],
     size: u16,
-) -> Result<Vec<u8>, AssembleFault>
-    ensures ok { IfOk result (λ text. IsProductOf language size source.now Listing text.items) }
+) -> Result<ReadyListing, AssembleFault>
+    ensures ok { IfOk result (λ ready. IsProductOf language size source.now Listing (text_for source.now ready)) }
+    ensures ready { IfOk result (IsReadyFor source.now) }
     ensures err { IfErr result (IsWhyNotAssembled language size source.now) }
 {
     match assemble_listing(alloc, language, source, size) {
-        Ok(text) => Ok(text),
+        Ok(ready) => Ok(ready),
         Err(why) => Err(AssembleFault::Source(why)),
     }
 }
 
-/// The text of a source's tables.
+/// The tables of a source, ready to be written.
 fn source_tables(
     alloc: Global,
     language: Language,
     source: &[u8],
     size: u16,
     asked: Tables,
-) -> Result<Vec<u8>, AssembleFault>
-    ensures ok { IfOk result (λ text. IsProductOf language size source.now (InTables asked) text.items) }
+) -> Result<ReadyTables, AssembleFault>
+    ensures ok { IfOk result
+        (λ tables. IsProductOf language size source.now (InTables asked) (ready_text source.now tables)) }
+    ensures ready { IfOk result (AreReadyFor source.now) }
     ensures err { IfErr result (IsWhyNotAssembled language size source.now) }
 {
     let made = match assemble_with_tables(alloc, language, source, size) {
         Ok(made) => made,
         Err(why) => return Err(AssembleFault::Source(why)),
     };
-    match tables_text(alloc, &made, asked) {
-        Ok(text) => Ok(text),
+    match ready_tables(alloc, made, source, asked) {
+        Ok(tables) => Ok(tables),
         Err(_) => Err(AssembleFault::Memory),
     }
 }
 
-/// The tables that are asked for, an empty line between one and the next.
-fn tables_text(alloc: Global, made: &AssemblyTables, asked: Tables) -> Result<Vec<u8>, AllocError>
-    ensures { IfOk result (λ text. text.items ≡ tables_text asked made.now.listing.items made.now.symbols.items
-        made.now.references.items) }
+/// The listing, if it is asked for.
+fn listing_if(asked: bool, listing: ReadyListing) -> Option<ReadyListing>
+    ensures { result ≡ if asked then Some listing else None }
+{
+    if asked { Some(listing) } else { None }
+}
+
+/// The tables that are asked for, of this source.
+#[tactic(auto, using(crate::proofs::TablesLemmas::parts_of_tables))]
+fn ready_tables(
+    alloc: Global,
+    made: AssemblyTables,
+    source: &[u8],
+    asked: Tables,
+) -> Result<ReadyTables, AllocError>
+    requires { IsReadyFor source.now made.listing }
+    ensures text { IfOk result (λ tables. ready_text source.now tables ≡ tables_text asked
+        (text_for source.now made.listing) made.symbols.items made.references.items) }
+    ensures ready { IfOk result (AreReadyFor source.now) }
+{
+    let rest = rest_text(alloc, made.symbols.as_slice(), made.references.as_slice(), asked)?;
+    Ok(ReadyTables {
+        listing: listing_if(asked.listing, made.listing),
+        rest,
+    })
+}
+
+/// The symbol table and the cross-reference, if they are asked for, an empty line between them.
+fn rest_text(
+    alloc: Global,
+    symbols: &[u8],
+    references: &[u8],
+    asked: Tables,
+) -> Result<Vec<u8>, AllocError>
+    ensures { IfOk result (λ text. text.items
+        ≡ with_part_if asked.references (with_part_if asked.symbols [] symbols.now) references.now) }
 {
     let mut text = Vec::new(alloc);
-    if asked.listing {
-        put_part(&mut text, made.listing.as_slice())?;
-    }
     if asked.symbols {
-        put_part(&mut text, made.symbols.as_slice())?;
+        put_part(&mut text, symbols)?;
     }
     if asked.references {
-        put_part(&mut text, made.references.as_slice())?;
+        put_part(&mut text, references)?;
     }
     Ok(text)
+}
+
+/// Whether a source has a line.
+fn has_lines(source: &[u8]) -> bool
+    ensures { result ≡ has_some (lines_of source.now) }
+{
+    split_line(source).is_some()
+}
+
+/// What parts the listing of a source from the tables.
+fn separator(has_lines: bool, rest: &[u8]) -> &[u8]
+    ensures { result.now ≡ separator has_lines rest.now }
+{
+    if has_lines && !rest.is_empty() {
+        EMPTY_LINE
+    } else {
+        &[]
+    }
+}
+
+/// Writes tables that are ready.
+fn write_tables<W: Sink>(
+    tables: ReadyTables,
+    source: &[u8],
+    writer: &mut W,
+) -> Result<(), AssembleFault>
+    requires { AreReadyFor source.now tables }
+    ensures { Wrote (ready_text source.now tables) (W.received writer.old) (W.received writer.new)
+        (W.has_failed writer.new) result }
+{
+    let ReadyTables { listing, rest } = tables;
+    match listing {
+        Some(ready) => write_with_listing(ready, source, rest.as_slice(), writer),
+        None => write_text(rest.as_slice(), writer),
+    }
+}
+
+/// Writes a listing that is ready, and tables after it.
+fn write_with_listing<W: Sink>(
+    ready: ReadyListing,
+    source: &[u8],
+    rest: &[u8],
+    writer: &mut W,
+) -> Result<(), AssembleFault>
+    requires { IsReadyFor source.now ready }
+    ensures { Wrote (with_part (text_for source.now ready) rest.now) (W.received writer.old) (W.received writer.new)
+        (W.has_failed writer.new) result }
+{
+    write_ready(ready, source, writer)?;
+    write_parts(separator(has_lines(source), rest), rest, writer)
+}
+
+/// Writes two texts, one after the other.
+fn write_parts<W: Sink>(first: &[u8], rest: &[u8], writer: &mut W) -> Result<(), AssembleFault>
+    ensures { Wrote (first.now ++ rest.now) (W.received writer.old) (W.received writer.new)
+        (W.has_failed writer.new) result }
+{
+    write_text(first, writer)?;
+    write_text(rest, writer)
 }
 
 /// Adds a part, after an empty line if there is something before it.

@@ -18,17 +18,17 @@ faultless_listing-requires-clause-chains c =
     c.in_ok-read.ensures.chains
     ∙ ap (λ (lines : List Line). chains_of (sites_of lines) lines) (sym c.lend-lines.ensures)
 
-pub returns-in_err-text-clause-fault : goal.returns-in_err-text-clause-fault
-returns-in_err-text-clause-fault c =
-    let p = err_from_is_err_and c.from_residual-in_err-text.result c.from_residual-in_err-text.ensures.1 in
+pub returns-in_err-ready-clause-fault : goal.returns-in_err-ready-clause-fault
+returns-in_err-ready-clause-fault c =
+    let p = err_from_is_err_and c.from_residual-in_err-ready.result c.from_residual-in_err-ready.ensures.1 in
     rw (p.1, p.2) (not_assembled c.args.language c.args.size c.args.source.now c.lend-lines.result _
     (c.lend-lines.ensures ∙ c.in_ok-read.ensures.lines)
     (ap (first_fault c.args.language) c.lend-lines.ensures ∙ c.in_ok-read.ensures.none)
-    c.in_err-text.ensures.outside)
+    c.in_err-ready.ensures.outside)
 
 pub returns-clause-text : goal.returns-clause-text
 returns-clause-text c =
-    c.in_ok-text.ensures.text
+    c.in_ok-ready.ensures.text
     ∙ ap (λ (lines : List Line). listing_text (listing_with lines (lines_of c.args.source.now)))
     (c.lend-lines.ensures ∙ c.in_ok-read.ensures.lines)
 
@@ -39,4 +39,4 @@ returns-clause-assembled c =
     assembled c.args.language c.args.size c.args.source.now c.lend-lines.result
     (assembly_with c.args.size c.lend-lines.result c.args.source.now) same
     (ap (first_fault c.args.language) c.lend-lines.ensures ∙ c.in_ok-read.ensures.none)
-    c.in_ok-text.ensures.inside refl ∙ ap of same
+    c.in_ok-ready.ensures.inside refl ∙ ap of same
