@@ -1,17 +1,19 @@
 -- The parts of what is written of tables.
-use Rattle.std.proofs.Common.{◌≡◌, ◌⊎◌, inl, inr, ℕ, Bool, true, false, cond, List, [], ◌∷◌, ◌++◌, Option, Result}
+use Rattle.std.proofs.Common.{◌≡◌, inl, inr, ℕ, Bool, true, false, cond, List, [], ◌∷◌, ◌++◌, Option, Result}
 use Rattle.std.proofs.Common.{refl, sym, ap, ◌∙◌, append_assoc, append-nil}
 use Rattle.std.proofs.KnownBytes.{Appends-trans}
 use Rattle.std.specs.Bool.{⊤}
 use Rattle.std.specs.Io.KnownBytes.{Appends}
-use Rattle.std.specs.Prelude.{Ok, Err, codes}
+use Rattle.std.specs.Prelude.{Ok, Err, Some, None, codes}
 use Rattle.bytes_pages.proofs.SentLemmas.{part_before, sent_part}
 use Rattle.program_call.specs.declared.call.Tables.{Tables}
 use Rattle.program_assemble.specs.Assemble.{with_part, with_part_if, tables_text, Wrote}
-use Rattle.program_assemble.specs.ReadyTables.{has_some, separator}
+use Rattle.program_assemble.specs.ReadyTables.{has_some, separator, listing_in}
 use Rattle.program_assemble.specs.declared.fault.AssembleFault.{AssembleFault}
 use Rattle.program_assemble.specs.declared.fault.AssembleFault.TheVariants as fault
 use Rattle.autocoder_listing.specs.Heads.{written}
+use Rattle.autocoder_listing.specs.Writing.{text_for}
+use Rattle.autocoder_listing.specs.declared.writing.ReadyListing.{ReadyListing}
 use Rattle.autocoder_listing.specs.declared.heads.Head.{Head}
 
 no_part : (text : List ℕ) → with_part text [] ≡ text
@@ -22,7 +24,11 @@ in_turn : (one other last : List ℕ) → with_part (with_part one other) last �
 in_turn [] other last = refl
 in_turn (x ∷ xs) [] last = refl
 in_turn (x ∷ xs) (y ∷ ys) [] = refl
-in_turn (x ∷ xs) (y ∷ ys) (z ∷ zs) = grind append_assoc
+in_turn (x ∷ xs) (y ∷ ys) (z ∷ zs) =
+    let first : List ℕ = (x ∷ xs) ++ codes "\n" in
+    append_assoc (first ++ (y ∷ ys)) (codes "\n") (z ∷ zs)
+    ∙ append_assoc first (y ∷ ys) (codes "\n" ++ (z ∷ zs))
+    ∙ ap (λ (rest : List ℕ). first ++ rest) (sym (append_assoc (y ∷ ys) (codes "\n") (z ∷ zs)))
 
 -- the parts that are asked for, with the first of them apart
 parts : (symbols references : Bool) (listing s r : List ℕ)
@@ -38,6 +44,12 @@ pub parts_of_tables : (asked : Tables) (listing s r : List ℕ)
     ≡ tables_text asked listing s r
 parts_of_tables asked listing s r =
     parts asked.symbols asked.references (with_part_if asked.listing [] listing) s r
+
+-- the listing is the first part, if it is asked for
+pub listing_is : (asked : Bool) (source : List ℕ) (ready : ReadyListing)
+    → listing_in source (cond asked (Some ready) None) ≡ with_part_if asked [] (text_for source ready)
+listing_is true source ready = refl
+listing_is false source ready = refl
 
 -- an empty line is between a text and the tables after it, unless one of them is empty
 parted : (text rest : List ℕ) → with_part text rest ≡ text ++ (separator (has_some text) rest ++ rest)

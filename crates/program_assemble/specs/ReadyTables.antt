@@ -1,5 +1,5 @@
 -- The listing of a source and its tables, ready to be written (own).
-use Rattle.std.specs.Prelude.{ℕ, Bool, true, false, ◌&&◌, if◌then◌else◌, List, [], ◌∷◌, ◌++◌, Option, None, Some, IfSome, codes}
+use Rattle.std.specs.Prelude.{ℕ, Bool, true, false, ◌&&◌, if◌then◌else◌, List, [], ◌∷◌, Option, None, Some, IfSome, codes}
 use Rattle.autocoder_listing.specs.Writing.{IsReadyFor, text_for}
 use Rattle.autocoder_listing.specs.declared.writing.ReadyListing.{ReadyListing}
 use Rattle.program_assemble.specs.Assemble.{with_part}

@@ -210,11 +210,7 @@ fn whole_listing(
 }
 
 /// The text of tables that are ready.
-fn whole_tables(
-    alloc: Global,
-    tables: ReadyTables,
-    source: &[u8],
-) -> Result<Vec<u8>, AssembleFault>
+fn whole_tables(alloc: Global, tables: ReadyTables, source: &[u8]) -> Result<Vec<u8>, AssembleFault>
     requires { AreReadyFor source.now tables }
     ensures text { IfOk result (λ text. text.items ≡ ready_text source.now tables) }
     ensures err { IfErr result (λ fault. fault ≡ AssembleFault.Memory) }
@@ -334,7 +330,6 @@ fn listing_if(asked: bool, listing: ReadyListing) -> Option<ReadyListing>
 }
 
 /// The tables that are asked for, of this source.
-#[tactic(auto, using(crate::proofs::TablesLemmas::parts_of_tables))]
 fn ready_tables(
     alloc: Global,
     made: AssemblyTables,
@@ -346,7 +341,12 @@ fn ready_tables(
         (text_for source.now made.listing) made.symbols.items made.references.items) }
     ensures ready { IfOk result (AreReadyFor source.now) }
 {
-    let rest = rest_text(alloc, made.symbols.as_slice(), made.references.as_slice(), asked)?;
+    let rest = rest_text(
+        alloc,
+        made.symbols.as_slice(),
+        made.references.as_slice(),
+        asked,
+    )?;
     Ok(ReadyTables {
         listing: listing_if(asked.listing, made.listing),
         rest,

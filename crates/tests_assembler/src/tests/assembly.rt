@@ -145,21 +145,18 @@ fn entry_and_count(image: &Image) -> (u16, usize) {
     (image.start, image.segments.as_slice().len())
 }
 
-/// Compares an image and the number of lines of a listing with those beside the tables of a source.
-fn expect_beside(rt: &(impl Abort + AllocGlobal), source: &[u8], start: u16, lines: usize) {
+/// Compares an image with that beside the tables of a source.
+fn expect_beside(rt: &(impl Abort + AllocGlobal), source: &[u8], start: u16) {
     let made = tables_of(rt, source);
     let found = entry_and_count(&made.image);
     expect_same(rt, &found, &(start, 1), source);
-    let listed = made.listing.iter().filter(|byte| **byte == b'\n').count();
-    expect_same(rt, &listed, &lines, source);
 }
 
 #[test]
-fn the_assembly_beside_them_is_that_of_the_source(rt: HostRuntime) {
+fn the_image_beside_them_is_that_of_the_source(rt: HostRuntime) {
     let source = b"     A         MLC  +5,A\n               END  A\n";
     let Image { start, .. } = image_beside(&rt, source);
-    let lines = listing_of(&rt, source).as_slice().len();
-    expect_beside(&rt, source, start, lines);
+    expect_beside(&rt, source, start);
 }
 
 /// Adds a row to those that are told.

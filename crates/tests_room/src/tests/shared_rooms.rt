@@ -384,23 +384,23 @@ fn use_both<J: RoomId, R: Wait + Abort>(rt: &R, room: &SharedRoom<J, &R>, seats:
     }
 }
 
-/// What two operators run at a room. A fresh room gives each answer again.
-fn runners<J: RoomId, R: Wait + Abort + AllocGlobal>(rt: &R, opened: Opened)
+/// What two operators run at a room of this size. A fresh room gives each answer again.
+fn runners<J: RoomId, R: Wait + Abort + AllocGlobal>(rt: &R, size: u16, seats: u8, opened: Opened)
     requires history { opened.book ≡ J.book }
     requires ledger { (opened.ledger ≡ J.name) × (opened.parts ≡ J.parts) × (J.parts ≡ J.seats) }
-    requires named { (4000 ≡ J.size) × (2 ≡ J.seats) }
+    requires named { (size ≡ J.size) × (seats ≡ J.seats) }
 {
-    let started = SharedRoom::<J, &R>::power_on(rt, rt.alloc(), 4_000, 2, opened);
+    let started = SharedRoom::<J, &R>::power_on(rt, rt.alloc(), size, seats, opened);
     let (room, mut seats) = started.expect(rt, "a room");
     use_both(rt, &room, seats.as_mut_slice());
     let wanted = CloseFault::Unreturned { back: 1, total: 2 };
     let room = closed(rt, room, seats, wanted);
-    expect_answers(rt, new_room(rt, 4_000), room.journal());
+    expect_answers(rt, new_room(rt, size), room.journal());
 }
 
 #[test]
 fn long_runs_are_shown_to_both_seats(rt: HostRuntime) {
-    runners::<Brand, _>(&rt, Opened::new(2));
+    runners::<Brand, _>(&rt, 4_000, 2, Opened::new(2));
 }
 
 /// The k-th command of an operator: deposits, starts, runs and questions in turn.
