@@ -25,7 +25,7 @@ returns-clause-ok g c =
     let new = g.W.Sink.received c.put_all.new.writer in
     let last : List ℕ = flat_map (marked_line []) (built c.args.builder.now []) in
     let sent = sent_before old between _ _ (start_line c.args.start)
-    (sent_before old between c.args.text.now.items c.make_room.new.text.items last c.in_ok-make_room.ensures.sent) in
+    (sent_before old between c.args.text.now.items c.make_room.new.page.items last c.in_ok-make_room.ensures.sent) in
     on_ok_weaker c.put_all.result
     (λ all. sent_rest old between new _ _ sent
     (subst (λ text. Appends between new text) (c.as_slice.ensures.value ∙ c.put_last.ensures) all))
@@ -38,7 +38,7 @@ returns-clause-part g c =
     let new = g.W.Sink.received c.put_all.new.writer in
     let last : List ℕ = flat_map (marked_line []) (built c.args.builder.now []) in
     let sent = sent_before old between _ _ (start_line c.args.start)
-    (sent_before old between c.args.text.now.items c.make_room.new.text.items last c.in_ok-make_room.ensures.sent) in
+    (sent_before old between c.args.text.now.items c.make_room.new.page.items last c.in_ok-make_room.ensures.sent) in
     on_err_weaker c.put_all.result
     (λ part. sent_part old between new _ _ sent
     (subst (λ text. AppendsPart between new text) (c.as_slice.ensures.value ∙ c.put_last.ensures) part))

@@ -25,16 +25,16 @@ loop-segment-preserved g c =
     let so_far = g.W.Sink.received at.writer in
     let new = g.W.Sink.received c.make_room.new.writer in
     let left : List ℕ = flat_map (marked_line []) (built at.builder (placed_cells at.rest.segments)) in
-    let more : c.make_room.new.text.items ++ left
+    let more : c.make_room.new.page.items ++ left
     ≡ listed c.put_in_room.new.text c.put_in_room.new.builder (placed_cells c.in-Some.behind.segments) =
-    ap (λ (segments : List Segment). listed c.make_room.new.text at.builder (placed_cells segments))
+    ap (λ (segments : List Segment). listed c.make_room.new.page at.builder (placed_cells segments))
     c.in-Some.ensures.first
     ∙ sym (c.put_in_room.ensures.text (placed_cells c.in-Some.behind.segments)) in
     record {
       sent =
           sent_more (g.W.Sink.received c.args.writer.now) so_far new _ _ _ at.invariant.sent
           (subst (λ text. Sent so_far new (at.text.items ++ left) text) more
-          (sent_before so_far new at.text.items c.make_room.new.text.items left c.in_ok-make_room.ensures.sent));
+          (sent_before so_far new at.text.items c.make_room.new.page.items left c.in_ok-make_room.ensures.sent));
       ready = c.put_in_room.ensures.ready;
       room = omega (arith, at.invariant.room, c.in_ok-make_room.ensures.capacity, c.put_in_room.ensures.capacity);
     }
