@@ -1,0 +1,3 @@
+mod BackExamples
+pub mod BackLemmas
+pub mod CutLemmas

@@ -1,7 +1,9 @@
 //! Instructions taken back.
-ghost use Rattle.std.specs.Prelude.{◌≡◌, ◌≤◌, ◌↔◌, ◌++◌, None, Some, length, IfOk, OnOk};
-ghost use Rattle.room_alone.specs.Journal.{most_entries, pairs_of};
-ghost use Rattle.operate_past.specs.Back.{back_of, first_of, instructions_of, part_of, steps_in};
+ghost use Rattle.std.specs.Prelude.{◌≡◌, ◌+◌, ◌-◌, ◌≤◌, ◌↔◌, ◌++◌, None, Some, length, take, IfOk, OnOk};
+ghost use Rattle.room_alone.specs.Journal.{most_entries, pairs_of, state_of};
+ghost use Rattle.room_alone.specs.Replay.{state_after};
+ghost use Rattle.operate_past.specs.Back.{back_of, first_of, gone_from, instructions_of, part_of, steps_in};
+ghost use Rattle.operate_past.specs.Machines.{machines_after, machines_of};
 
 use machine_execution::{Answer, Command};
 use room_alone::{Entry, Room, RoomFault};
@@ -29,6 +31,18 @@ pub fn carry_back(alloc: Global, room: &Room, count: u64) -> Result<Room, BackFa
     ensures commands { IfOk result (λ earlier. Some (pairs_of earlier.journal) ≡ back_of count room.now.journal) }
     ensures size { IfOk result (λ earlier. earlier.size ≡ room.now.size) }
     ensures too_few { (result ≡ Err BackFault.TooFew) ↔ (back_of count room.now.journal ≡ None) }
+
+    // So many instructions fewer were carried out, and after each of the others the machine was the same.
+    ensures instructions { IfOk result (λ earlier.
+        instructions_of earlier.journal + count ≡ instructions_of room.now.journal) }
+    ensures machines { IfOk result (λ earlier. machines_of earlier.size earlier.journal
+        ≡ take (instructions_of earlier.journal) (machines_of room.now.size room.now.journal)) }
+
+    // What is gone leads from the earlier machine to the one that was there, by so many instructions.
+    ensures gone { IfOk result (λ earlier. state_after (state_of earlier.size earlier.journal)
+        (gone_from count room.now.journal) ≡ state_of room.now.size room.now.journal) }
+    ensures by { IfOk result (λ earlier. length (machines_after (state_of earlier.size earlier.journal)
+        (gone_from count room.now.journal)) ≡ count) }
 {
     let total = instructions_of(room.journal());
     if count > total {
@@ -38,10 +52,11 @@ pub fn carry_back(alloc: Global, room: &Room, count: u64) -> Result<Room, BackFa
         return Err(BackFault::Memory);
     };
     // Its journal is never full: it has no entry more than the room's.
-    match carry_first(&mut earlier, room.journal(), total - count) {
-        Ok(()) => Ok(earlier),
-        Err(_) => Err(BackFault::Memory),
+    if carry_first(&mut earlier, room.journal(), total - count).is_err() {
+        return Err(BackFault::Memory);
     }
+    let _legal = earlier.journal();
+    Ok(earlier)
 }
 
 /// How many instructions the runs of a journal carried out.
