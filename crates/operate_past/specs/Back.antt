@@ -30,7 +30,7 @@ part_of seat zero = []
 part_of seat (suc left) = pair seat (command.Run (suc left)) ∷ []
 
 -- The commands that carry out the first instructions of a journal, this many. An entry stays whole if its instructions
--- are among them, and so does one without an instruction before the next one; the first of which some aren't is cut, and
+-- are among them, and so does one without an instruction before the next one; the first that goes beyond is cut, and
 -- all after it are gone.
 abbrev pub first_of : ℕ → List Entry → List SeatedCommand
 first_of left [] = []
@@ -39,7 +39,7 @@ first_of left (entry ∷ entries) =
     then pair_of entry ∷ first_of (left - steps_in entry.answer) entries
     else part_of entry.seat left
 
--- what is left to do of a command, of which this many instructions were carried out
+-- what is left to do of a command after this many of its instructions
 abbrev pub rest_of : ℕ → Command → Command
 rest_of left (command.Run limit) = command.Run (limit - left)
 rest_of left (command.Deposit address cells) = command.Deposit address cells

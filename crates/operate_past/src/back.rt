@@ -38,7 +38,7 @@ pub fn carry_back(alloc: Global, room: &Room, count: u64) -> Result<Room, BackFa
     ensures machines { IfOk result (λ earlier. machines_of earlier.size earlier.journal
         ≡ take (instructions_of earlier.journal) (machines_of room.now.size room.now.journal)) }
 
-    // What is gone leads from the earlier machine to the one that was there, by so many instructions.
+    // What is gone leads from the earlier machine to the room's, by so many instructions.
     ensures gone { IfOk result (λ earlier. state_after (state_of earlier.size earlier.journal)
         (gone_from count room.now.journal) ≡ state_of room.now.size room.now.journal) }
     ensures by { IfOk result (λ earlier. length (machines_after (state_of earlier.size earlier.journal)

@@ -1,4 +1,4 @@
-//! Back in time: a room whose journal is shorter, so that its machine is an earlier one.
+//! Back in time: a room whose journal is shorter, and whose machine is an earlier one.
 //!
 //! ```text
 //! let earlier = carry_back(alloc, room, 4)?;   // RUN 18, at the journal's end, is RUN 14 now
