@@ -75,8 +75,10 @@ SAYING = {
     "EQUs": (0, lambda number: f"     {label(number):10}EQU  1\n"),
     "short statements": (0, lambda number: "               ORG  0\n"),
 }
-# Literals that differ, and the memory that they take: more than the others, and it doesn't grow.
+# Literals that differ, and the memory that they take: more than the others, and it doesn't grow. So do the labels of a
+# run, which looks for warnings.
 LITERALS_EACH = 18
+LABELS_OF_A_RUN_EACH = 17
 
 
 def with_literals(number):
@@ -86,7 +88,7 @@ def with_literals(number):
 
 
 # What is done with these.
-OF_STATEMENTS = (["assemble"], ["assemble", "--language", "ibm"], ["run"])
+OF_STATEMENTS = (["assemble"], ["assemble", "--language", "ibm"])
 
 # Calls that hold one segment of an image at a time, each with its status and the image.
 OF_IMAGES = {
@@ -206,6 +208,10 @@ class MemoryTest(unittest.TestCase):
             for call in OF_STATEMENTS:
                 with self.subTest(f"{name}: {' '.join(call)}"):
                     self.expect_few(status, small, large, *call, "file")
+
+    def test_the_labels_of_a_run_take_no_more_than_they_do(self):
+        small, large = again(SHORTER_BYTES // 4, labelled), again(SHORTER_BYTES, labelled)
+        self.expect_few(0, small, large, "run", "file", most=LABELS_OF_A_RUN_EACH)
 
     def test_literals_take_no_more_than_they_do(self):
         small, large = again(1_000, with_literals), again(SHORTER_BYTES, with_literals)
