@@ -168,7 +168,7 @@ fn places_outside(
             let length = pending_length(so_far)?;
             OutsidePart::LastLiteral.of_places(size, so_far.start_by(row)?, length)
         }
-        Next::Behind | Next::Value | Next::Elsewhere => {
+        Next::Beyond | Next::Value | Next::Elsewhere => {
             let length = i64::from(contents_length(&row.contents));
             OutsidePart::LastPlace.of_places(size, so_far.start_by(row)?, length)
         }
@@ -179,7 +179,7 @@ fn places_outside(
 fn value_part(next: Next) -> OutsidePart {
     match next {
         Next::Elsewhere => OutsidePart::FirstPlace,
-        Next::Behind | Next::Literals | Next::Value | Next::LiteralsAtValue => {
+        Next::Beyond | Next::Literals | Next::Value | Next::LiteralsAtValue => {
             OutsidePart::OnlyOperand
         }
     }

@@ -102,7 +102,7 @@ one_cell : (on_card is_empty : Bool) (covered from : ℕ) (done cells : List Cel
     else record {
       from = from;
       first = cell;
-      behind = take (fitting more_columns most_marks cells) cells;
+      beyond = take (fitting more_columns most_marks cells) cells;
     } ∷ cards_from (fitting more_columns most_marks cells) (from + 1) cells)
     ≡ done ++ cell ∷ cells
 unfolding Filled

@@ -31,8 +31,8 @@ Chars [] = Unit {0}
 Chars (char ∷ chars) = (char < 64) × Chars chars
 
 pub chars_both : (xs ys : List ℕ) → Chars xs → Chars ys → Chars (xs ++ ys)
-chars_both [] ys front behind = behind
-chars_both (x ∷ xs) ys front behind = (front.0, chars_both xs ys front.1 behind)
+chars_both [] ys front beyond = beyond
+chars_both (x ∷ xs) ys front beyond = (front.0, chars_both xs ys front.1 beyond)
 
 -- no graphic ends a line, and none is a small letter
 abbrev is_column : ℕ → Bool

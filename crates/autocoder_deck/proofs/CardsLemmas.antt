@@ -13,10 +13,10 @@ use Rattle.autocoder_deck.specs.Card.{CellCard, marked_places}
 use Rattle.autocoder_deck.proofs.CellCardLemmas.{ArePlaces, CardCode, IsPlace, all_marked, all_set, card_chars}
 use Rattle.autocoder_deck.proofs.CellCardLemmas.{card_read}
 use Rattle.autocoder_deck.proofs.CellCardLemmas.{code_chars}
-use Rattle.autocoder_deck.proofs.CellCardLemmas.{columns, mark_behind}
+use Rattle.autocoder_deck.proofs.CellCardLemmas.{columns, mark_beyond}
 use Rattle.autocoder_deck.proofs.CellLoadLemmas.{Brings, card_loaded, card_moved, first_marked, plain}
 use Rattle.autocoder_deck.proofs.LoaderCardLemmas.{loader_marks}
-use Rattle.autocoder_deck.proofs.PlacesLemmas.{cell_behind, set_behind}
+use Rattle.autocoder_deck.proofs.PlacesLemmas.{cell_beyond, set_beyond}
 use Rattle.autocoder_deck.proofs.ProgramLemmas.{with_card}
 use Rattle.autocoder_deck.proofs.StepLemmas.{Leaves}
 
@@ -26,14 +26,14 @@ chars_of cells = map (λ (cell : Cell). cell.char) cells
 
 -- the k-th of the places whose word marks a card sets: 040 for those that are left over
 abbrev pub marked_place : CellCard → ℕ → ℕ
-marked_place card k = get_or (marked_places (card.from + 1) card.behind) k 40
+marked_place card k = get_or (marked_places (card.from + 1) card.beyond) k 40
 
 -- what the loader on a card of cells says
 abbrev pub code_of : CellCard → CardCode
 code_of card = record {
   does = if card.first.mark then 35 else 36;
-  count = length card.behind + 1;
-  top = card.from + (length card.behind + 1) - 1;
+  count = length card.beyond + 1;
+  top = card.from + (length card.beyond + 1) - 1;
   first = marked_place card 0;
   second = marked_place card 1;
   third = marked_place card 2;
@@ -45,7 +45,7 @@ code_of card = record {
 
 -- its first 39 columns
 abbrev pub front_of : CellCard → List ℕ
-front_of card = chars_of (card.first ∷ card.behind) ++ replicate (38 - length card.behind) 0
+front_of card = chars_of (card.first ∷ card.beyond) ++ replicate (38 - length card.beyond) 0
 
 -- the card
 abbrev pub card_of : CellCard → Card
@@ -54,7 +54,7 @@ card_of card = record { 0 = front_of card ++ code_chars (code_of card) }
 -- what is after the card with the word marks of places
 abbrev marks_over : Storage → List ℕ → Storage
 marks_over rest [] = rest
-marks_over rest (place ∷ places) = marks_over (mark_behind rest place) places
+marks_over rest (place ∷ places) = marks_over (mark_beyond rest place) places
 
 -- those that are left over set none
 seven_marked : (rest : Storage) (ps : List ℕ) → length ps ≤ 7
@@ -75,15 +75,15 @@ cell_is : (cell : Cell) (mark : Bool) → cell.mark ≡ mark → ◌≡◌ {A = 
 cell_is cell mark e = ap (λ (b : Bool). let made : Cell = record { char = cell.char; mark = b } in made) (sym e)
 
 first_set : (done more : Storage) (at : ℕ) (cell : Cell) → at ≡ 81 + length done → cell.mark ≡ true
-    → mark_behind (done ++ (plain cell.char ∷ more)) at ≡ done ++ (cell ∷ more)
+    → mark_beyond (done ++ (plain cell.char ∷ more)) at ≡ done ++ (cell ∷ more)
 first_set done more at cell h e =
     let other : (at == 40) ≡ false = grind (arith, nat_tests) in
     let place : at - 81 ≡ length done + 0 = omega (arith, h) in
     let s = done ++ (plain cell.char ∷ more) in
     ap (λ (b : Bool). if b then s else with_mark s (at - 81) true) other
     ∙ ap (λ (k : ℕ). with_mark s k true) place
-    ∙ ap (λ (old : Cell). set s (length done + 0) (record old { mark = true })) (cell_behind done (plain cell.char ∷ more) 0)
-    ∙ set_behind done (plain cell.char ∷ more) 0 (record { char = cell.char; mark = true })
+    ∙ ap (λ (old : Cell). set s (length done + 0) (record old { mark = true })) (cell_beyond done (plain cell.char ∷ more) 0)
+    ∙ set_beyond done (plain cell.char ∷ more) 0 (record { char = cell.char; mark = true })
     ∙ ap (λ (c : Cell). done ++ (c ∷ more)) (cell_is cell true e)
 
 abbrev Set : List Cell → Storage → Type 0
@@ -127,68 +127,68 @@ each_place (cell ∷ cells) at size k le lt =
     one_place false j more = more j
 
 -- the first 39 columns, one by one
-pub front_length : (card : CellCard) → length card.behind ≤ 38 → length (front_of card) ≡ 39
+pub front_length : (card : CellCard) → length card.beyond ≤ 38 → length (front_of card) ≡ 39
 front_length card few =
     omega (
       arith,
       few,
-      length-append (chars_of (card.first ∷ card.behind)) (replicate (38 - length card.behind) 0),
-      length-map card.behind (λ (cell : Cell). cell.char),
-      length-replicate {A = ℕ} (38 - length card.behind) 0,
+      length-append (chars_of (card.first ∷ card.beyond)) (replicate (38 - length card.beyond) 0),
+      length-map card.beyond (λ (cell : Cell). cell.char),
+      length-replicate {A = ℕ} (38 - length card.beyond) 0,
     )
 
-front_is : (card : CellCard) → length card.behind ≤ 38 → columns (front_of card) ≡ front_of card
+front_is : (card : CellCard) → length card.beyond ≤ 38 → columns (front_of card) ≡ front_of card
 front_is card few =
     sym (fill_by_all (λ i. get_or (front_of card) i 0) (front_of card) 39 0 (front_length card few) (λ k lt. refl))
 
-pub card_length : (card : CellCard) → length card.behind ≤ 38 → length (card_of card).0 ≡ 80
+pub card_length : (card : CellCard) → length card.beyond ≤ 38 → length (card_of card).0 ≡ 80
 card_length card few =
     omega (arith, front_length card few, length-append (front_of card) (code_chars (code_of card)))
 
 -- a card of cells comes to where its cells are to be
 pub record Fits (card : CellCard) (done : Storage) : Type 0 where
   pub from : card.from ≡ 81 + length done
-  pub columns : length card.behind ≤ 38
-  pub marks : length (marked_places (card.from + 1) card.behind) ≤ 7
+  pub columns : length card.beyond ≤ 38
+  pub marks : length (marked_places (card.from + 1) card.beyond) ≤ 7
 
 loaded_or_moved : (last : State) (hopper : List Card) (card : CellCard) (done post : Storage)
     → (mark : Bool) → card.first.mark ≡ mark
-    → Brings (front_of card) (chars_of (card.first ∷ card.behind)) (code_of card) done
+    → Brings (front_of card) (chars_of (card.first ∷ card.beyond)) (code_of card) done
     → Leaves last hopper (with_card loader_marks (card_chars (front_of card) (code_of card))
-    (done ++ (first_marked mark (chars_of (card.first ∷ card.behind)) ++ post))) 47
+    (done ++ (first_marked mark (chars_of (card.first ∷ card.beyond)) ++ post))) 47
     → Leaves last hopper (with_card loader_marks (card_chars (front_of card) (code_of card))
-    (done ++ (blanks (length card.behind + 1) ++ post))) 40
+    (done ++ (blanks (length card.beyond + 1) ++ post))) 40
 loaded_or_moved last hopper card done post true e brings more =
-    card_loaded last hopper (front_of card) (chars_of (card.first ∷ card.behind)) (code_of card) done post brings
+    card_loaded last hopper (front_of card) (chars_of (card.first ∷ card.beyond)) (code_of card) done post brings
     (ap (λ (b : Bool). if b then 35 else 36) e) more
 loaded_or_moved last hopper card done post false e brings more =
-    card_moved last hopper (front_of card) (chars_of (card.first ∷ card.behind)) (code_of card) done post brings
+    card_moved last hopper (front_of card) (chars_of (card.first ∷ card.beyond)) (code_of card) done post brings
     (ap (λ (b : Bool). if b then 35 else 36) e) more
 
 what_it_brings : (card : CellCard) (done : Storage) → Fits card done
-    → Brings (front_of card) (chars_of (card.first ∷ card.behind)) (code_of card) done
+    → Brings (front_of card) (chars_of (card.first ∷ card.beyond)) (code_of card) done
 what_it_brings card done fits = record {
   some = omega arith;
   most = omega (arith, fits.columns);
   top = omega (arith, fits.from);
-  size = omega (arith, length-map card.behind (λ (cell : Cell). cell.char));
-  same = λ j lt. get_or_append_left (chars_of (card.first ∷ card.behind)) (replicate (38 - length card.behind) 0) 0 j
-      (omega (arith, lt, length-map card.behind (λ (cell : Cell). cell.char)));
+  size = omega (arith, length-map card.beyond (λ (cell : Cell). cell.char));
+  same = λ j lt. get_or_append_left (chars_of (card.first ∷ card.beyond)) (replicate (38 - length card.beyond) 0) 0 j
+      (omega (arith, lt, length-map card.beyond (λ (cell : Cell). cell.char)));
 }
 
-length-first : (mark : Bool) (card : CellCard) → length (first_marked mark (chars_of (card.first ∷ card.behind)))
-    ≡ length card.behind + 1
+length-first : (mark : Bool) (card : CellCard) → length (first_marked mark (chars_of (card.first ∷ card.beyond)))
+    ≡ length card.beyond + 1
 length-first mark card =
-    omega (arith, length-map card.behind (λ (cell : Cell). cell.char), length-map (chars_of card.behind) plain)
+    omega (arith, length-map card.beyond (λ (cell : Cell). cell.char), length-map (chars_of card.beyond) plain)
 
 places_of : (card : CellCard) (done post : Storage) → Fits card done
-    → ArePlaces (code_of card) (length (done ++ (first_marked card.first.mark (chars_of (card.first ∷ card.behind)) ++ post)))
+    → ArePlaces (code_of card) (length (done ++ (first_marked card.first.mark (chars_of (card.first ∷ card.beyond)) ++ post)))
 places_of card done post fits =
-    let brought : Storage = first_marked card.first.mark (chars_of (card.first ∷ card.behind)) in
-    let size : length (done ++ (brought ++ post)) ≡ length done + (length card.behind + 1 + length post) =
+    let brought : Storage = first_marked card.first.mark (chars_of (card.first ∷ card.beyond)) in
+    let size : length (done ++ (brought ++ post)) ≡ length done + (length card.beyond + 1 + length post) =
     omega (arith, length-append done (brought ++ post), length-append brought post, length-first card.first.mark card) in
     let each : (k : ℕ) → IsPlace (length (done ++ (brought ++ post))) (marked_place card k) =
-    λ k. each_place card.behind (card.from + 1) (length (done ++ (brought ++ post))) k (omega (arith, fits.from))
+    λ k. each_place card.beyond (card.from + 1) (length (done ++ (brought ++ post))) k (omega (arith, fits.from))
     (omega (arith, fits.from, size)) in
     record {
       first = each 0;
@@ -201,16 +201,16 @@ places_of card done post fits =
     }
 
 marks_are : (card : CellCard) (done post : Storage) → Fits card done
-    → all_marked (code_of card) (done ++ (first_marked card.first.mark (chars_of (card.first ∷ card.behind)) ++ post))
-    ≡ done ++ ((card.first ∷ card.behind) ++ post)
+    → all_marked (code_of card) (done ++ (first_marked card.first.mark (chars_of (card.first ∷ card.beyond)) ++ post))
+    ≡ done ++ ((card.first ∷ card.beyond) ++ post)
 marks_are card done post fits =
-    let more : Storage = map plain (chars_of card.behind) ++ post in
-    seven_marked (done ++ (card.first ∷ more)) (marked_places (card.from + 1) card.behind) fits.marks
-    ∙ ap (λ (s : Storage). marks_over s (marked_places (card.from + 1) card.behind))
+    let more : Storage = map plain (chars_of card.beyond) ++ post in
+    seven_marked (done ++ (card.first ∷ more)) (marked_places (card.from + 1) card.beyond) fits.marks
+    ∙ ap (λ (s : Storage). marks_over s (marked_places (card.from + 1) card.beyond))
     (sym (append_assoc done (card.first ∷ []) more))
-    ∙ all_cells_set card.behind post (done ++ card.first ∷ []) (card.from + 1)
+    ∙ all_cells_set card.beyond post (done ++ card.first ∷ []) (card.from + 1)
     (omega (arith, fits.from, length-append done (card.first ∷ [])))
-    ∙ append_assoc done (card.first ∷ []) (card.behind ++ post)
+    ∙ append_assoc done (card.first ∷ []) (card.beyond ++ post)
 
 -- a card that is read next, with the loader's word marks in place
 abbrev pub AtRead : State → List Card → Storage → Type 0
@@ -218,18 +218,18 @@ AtRead last [] rest = ⊥
 AtRead last (card ∷ hopper) rest = (length card.0 ≡ 80) × Leaves last hopper (with_card loader_marks card.0 rest) 40
 
 pub one_card : (last : State) (card : CellCard) (more : List Card) (done post : Storage) → Fits card done
-    → AtRead last more (done ++ ((card.first ∷ card.behind) ++ post))
-    → AtRead last (card_of card ∷ more) (done ++ (blanks (length card.behind + 1) ++ post))
+    → AtRead last more (done ++ ((card.first ∷ card.beyond) ++ post))
+    → AtRead last (card_of card ∷ more) (done ++ (blanks (length card.beyond + 1) ++ post))
 one_card last card [] done post fits next = absurd next
 one_card last card (first ∷ hopper) done post fits next = (
   card_length card fits.columns,
   subst (λ (front : List ℕ). Leaves last (first ∷ hopper) (with_card loader_marks (front ++ code_chars (code_of card))
-      (done ++ (blanks (length card.behind + 1) ++ post))) 40) (front_is card fits.columns)
+      (done ++ (blanks (length card.beyond + 1) ++ post))) 40) (front_is card fits.columns)
       (loaded_or_moved last (first ∷ hopper) card done post card.first.mark refl (what_it_brings card done fits)
       (all_set last (first ∷ hopper) (front_of card) (code_of card)
-      (done ++ (first_marked card.first.mark (chars_of (card.first ∷ card.behind)) ++ post)) (places_of card done post fits)
+      (done ++ (first_marked card.first.mark (chars_of (card.first ∷ card.beyond)) ++ post)) (places_of card done post fits)
       (subst (λ (rest : Storage). Leaves last (first ∷ hopper)
       (with_card loader_marks (card_chars (front_of card) (code_of card)) rest) 75) (sym (marks_are card done post fits))
-      (card_read last hopper (front_of card) (code_of card) first (done ++ ((card.first ∷ card.behind) ++ post)) next.0
+      (card_read last hopper (front_of card) (code_of card) first (done ++ ((card.first ∷ card.beyond) ++ post)) next.0
       next.1)))),
 )

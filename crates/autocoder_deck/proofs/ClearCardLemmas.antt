@@ -117,9 +117,9 @@ module _ (last : State) (hopper : List Card) (address n : ℕ) where
   marks_set more = step_0 (step_1 (step_2 (step_3 (step_4 more))))
 
 -- the places of a hundred that is cleared are blank already
-behind_is_blank : (marks : List ℕ) (address n k : ℕ) → 81 ≤ k → k < 81 + n
+beyond_is_blank : (marks : List ℕ) (address n k : ℕ) → 81 ≤ k → k < 81 + n
     → cell_at (with_first_card marks address n) k ≡ blank
-behind_is_blank marks address n k le lt =
+beyond_is_blank marks address n k le lt =
     get_or-append_right (with_marks marks 0 (0 ∷ clear_chars address)) (blanks n) 81 k blank refl le
     ∙ get_or-replicate n (k - 81) blank blank (omega arith)
 
@@ -135,7 +135,7 @@ nothing_cleared : (marks : List ℕ) (address n k : ℕ) → 100 * k + 199 < 81 
 unfolding cleared
 nothing_cleared marks address n k few =
     blanks_cleared (with_first_card marks address n) (100 * k + 199) (100 * k + 199 + 1 - hundred_of (100 * k + 199))
-    (λ q le near. behind_is_blank marks address n q (omega (arith, hundred k)) (omega arith))
+    (λ q le near. beyond_is_blank marks address n q (omega (arith, hundred k)) (omega arith))
 
 -- the place is stored in the instruction that clears
 address_stored : (x y n : ℕ) → stored (with_first_card first_marks y n) 39 x ≡ with_first_card first_marks x n

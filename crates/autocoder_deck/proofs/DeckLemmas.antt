@@ -44,7 +44,7 @@ one_cell : (last : State) (end : List Card) (on_card is_empty : Bool) (covered f
     else record {
       from = from;
       first = cell;
-      behind = take (fitting more_columns most_marks cells) cells;
+      beyond = take (fitting more_columns most_marks cells) cells;
     } ∷ cards_from (fitting more_columns most_marks cells) (from + 1) cells) ++ end) (part_filled done covered (cell ∷ cells))
 one_cell last end true is_empty covered from done cells cell on e h few more =
     let some : 0 < covered = ltb-true 0 covered on in
@@ -58,17 +58,17 @@ one_cell last end false true zero from done cells cell on e h few more =
 one_cell last end false false zero from done cells cell on e h few more =
     let n = fitting more_columns most_marks cells in
     let most : n ≤ length cells = fitting_most more_columns most_marks cells in
-    let behind : List Cell = take n cells in
-    let size : length behind ≡ n = length-take-le n cells most in
+    let beyond : List Cell = take n cells in
+    let size : length beyond ≡ n = length-take-le n cells most in
     let post : Storage = blanks (length cells - n) in
-    let sum : length behind + 1 + (length cells - n) ≡ suc (length cells) = omega (arith, size, most) in
-    let card : CellCard = record { from = from; first = cell; behind = behind } in
+    let sum : length beyond + 1 + (length cells - n) ≡ suc (length cells) = omega (arith, size, most) in
+    let card : CellCard = record { from = from; first = cell; beyond = beyond } in
     let cards : List Card = map card_of (cards_from n (from + 1) cells) ++ end in
-    let before : part_filled done 0 (cell ∷ cells) ≡ done ++ (blanks (length behind + 1) ++ post) =
+    let before : part_filled done 0 (cell ∷ cells) ≡ done ++ (blanks (length beyond + 1) ++ post) =
     only_blanks done cells cell ∙ ap (λ (k : ℕ). done ++ blanks k) (sym sum)
-    ∙ ap (λ (s : Storage). done ++ s) (sym (replicate-append-replicate (length behind + 1) (length cells - n) blank)) in
-    let after : part_filled (done ++ cell ∷ []) n cells ≡ done ++ ((cell ∷ behind) ++ post) =
-    append_assoc (done ++ cell ∷ []) behind post ∙ append_assoc done (cell ∷ []) (behind ++ post) in
+    ∙ ap (λ (s : Storage). done ++ s) (sym (replicate-append-replicate (length beyond + 1) (length cells - n) blank)) in
+    let after : part_filled (done ++ cell ∷ []) n cells ≡ done ++ ((cell ∷ beyond) ++ post) =
+    append_assoc (done ++ cell ∷ []) beyond post ∙ append_assoc done (cell ∷ []) (beyond ++ post) in
     subst (AtRead last (card_of card ∷ cards)) (sym before)
     (one_card last card cards done post (record {
       from = h;
@@ -98,8 +98,8 @@ start_chars start = start_line start ++ replicate 34 0
 
 -- the machine at the first step of a program, with the cards after the deck
 abbrev pub ready : Storage → ℕ → List Card → State
-ready storage start behind =
-    record (power_on 0) { storage = storage; i = start; devices = record no_cards { hopper = behind } }
+ready storage start beyond =
+    record (power_on 0) { storage = storage; i = start; devices = record no_cards { hopper = beyond } }
 
 card_cleared : (start : ℕ) (rest : Storage)
     → cleared_down (with_card loader_marks (start_chars start) rest) 80 ≡ blanks 81 ++ rest
@@ -107,41 +107,41 @@ unfolding cleared with_cells
 card_cleared start rest =
     cells_in_front (with_marks loader_marks 0 (0 ∷ start_chars start)) rest 80 81 (λ i. blank) (omega arith)
 
-no_more_steps : (storage : Storage) (start : ℕ) (behind : List Card) (a b : ℕ)
-    → Leads (machine (power_on 0) behind storage start a b) (ready storage start behind)
+no_more_steps : (storage : Storage) (start : ℕ) (beyond : List Card) (a b : ℕ)
+    → Leads (machine (power_on 0) beyond storage start a b) (ready storage start beyond)
 unfolding run_for
-no_more_steps storage start behind a b = record { steps = 0; a = a; b = b; run = refl }
+no_more_steps storage start beyond a b = record { steps = 0; a = a; b = b; run = refl }
 
 -- it clears the places of the card and branches
-start_card : (start : ℕ) (rest : Storage) (behind : List Card)
-    → Leaves (ready (blanks 81 ++ rest) start behind) behind (with_card loader_marks (start_chars start) rest) 40
+start_card : (start : ℕ) (rest : Storage) (beyond : List Card)
+    → Leaves (ready (blanks 81 ++ rest) start beyond) beyond (with_card loader_marks (start_chars start) rest) 40
 unfolding graphics
-start_card start rest behind a b =
+start_card start rest beyond a b =
     let front = with_marks loader_marks 0 (0 ∷ start_chars start) in
     let storage = with_card loader_marks (start_chars start) rest in
     let after = blanks 81 ++ rest in
-    one_step (machine (power_on 0) behind storage 40 a b) (machine (power_on 0) behind after start start 47)
-    (ready after start behind)
-    (clear_and_branch_step (machine (power_on 0) behind storage 40 a b) start 80
+    one_step (machine (power_on 0) beyond storage 40 a b) (machine (power_on 0) beyond after start start 47)
+    (ready after start beyond)
+    (clear_and_branch_step (machine (power_on 0) beyond storage 40 a b) start 80
     (instruction front rest 40 op.ClearStorage 7 refl refl refl refl)
     (effective_is storage 41 start refl refl refl) refl (in_front front rest 80 refl)
-    ∙ ap (λ (s : Storage). step_to (machine (power_on 0) behind s start start 47)) (card_cleared start rest))
-    (no_more_steps after start behind start 47)
+    ∙ ap (λ (s : Storage). step_to (machine (power_on 0) beyond s start start 47)) (card_cleared start rest))
+    (no_more_steps after start beyond start 47)
 
 -- all cards after the first two
 abbrev pub later_cards : List Cell → ℕ → List Card
 later_cards cells start = map card_of (cards_from 0 81 cells) ++ record { 0 = start_chars start } ∷ []
 
-all_read : (cells : List Cell) (start : ℕ) (behind : List Card)
-    → AtRead (ready (blanks 81 ++ cells) start behind) (later_cards cells start ++ behind) (blanks (length cells))
-all_read cells start behind =
-    let last = ready (blanks 81 ++ cells) start behind in
+all_read : (cells : List Cell) (start : ℕ) (beyond : List Card)
+    → AtRead (ready (blanks 81 ++ cells) start beyond) (later_cards cells start ++ beyond) (blanks (length cells))
+all_read cells start beyond =
+    let last = ready (blanks 81 ++ cells) start beyond in
     let end : Card = record { 0 = start_chars start } in
     let cards : List Card = map card_of (cards_from 0 81 cells) in
     let none : blanks (length cells - 0) ≡ blanks (length cells) = ap blanks (omega arith) in
-    subst (λ (deck : List Card). AtRead last deck (blanks (length cells))) (sym (append_assoc cards (end ∷ []) behind))
-    (subst (AtRead last (cards ++ end ∷ behind)) none
-    (all_cards last (end ∷ behind) 0 81 [] cells (omega arith) (omega arith) (refl, start_card start cells behind)))
+    subst (λ (deck : List Card). AtRead last deck (blanks (length cells))) (sym (append_assoc cards (end ∷ []) beyond))
+    (subst (AtRead last (cards ++ end ∷ beyond)) none
+    (all_cards last (end ∷ beyond) 0 81 [] cells (omega arith) (omega arith) (refl, start_card start cells beyond)))
 
 -- the second card reads the third
 third_read : (last : State) (hopper : List Card) (rest : Storage) → AtRead last hopper rest
@@ -162,11 +162,11 @@ deck_cards size cells start =
 -- Storage of a whole number of hundreds, with these cells from 081 on: the deck that the load key takes leaves them
 -- there, and the cards after it in the hopper.
 pub deck_loads : (size : ℕ) (cells : List Cell) (start k : ℕ) → size ≡ 100 * k + 200 → size ≤ 16000
-    → size ≡ 81 + length cells → (behind : List Card)
-    → Leads (loaded size (deck_cards size cells start ++ behind)) (ready (blanks 81 ++ cells) start behind)
-deck_loads size cells start k hundreds most all behind =
-    let last = ready (blanks 81 ++ cells) start behind in
-    let later : List Card = later_cards cells start ++ behind in
+    → size ≡ 81 + length cells → (beyond : List Card)
+    → Leads (loaded size (deck_cards size cells start ++ beyond)) (ready (blanks 81 ++ cells) start beyond)
+deck_loads size cells start k hundreds most all beyond =
+    let last = ready (blanks 81 ++ cells) start beyond in
+    let later : List Card = later_cards cells start ++ beyond in
     let deck : ℕ → List Card = λ (address : ℕ). record { 0 = clear_chars address } ∷ record { 0 = loader_chars } ∷ later in
     let top : 100 * k + 199 ≡ size - 1 = omega (arith, hundreds) in
     subst (λ (n : ℕ). Leads (loaded n (deck (size - 1))) last) (sym all)
@@ -174,4 +174,4 @@ deck_loads size cells start k hundreds most all behind =
     (first_card last (record { 0 = loader_chars } ∷ later) (length cells) k (omega (arith, hundreds, all))
     (omega (arith, all, most))
     (loader_card last later (length cells) (length cells - 119) (omega (arith, hundreds, all))
-    (third_read last later (blanks (length cells)) (all_read cells start behind)))))
+    (third_read last later (blanks (length cells)) (all_read cells start beyond)))))

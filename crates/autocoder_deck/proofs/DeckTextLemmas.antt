@@ -100,7 +100,7 @@ abbrev load_line : CellCard → List ℕ
 load_line card = (code_of card).does ∷ spelled (code_of card).count (spelled (code_of card).top [])
 
 load_written : (card : CellCard) (text : List ℕ)
-    → load_text card.from card.first.mark (length card.behind + 1) ++ text ≡ map graphic (load_line card) ++ text
+    → load_text card.from card.first.mark (length card.beyond + 1) ++ text ≡ map graphic (load_line card) ++ text
 unfolding load_text address_text
 load_written card text =
     ap (λ (byte : ℕ). byte ∷ (map graphic (spelled (code_of card).count (spelled (code_of card).top [])) ++ text))
@@ -108,10 +108,10 @@ load_written card text =
 
 -- what is on a card can be written
 pub record IsWritten (card : CellCard) : Type 0 where
-  pub columns : length card.behind ≤ 38
-  pub marks : length (marked_places (card.from + 1) card.behind) ≤ 7
-  pub places : card.from + 1 + length card.behind ≤ 16000
-  pub chars : Chars (chars_of (card.first ∷ card.behind))
+  pub columns : length card.beyond ≤ 38
+  pub marks : length (marked_places (card.from + 1) card.beyond) ≤ 7
+  pub places : card.from + 1 + length card.beyond ≤ 16000
+  pub chars : Chars (chars_of (card.first ∷ card.beyond))
 
 abbrev cell_line : CellCard → List ℕ
 cell_line card = front_of card ++ code_line (code_of card)
@@ -138,17 +138,17 @@ card_written : (card : CellCard) (text : List ℕ) → IsWritten card
     → card_line card ++ text ≡ map graphic (cell_line card) ++ 10 ∷ text
 unfolding card_line
 card_written card text is =
-    let places : List ℕ = marked_places (card.from + 1) card.behind in
-    let chars : List ℕ = chars_of (card.first ∷ card.behind) in
-    let zeros : List ℕ = replicate (38 - length card.behind) 0 in
-    let blanks : List ℕ = drop (length card.behind) (codes "                                      ") in
-    let load : List ℕ = load_text card.from card.first.mark (length card.behind + 1) in
+    let places : List ℕ = marked_places (card.from + 1) card.beyond in
+    let chars : List ℕ = chars_of (card.first ∷ card.beyond) in
+    let zeros : List ℕ = replicate (38 - length card.beyond) 0 in
+    let blanks : List ℕ = drop (length card.beyond) (codes "                                      ") in
+    let load : List ℕ = load_text card.from card.first.mark (length card.beyond + 1) in
     let marks : List ℕ = marks_text places in
     let read : List ℕ = codes "1040\n" in
-    parted (map graphic_of (card.first ∷ card.behind)) blanks load marks read text
-    ∙ ap (λ (t : List ℕ). t ++ (blanks ++ (load ++ (marks ++ (read ++ text))))) (cells_written (card.first ∷ card.behind))
+    parted (map graphic_of (card.first ∷ card.beyond)) blanks load marks read text
+    ∙ ap (λ (t : List ℕ). t ++ (blanks ++ (load ++ (marks ++ (read ++ text))))) (cells_written (card.first ∷ card.beyond))
     ∙ ap (λ (t : List ℕ). map graphic chars ++ (t ++ (load ++ (marks ++ (read ++ text)))))
-    (blanks_written (length card.behind))
+    (blanks_written (length card.beyond))
     ∙ ap (λ (t : List ℕ). map graphic chars ++ (map graphic zeros ++ t))
     (load_written card (marks ++ (read ++ text))
     ∙ ap (λ (t : List ℕ). map graphic (load_line card) ++ t) (marks_written places (read ++ text) is.marks
@@ -183,10 +183,10 @@ comma_chars x chars lt are = (comma, spelled_chars x chars lt are)
 cell_line_chars : (card : CellCard) → IsWritten card → Chars (cell_line card)
 cell_line_chars card is =
     let below : (k : ℕ) → marked_place card k < 16000 =
-    λ k. place_below card.behind (card.from + 1) k is.places in
+    λ k. place_below card.beyond (card.from + 1) k is.places in
     let front : Chars (front_of card) =
-    chars_both (chars_of (card.first ∷ card.behind)) (replicate (38 - length card.behind) 0) is.chars
-    (zeros_are (38 - length card.behind)) in
+    chars_both (chars_of (card.first ∷ card.beyond)) (replicate (38 - length card.beyond) 0) is.chars
+    (zeros_are (38 - length card.beyond)) in
     let c8 : List ℕ = 1 ∷ 10 ∷ 4 ∷ 10 ∷ [] in
     let r8 : Chars c8 = written_chars c8 refl in
     let c7 : List ℕ = 27 ∷ spelled (marked_place card 6) c8 in
@@ -254,7 +254,7 @@ one_written : (on_card is_empty : Bool) (covered from : ℕ) (cells : List Cell)
     else record {
       from = from;
       first = cell;
-      behind = take (fitting more_columns most_marks cells) cells;
+      beyond = take (fitting more_columns most_marks cells) cells;
     } ∷ cards_from (fitting more_columns most_marks cells) (from + 1) cells)
 one_written true is_empty covered from cells cell places are more = more (covered - 1)
 one_written false true covered from cells cell places are more = more 0

@@ -45,8 +45,8 @@ loads_itself storage start size none fits are =
     record {
       deck = deck_cards (length storage) cells start;
       cards = deck_read (length storage) cells start most size_is fits (chars_are cells are);
-      begins = λ behind.
-          subst (λ (s : Storage). Leads (loaded (length storage) (deck_cards (length storage) cells start ++ behind))
-          (at_entry (length storage) s start behind)) (front_is_blank storage (omega (arith, hundred)) none)
-          (deck_loads (length storage) cells start ((length storage - 200) / 100) hundred most size_is behind);
+      begins = λ beyond.
+          subst (λ (s : Storage). Leads (loaded (length storage) (deck_cards (length storage) cells start ++ beyond))
+          (at_entry (length storage) s start beyond)) (front_is_blank storage (omega (arith, hundred)) none)
+          (deck_loads (length storage) cells start ((length storage - 200) / 100) hundred most size_is beyond);
     }

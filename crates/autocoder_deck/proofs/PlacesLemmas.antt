@@ -122,20 +122,20 @@ cells_in_front low rest at n f at_in =
     (λ q lt. front_place low rest at n f q at_in (omega (arith, size)) (cases_lt q (length low)) (where_is at n q))
 
 -- a cell after others
-pub set_behind : (low rest : Storage) (at : ℕ) (cell : Cell)
+pub set_beyond : (low rest : Storage) (at : ℕ) (cell : Cell)
     → set (low ++ rest) (length low + at) cell ≡ low ++ set rest at cell
-set_behind [] rest at cell =
+set_beyond [] rest at cell =
     let place : 0 + at ≡ at = omega arith in ap (λ (k : ℕ). set rest k cell) place
-set_behind (first ∷ low) rest at cell =
+set_beyond (first ∷ low) rest at cell =
     let place : suc (length low) + at ≡ suc (length low + at) = omega arith in
     ap (λ (k : ℕ). set (first ∷ (low ++ rest)) k cell) place
-    ∙ ap (λ (more : Storage). first ∷ more) (set_behind low rest at cell)
+    ∙ ap (λ (more : Storage). first ∷ more) (set_beyond low rest at cell)
 
 left : (m n : ℕ) → m + n - m ≡ n
 left m n = omega arith
 
-pub cell_behind : (low rest : Storage) (at : ℕ) → cell_at (low ++ rest) (length low + at) ≡ cell_at rest at
-cell_behind low rest at =
+pub cell_beyond : (low rest : Storage) (at : ℕ) → cell_at (low ++ rest) (length low + at) ≡ cell_at rest at
+cell_beyond low rest at =
     get_or-append_right low rest (length low) (length low + at) blank refl (omega arith) ∙ ap (cell_at rest) (left (length low) at)
 
 -- the characters of a card over those that stood there
@@ -145,8 +145,8 @@ with_first low cell rest at char h =
     let place : at ≡ length low + 0 = omega (arith, h) in
     ap (λ (k : ℕ). with_char (low ++ cell ∷ rest) k char) place
     ∙ ap (λ (old : Cell). set (low ++ cell ∷ rest) (length low + 0) (record old { char = char }))
-    (cell_behind low (cell ∷ rest) 0)
-    ∙ set_behind low (cell ∷ rest) 0 (record cell { char = char })
+    (cell_beyond low (cell ∷ rest) 0)
+    ∙ set_beyond low (cell ∷ rest) 0 (record cell { char = char })
 
 pub chars_over : (marks : List ℕ) (low rest : Storage) (at : ℕ) (old new : List ℕ) → length low ≡ at
     → length old ≡ length new

@@ -66,15 +66,15 @@ load_text from mark count =
 pub record CellCard : Type 0 where
   pub from : ℕ
   pub first : Cell
-  pub behind : List Cell
+  pub beyond : List Cell
 
 -- the line of a card: its cells, the instructions that load them, and the one that reads the next card
 unfoldable pub card_line : CellCard → List ℕ
 card_line card =
-    graphic_of card.first ∷ map graphic_of card.behind
-    ++ drop (length card.behind) (codes "                                      ")
-    ++ load_text card.from card.first.mark (length card.behind + 1)
-    ++ marks_text (marked_places (card.from + 1) card.behind)
+    graphic_of card.first ∷ map graphic_of card.beyond
+    ++ drop (length card.beyond) (codes "                                      ")
+    ++ load_text card.from card.first.mark (length card.beyond + 1)
+    ++ marks_text (marked_places (card.from + 1) card.beyond)
     ++ codes "1040\n"
 
 -- the cards of the cells from an address on, of which this many are on a card already: none for blanks, and one for any
@@ -87,7 +87,7 @@ cards_from covered from (cell ∷ cells) =
     else record {
       from = from;
       first = cell;
-      behind = take (fitting more_columns most_marks cells) cells;
+      beyond = take (fitting more_columns most_marks cells) cells;
     } ∷ cards_from (fitting more_columns most_marks cells) (from + 1) cells
 
 -- the lines of cards
@@ -98,4 +98,4 @@ cards_text cards = flat_map card_line cards
 abbrev pub with_cards : Storage → List CellCard → Storage
 with_cards storage [] = storage
 with_cards storage (card ∷ cards) =
-    with_cards (deposited storage card.from (card.first ∷ card.behind)) cards
+    with_cards (deposited storage card.from (card.first ∷ card.beyond)) cards

@@ -36,4 +36,4 @@ pub record Leads (first last : State) : Type 0 where
 pub record LoadsItself (text : List ℕ) (size : ℕ) (storage : Storage) (start : ℕ) : Type 0 where
   pub deck : List Card
   pub cards : deck_of text ≡ Ok deck
-  pub begins : (behind : List Card) → Leads (loaded size (deck ++ behind)) (at_entry size storage start behind)
+  pub begins : (beyond : List Card) → Leads (loaded size (deck ++ beyond)) (at_entry size storage start beyond)

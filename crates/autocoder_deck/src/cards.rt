@@ -43,14 +43,14 @@ fn fitting(columns: u8, marks: u8, cells: &[Cell]) -> usize
     ensures few { result ≤ length cells.now }
     ensures columns { result ≤ columns }
 {
-    let [cell, behind @ ..] = cells else {
+    let [cell, beyond @ ..] = cells else {
         return 0;
     };
     if columns == 0 || (cell.mark && marks == 0) {
         return 0;
     }
     let left = if cell.mark { marks - 1 } else { marks };
-    fitting(columns - 1, left, behind) + 1
+    fitting(columns - 1, left, beyond) + 1
 }
 
 /// Adds the characters of cells by their graphics.
@@ -114,18 +114,18 @@ fn put_load(text: &mut Vec<u8>, from: u16, mark: bool, count: u16) -> Result<(),
 
 /// Adds the card of a cell and of those after it.
 #[tactic(auto, unfolding(crate::specs::Card::card_line))]
-fn put_card(text: &mut Vec<u8>, from: u16, first: &Cell, behind: &[Cell]) -> Result<(), AllocError>
-    requires places { from + 1 + length behind.now ≤ addresses }
-    requires columns { length behind.now ≤ more_columns }
-    requires marks { length (marked_places (from + 1) behind.now) ≤ most_marks }
+fn put_card(text: &mut Vec<u8>, from: u16, first: &Cell, beyond: &[Cell]) -> Result<(), AllocError>
+    requires places { from + 1 + length beyond.now ≤ addresses }
+    requires columns { length beyond.now ≤ more_columns }
+    requires marks { length (marked_places (from + 1) beyond.now) ≤ most_marks }
     ensures { OnOk result (text.new.items ≡ text.old.items
-        ++ card_line (record { from = from; first = first.now; behind = behind.now })) }
+        ++ card_line (record { from = from; first = first.now; beyond = beyond.now })) }
 {
     text.push(first.char.graphic())?;
-    put_graphics(text, behind)?;
-    text.extend_from_slice(&BLANKS[behind.len()..])?;
-    put_load(text, from, first.mark, behind.len() as u16 + 1)?;
-    put_marks(text, from + 1, behind)?;
+    put_graphics(text, beyond)?;
+    text.extend_from_slice(&BLANKS[beyond.len()..])?;
+    put_load(text, from, first.mark, beyond.len() as u16 + 1)?;
+    put_marks(text, from + 1, beyond)?;
     text.extend_from_slice(b"1040\n".as_slice())?;
     Ok(())
 }
@@ -138,11 +138,11 @@ fn put_next(
     covered: usize,
     from: u16,
     first: &Cell,
-    behind: &[Cell],
+    beyond: &[Cell],
 ) -> Result<usize, AllocError>
-    requires { from + 1 + length behind.now ≤ addresses }
-    ensures text { IfOk result (λ left. text.new.items ++ cards_text (cards_from left (from + 1) behind.now)
-        ≡ text.old.items ++ cards_text (cards_from covered from (first.now ∷ behind.now))) }
+    requires { from + 1 + length beyond.now ≤ addresses }
+    ensures text { IfOk result (λ left. text.new.items ++ cards_text (cards_from left (from + 1) beyond.now)
+        ≡ text.old.items ++ cards_text (cards_from covered from (first.now ∷ beyond.now))) }
     ensures char { first.now.char < 64 }
 {
     let is_blank = is_blank(*first);
@@ -152,8 +152,8 @@ fn put_next(
     if is_blank {
         return Ok(0);
     }
-    let count = fitting(MORE_COLUMNS, MOST_MARKS, behind);
-    put_card(text, from, first, &behind[..count])?;
+    let count = fitting(MORE_COLUMNS, MOST_MARKS, beyond);
+    put_card(text, from, first, &beyond[..count])?;
     Ok(count)
 }
 
@@ -166,10 +166,10 @@ pub(crate) fn put_cards(text: &mut Vec<u8>, from: u16, cells: &[Cell]) -> Result
     let mut covered = 0;
     let mut at = from;
     let mut rest = cells;
-    while let [first, behind @ ..] = rest {
-        covered = put_next(text, covered, at, first, behind)?;
+    while let [first, beyond @ ..] = rest {
+        covered = put_next(text, covered, at, first, beyond)?;
         at += 1;
-        rest = behind;
+        rest = beyond;
     }
     Ok(())
 }

@@ -32,13 +32,13 @@ fn following(room: u8, cells: &[Cell]) -> usize
     ensures few { result ≤ length cells.now }
     ensures most { result ≤ room }
 {
-    let [cell, behind @ ..] = cells else {
+    let [cell, beyond @ ..] = cells else {
         return 0;
     };
     if room == 0 || cell.mark {
         return 0;
     }
-    one_more(is_blank(*cell), following(room - 1, behind))
+    one_more(is_blank(*cell), following(room - 1, beyond))
 }
 
 /// Adds the segment of a cell and of those after it.
@@ -63,11 +63,11 @@ fn put_next(
     from: u16,
     first: &Cell,
     cells: &[Cell],
-    behind: &[Cell],
+    beyond: &[Cell],
 ) -> Result<usize, AllocError>
-    requires { cells.now ≡ first.now ∷ behind.now }
-    ensures { IfOk result (λ left. segments.new.items ++ segments_from left (from + 1) behind.now
-        ≡ segments.old.items ++ segments_from covered from (first.now ∷ behind.now)) }
+    requires { cells.now ≡ first.now ∷ beyond.now }
+    ensures { IfOk result (λ left. segments.new.items ++ segments_from left (from + 1) beyond.now
+        ≡ segments.old.items ++ segments_from covered from (first.now ∷ beyond.now)) }
 {
     let is_blank = is_blank(*first);
     if covered > 0 {
@@ -76,7 +76,7 @@ fn put_next(
     if is_blank {
         return Ok(0);
     }
-    let count = following(MORE_CELLS, behind);
+    let count = following(MORE_CELLS, beyond);
     put_segment(segments, from, &cells[..count + 1])?;
     Ok(count)
 }
@@ -90,10 +90,10 @@ fn segments_of(alloc: Global, cells: &[Cell]) -> Result<Vec<Segment>, AllocError
     let mut covered = 0;
     let mut at = 0;
     let mut rest = cells;
-    while let [first, behind @ ..] = rest {
-        covered = put_next(&mut segments, covered, at, first, rest, behind)?;
+    while let [first, beyond @ ..] = rest {
+        covered = put_next(&mut segments, covered, at, first, rest, beyond)?;
         at += 1;
-        rest = behind;
+        rest = beyond;
     }
     Ok(segments)
 }

@@ -41,10 +41,10 @@ told_from language declared anywhere all this [] sources as_many = faults_alone 
 told_from language declared anywhere all this (line ∷ lines) [] as_many = absurd (omega (arith, as_many))
 told_from language declared anywhere all this (line ∷ lines) (source ∷ sources) as_many =
     let kind = told declared anywhere this line in
-    let behind = explained_from language declared anywhere all (before_next declared this line) lines sources in
+    let beyond = explained_from language declared anywhere all (before_next declared this line) lines sources in
     map-append (λ (each : Explanation). each.fault)
-    (explained language declared anywhere all this.at.number source line kind) behind
-    ∙ ap (λ first. first ++ faults_of behind) (one_told language declared anywhere all this.at.number source line kind)
+    (explained language declared anywhere all this.at.number source line kind) beyond
+    ∙ ap (λ first. first ++ faults_of beyond) (one_told language declared anywhere all this.at.number source line kind)
     ∙ ap (λ more. told_faults this.at.number kind ++ more)
     (told_from language declared anywhere all (before_next declared this line) lines sources (omega (arith, as_many)))
 

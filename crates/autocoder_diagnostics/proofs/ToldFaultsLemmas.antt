@@ -23,7 +23,7 @@ use Rattle.autocoder_diagnostics.specs.ToldFaults.{IsFaultThere}
 use Rattle.autocoder_diagnostics.specs.ToldFaults.{IsThere}
 use Rattle.autocoder_diagnostics.specs.OwnFault.{before_next, is_own, told, nothing_before, own_bad_operation}
 use Rattle.autocoder_diagnostics.specs.OwnFault.{own_undefined}
-use Rattle.autocoder_faults.specs.FirstFault.{place_behind, place_at, has_fault, scanned, lowest, or_behind, first_of}
+use Rattle.autocoder_faults.specs.FirstFault.{place_beyond, place_at, has_fault, scanned, lowest, or_beyond, first_of}
 use Rattle.autocoder_faults.specs.FirstFault.{first_fault_from, first_fault, up_to_end_has, bad_operation, undefined}
 use Rattle.autocoder_diagnostics.specs.declared.own_fault.Before.{Before}
 use Rattle.autocoder_faults.specs.declared.first_fault.LineContext.{LineContext}
@@ -31,10 +31,10 @@ use Rattle.autocoder_faults.proofs.FirstFaultLemmas.{next_place_is}
 use Rattle.autocoder_faults.proofs.LowestLemmas.{found}
 
 -- of one line, and of those after it
-first_of_two : (number : ℕ) (told low : Option AsmKind) (rest : List AsmFault) (behind : Option AsmFault) → told ≡ low
-    → (low ≡ None → first_in rest ≡ behind) → first_in (told_faults number told ++ rest) ≡ or_behind number low behind
-first_of_two number told None rest behind same later = rw same (later refl)
-first_of_two number told (Some kind) rest behind same later = rw same refl
+first_of_two : (number : ℕ) (told low : Option AsmKind) (rest : List AsmFault) (beyond : Option AsmFault) → told ≡ low
+    → (low ≡ None → first_in rest ≡ beyond) → first_in (told_faults number told ++ rest) ≡ or_beyond number low beyond
+first_of_two number told None rest beyond same later = rw same (later refl)
+first_of_two number told (Some kind) rest beyond same later = rw same refl
 
 -- what is told first is the first fault
 first_told : (declared : Declared) (anywhere : Sites) (this : Before) (lines : List Line) → this.is_clean ≡ true
@@ -143,8 +143,8 @@ each_from declared anywhere lines (line ∷ rest) i this left inside here =
     All-append (IsThere declared lines) (told_faults this.at.number (told declared anywhere this line)) _
     (here_told within same_line (told declared anywhere this line) refl)
     (each_from declared anywhere lines rest (i + 1) (before_next declared this line) same_rest
-    (omega (arith, within)) (next_place_is lines i line this.at (place_behind this.at line) within here
-    (ap (place_behind this.at) same_line)))
+    (omega (arith, within)) (next_place_is lines i line this.at (place_beyond this.at line) within here
+    (ap (place_beyond this.at) same_line)))
   where
     here_told : i < length lines → line ≡ get_or lines i line → (kind : Option AsmKind)
         → told declared anywhere this line ≡ kind → All (IsThere declared lines) (told_faults this.at.number kind)

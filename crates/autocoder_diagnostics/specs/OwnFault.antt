@@ -17,7 +17,7 @@ use Rattle.autocoder_symbols.specs.Known.{Declared}
 use Rattle.autocoder_symbols.specs.Symbols.{Sites}
 use Rattle.autocoder_symbols.specs.declared.fault.AsmKind.{AsmKind}
 use Rattle.autocoder_symbols.specs.declared.fault.AsmKind.TheVariants as kinds
-use Rattle.autocoder_faults.specs.FirstFault.{first_place, place_behind, is_field, bad_label, is_double, bad_operation}
+use Rattle.autocoder_faults.specs.FirstFault.{first_place, place_beyond, is_field, bad_label, is_double, bad_operation}
 use Rattle.autocoder_faults.specs.FirstFault.{is_undefined, undefined, bad_operands, up_to_end_has, has_fault, first_of}
 use Rattle.autocoder_faults.specs.FirstFault.{scanned, lowest}
 use Rattle.autocoder_diagnostics.specs.declared.own_fault.Before.{Before}
@@ -46,7 +46,7 @@ loses_end body = not (describe body).is_known
 abbrev pub before_next : Declared → Before → Line → Before
 before_next declared this line =
     record {
-      at = place_behind this.at line;
+      at = place_beyond this.at line;
       is_clean = this.is_clean && is_none (lowest declared this.at line);
       lost_areas = option_map_or (λ (of : Statement). loses_areas_at this of.body) line.statement this.lost_areas;
       is_past_end = this.is_past_end || (this.at.is_ended && is_some line.statement);

@@ -92,12 +92,12 @@ fn put_all_explained(
     let mut sources = source;
     for i in 0..lines.len() {
         let line = &lines.line(i);
-        let Some((text, behind)) = split_line(sources) else {
+        let Some((text, beyond)) = split_line(sources) else {
             unreachable!()
         };
         put_explained(language, this, lines, before, text, line, explanations)?;
         before = before.next(&this.symbols, line);
-        sources = behind;
+        sources = beyond;
     }
     put_explained_end(before, explanations)
 }

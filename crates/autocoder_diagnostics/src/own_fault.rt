@@ -57,7 +57,7 @@ impl Before {
         requires { self.at.number < 2 ^ 33 }
         ensures { result ≡ before_next (symbols_view symbols.now) self line.now }
     {
-        let at = self.at.behind(line);
+        let at = self.at.beyond(line);
         let is_clean = self.is_clean && lowest_kind(symbols, self.at, line).is_none();
         match &line.statement {
             Some(statement) => {

@@ -67,7 +67,7 @@ address_by : (word rest : List ℕ) (n value index : ℕ) → base_len (word ++ 
     → drop n (word ++ rest) ≡ rest → base_of Plain word ≡ Some (bases.Number value) → is_adjusted rest ≡ false
     → index_of Plain rest ≡ Some (named_index index)
     → address_of Plain (word ++ rest) ≡ Some (numbered value index)
-address_by word rest n value index e front behind base plain is = rw (e, front, behind, base, plain, is) refl
+address_by word rest n value index e front beyond base plain is = rw (e, front, beyond, base, plain, is) refl
 
 base_again : (word : List ℕ) (value : ℕ) → IsNumber word value → value < 100000
     → base_of Plain word ≡ Some (bases.Number value)
@@ -78,18 +78,18 @@ base_again (byte ∷ more) value number fits =
 
 base_len_again : (word text : List ℕ) (value index : ℕ) → IsNumber word value → IsIndex index text
     → base_len (word ++ text) ≡ length word
-base_len_again [] text value index number behind = absurd (omega (arith, number.some))
-base_len_again (byte ∷ more) text value index number behind =
+base_len_again [] text value index number beyond = absurd (omega (arith, number.some))
+base_len_again (byte ∷ more) text value index number beyond =
     let parts = and_parts (is_digit byte) (list_all is_digit more) number.digits in
     let letters = prefix_len-digits (byte ∷ more) text number.digits in
-    rw (no_other byte 42 parts.0 (omega arith)) (omega (arith, letters, behind.ends_the_word))
+    rw (no_other byte 42 parts.0 (omega arith)) (omega (arith, letters, beyond.ends_the_word))
 
 address_again : (word text : List ℕ) (value index : ℕ) → IsNumber word value → IsIndex index text → value < 100000
     → address_of Plain (word ++ text) ≡ Some (numbered value index)
-address_again word text value index number behind fits =
-    address_by word text (length word) value index (base_len_again word text value index number behind)
-    (take-append_seam word text) (drop-append_seam word text) (base_again word value number fits) behind.no_adjustment
-    behind.is
+address_again word text value index number beyond fits =
+    address_by word text (length word) value index (base_len_again word text value index number beyond)
+    (take-append_seam word text) (drop-append_seam word text) (base_again word value number fits) beyond.no_adjustment
+    beyond.is
 
 -- a word that is read as an address, whatever follows its end
 pub record IsAddress (word : List ℕ) (address : Address) : Type 0 where
@@ -99,14 +99,14 @@ pub record IsAddress (word : List ℕ) (address : Address) : Type 0 where
 
 operand_again : (word text : List ℕ) (value index : ℕ) → IsNumber word value → IsIndex index text → value < 100000
     → operand_of Plain (word ++ text) ≡ Some (operands.Address (numbered value index))
-operand_again [] text value index number behind fits = absurd (omega (arith, number.some))
-operand_again (byte ∷ more) text value index number behind fits =
+operand_again [] text value index number beyond fits = absurd (omega (arith, number.some))
+operand_again (byte ∷ more) text value index number beyond fits =
     let parts = and_parts (is_digit byte) (list_all is_digit more) number.digits in
     rw (
       no_higher byte 64 parts.0 (omega arith),
       no_other byte 43 parts.0 (omega arith),
       no_other byte 45 parts.0 (omega arith),
-      address_again (byte ∷ more) text value index number behind fits,
+      address_again (byte ∷ more) text value index number beyond fits,
     ) refl
 
 begins_again : (word text : List ℕ) (value : ℕ) → IsNumber word value
@@ -120,25 +120,25 @@ pub number_is_address : (value index : ℕ) → value < 100000 → index < 4
     → IsAddress (digits_in 3 value ++ index_text index) (numbered value index)
 number_is_address value index fits few =
     let number : IsNumber (digits_in 3 value) value = number_again value fits in
-    let behind : IsIndex index (index_text index) = index_again index few in
+    let beyond : IsIndex index (index_text index) = index_again index few in
     record {
       goes_on = λ rest.
           ap (operand_len false) (append_assoc (digits_in 3 value) (index_text index) rest)
           ∙ omega (
             arith,
             operand_len-digits (digits_in 3 value) (index_text index ++ rest) number.digits,
-            behind.goes_on rest,
+            beyond.goes_on rest,
             length-append (digits_in 3 value) (index_text index),
           );
       begins = begins_again (digits_in 3 value) (index_text index) value number;
-      is = operand_again (digits_in 3 value) (index_text index) value index number behind fits;
+      is = operand_again (digits_in 3 value) (index_text index) value index number beyond fits;
     }
 
 -- an address up to where it ends
 read_by : (word rest : List ℕ) (address : Address) (n : ℕ) → operand_len false (word ++ rest) ≡ n
     → take n (word ++ rest) ≡ word → drop n (word ++ rest) ≡ rest → operand_of Plain word ≡ Some (operands.Address address)
     → read_operand Plain (word ++ rest) ≡ (fields.Operand (operands.Address address), rest)
-read_by word rest address n e front behind is = rw (e, front, behind, is) refl
+read_by word rest address n e front beyond is = rw (e, front, beyond, is) refl
 
 pub address_is_read : (word rest : List ℕ) (address : Address) → IsAddress word address → operand_len false rest ≡ 0
     → read_operand Plain (word ++ rest) ≡ (fields.Operand (operands.Address address), rest)

@@ -28,7 +28,7 @@ use Rattle.machine_mnemonics.specs.InstructionText.{IsOwn, graphic_of}
 use Rattle.autocoder_disassembly.specs.Assembled.{is_spelling, has_no_mark}
 use Rattle.autocoder_disassembly.proofs.AddressLemmas.{IsAddress, numbered, number_is_address}
 use Rattle.autocoder_disassembly.proofs.MnemonicLemmas.{says}
-use Rattle.autocoder_disassembly.proofs.OperandsLemmas.{no_d, d_said, d_first, d_behind, no_operands, d_alone}
+use Rattle.autocoder_disassembly.proofs.OperandsLemmas.{no_d, d_said, d_first, d_beyond, no_operands, d_alone}
 use Rattle.autocoder_disassembly.proofs.OperandsLemmas.{one_operand}
 use Rattle.autocoder_disassembly.proofs.OperandsLemmas.{two_operands, whole, address_field}
 use Rattle.autocoder_disassembly.proofs.PlacedLemmas.{address_codes_again, plain_again, char_again}
@@ -40,7 +40,7 @@ pub record IsFor (says_d : Bool) (of_operation addresses : ℕ) (d : Option ℕ)
   pub least : nat_le instruction.form.least addresses ≡ true
   pub most : nat_le addresses instruction.form.most ≡ true
   pub said : says says_d addresses d instruction.form.d ≡ true
-  pub behind : option_map_or (λ d. says_d || (instruction.form.most == addresses)) d true ≡ true
+  pub beyond : option_map_or (λ d. says_d || (instruction.form.most == addresses)) d true ≡ true
 
 -- a text that is read as operands of an instruction, which makes these cells of them
 pub record IsRead (instruction : Instruction) (text : List ℕ) (wanted : List Cell) : Type 0 where
@@ -123,7 +123,7 @@ pub d_read : (operation d : Cell) (instruction : Instruction) → IsOwn operatio
 d_read operation d instruction own mark own_d unmarked this = record {
   of = whole fields.Absent fields.Absent (Some (graphic_of d));
   reads = λ more.
-      d_alone instruction.form (graphic_of d) more (eqb-true instruction.form.most 0 this.behind) this.least
+      d_alone instruction.form (graphic_of d) more (eqb-true instruction.form.most 0 this.beyond) this.least
       (d_first instruction.form.d (graphic_of d) more this.said);
   good = refl;
   few = omega arith;
@@ -134,7 +134,7 @@ d_read operation d instruction own mark own_d unmarked this = record {
 }
 
 -- what follows addresses: nothing, or a comma and a d-character
-pub record IsTail (says_d : Bool) (form : Form) (addresses : ℕ) (tail : List ℕ) (d : Option ℕ) (behind : List Cell) :
+pub record IsTail (says_d : Bool) (form : Form) (addresses : ℕ) (tail : List ℕ) (d : Option ℕ) (beyond : List Cell) :
     Type 0 where
   ends : (more : List ℕ) → operand_len false (tail ++ 32 ∷ more) ≡ 0
   one : addresses ≡ 1 → (more : List ℕ)
@@ -142,7 +142,7 @@ pub record IsTail (says_d : Bool) (form : Form) (addresses : ℕ) (tail : List �
   reads : (more : List ℕ) → d_by form.d form.most (tail ++ 32 ∷ more) ≡ (d, true)
   few : length tail ≤ 2
   shows : list_all is_graphic tail ≡ true
-  cells : map plain (d_codes d) ≡ behind
+  cells : map plain (d_codes d) ≡ beyond
 
 pub bare_tail : (operation addresses : ℕ) (says_d : Bool) (instruction : Instruction)
     → IsFor says_d operation addresses None instruction
@@ -180,9 +180,9 @@ d_tail operation addresses d instruction some own unmarked this = record {
   ends = λ more. refl;
   one = λ e more.
       no_second instruction.form.most addresses (graphic_of d ∷ 32 ∷ more)
-      (eqb-true instruction.form.most addresses this.behind) e;
+      (eqb-true instruction.form.most addresses this.beyond) e;
   reads = λ more.
-      d_behind instruction.form.d addresses instruction.form.most (graphic_of d) more
+      d_beyond instruction.form.d addresses instruction.form.most (graphic_of d) more
       (some_addresses addresses instruction.form.most some this.most) this.said;
   few = omega arith;
   shows = rw (comma_shows, graphic_shows d own) refl;
@@ -206,22 +206,22 @@ is_address : (h t u : Cell) → IsPlaced h t u
 is_address h t u placed =
     number_is_address (value_of h.char t.char u.char) (register_in t.char) (address_fits h t u placed) (omega arith)
 
-address_cells : (h t u : Cell) (rest behind : List Cell) → IsPlaced h t u → rest ≡ behind
-    → plain h.char ∷ plain t.char ∷ plain u.char ∷ rest ≡ h ∷ t ∷ u ∷ behind
-address_cells h t u rest behind placed e =
-    same_three (plain h.char) (plain t.char) (plain u.char) h t u rest behind (plain_again h placed.first)
+address_cells : (h t u : Cell) (rest beyond : List Cell) → IsPlaced h t u → rest ≡ beyond
+    → plain h.char ∷ plain t.char ∷ plain u.char ∷ rest ≡ h ∷ t ∷ u ∷ beyond
+address_cells h t u rest beyond placed e =
+    same_three (plain h.char) (plain t.char) (plain u.char) h t u rest beyond (plain_again h placed.first)
     (plain_again t placed.second) (plain_again u placed.third) e
 
 abbrev field_at : Cell → Cell → Cell → Address
 field_at h t u = numbered (value_of h.char t.char u.char) (register_in t.char)
 
 -- an operation, an address, and what follows it
-pub one_read : (operation h t u : Cell) (says_d : Bool) (tail : List ℕ) (d : Option ℕ) (behind : List Cell)
+pub one_read : (operation h t u : Cell) (says_d : Bool) (tail : List ℕ) (d : Option ℕ) (beyond : List Cell)
     (instruction : Instruction) → IsOwn operation → operation.mark ≡ true → IsPlaced h t u
     → IsFor says_d (graphic_of operation) 1 d instruction
-    → IsTail says_d instruction.form 1 tail d behind
-    → IsRead instruction (address_text h.char t.char u.char ++ tail) (operation ∷ h ∷ t ∷ u ∷ behind)
-one_read operation h t u says_d tail d behind instruction own mark placed this that =
+    → IsTail says_d instruction.form 1 tail d beyond
+    → IsRead instruction (address_text h.char t.char u.char ++ tail) (operation ∷ h ∷ t ∷ u ∷ beyond)
+one_read operation h t u says_d tail d beyond instruction own mark placed this that =
     let word : List ℕ = address_text h.char t.char u.char in
     let fits = address_fits h t u placed in
     record {
@@ -239,19 +239,19 @@ one_read operation h t u says_d tail d behind instruction own mark placed this t
           ∷ ((map plain codes ++ []) ++ map plain (d_codes d)))
           (address_codes_again h.char t.char u.char placed.spelling all here)
           ∙ same_two (marked (char_of instruction.operation)) operation
-          (plain h.char ∷ plain t.char ∷ plain u.char ∷ map plain (d_codes d)) (h ∷ t ∷ u ∷ behind)
+          (plain h.char ∷ plain t.char ∷ plain u.char ∷ map plain (d_codes d)) (h ∷ t ∷ u ∷ beyond)
           (operation_again operation instruction.operation own mark this.operation)
-          (address_cells h t u (map plain (d_codes d)) behind placed that.cells);
+          (address_cells h t u (map plain (d_codes d)) beyond placed that.cells);
     }
 
 -- an operation, two addresses, and what follows them
-pub two_read : (operation h t u x y z : Cell) (says_d : Bool) (tail : List ℕ) (d : Option ℕ) (behind : List Cell)
+pub two_read : (operation h t u x y z : Cell) (says_d : Bool) (tail : List ℕ) (d : Option ℕ) (beyond : List Cell)
     (instruction : Instruction) → IsOwn operation → operation.mark ≡ true → IsPlaced h t u → IsPlaced x y z
     → IsFor says_d (graphic_of operation) 2 d instruction
-    → IsTail says_d instruction.form 2 tail d behind
+    → IsTail says_d instruction.form 2 tail d beyond
     → IsRead instruction (address_text h.char t.char u.char ++ 44 ∷ (address_text x.char y.char z.char ++ tail))
-    (operation ∷ h ∷ t ∷ u ∷ x ∷ y ∷ z ∷ behind)
-two_read operation h t u x y z says_d tail d behind instruction own mark placed other this that =
+    (operation ∷ h ∷ t ∷ u ∷ x ∷ y ∷ z ∷ beyond)
+two_read operation h t u x y z says_d tail d beyond instruction own mark placed other this that =
     let word : List ℕ = address_text h.char t.char u.char in
     let second : List ℕ = address_text x.char y.char z.char in
     let fits = address_fits h t u placed in
@@ -290,8 +290,8 @@ two_read operation h t u x y z says_d tail d behind instruction own mark placed 
           ∙ same_two (marked (char_of instruction.operation)) operation
           (plain h.char ∷ plain t.char ∷ plain u.char ∷ plain x.char ∷ plain y.char ∷ plain z.char
           ∷ map plain (d_codes d))
-          (h ∷ t ∷ u ∷ x ∷ y ∷ z ∷ behind)
+          (h ∷ t ∷ u ∷ x ∷ y ∷ z ∷ beyond)
           (operation_again operation instruction.operation own mark this.operation)
           (address_cells h t u (plain x.char ∷ plain y.char ∷ plain z.char ∷ map plain (d_codes d))
-          (x ∷ y ∷ z ∷ behind) placed (address_cells x y z (map plain (d_codes d)) behind other that.cells));
+          (x ∷ y ∷ z ∷ beyond) placed (address_cells x y z (map plain (d_codes d)) beyond other that.cells));
     }

@@ -44,20 +44,20 @@ d_first kinds.Optional d more h = absurd (false≢true h)
 d_first kinds.Required d more h = refl
 
 -- one after addresses follows a comma
-pub d_behind : (kind : DCharacter) (addresses most d : ℕ) (more : List ℕ) → (most == 0) ≡ false
+pub d_beyond : (kind : DCharacter) (addresses most d : ℕ) (more : List ℕ) → (most == 0) ≡ false
     → says false addresses (Some d) kind ≡ true → d_by kind most (44 ∷ d ∷ 32 ∷ more) ≡ (Some d, true)
-d_behind kinds.Never addresses most d more some h = absurd (false≢true h)
-d_behind (kinds.Fixed graphic) addresses most d more some h = absurd (false≢true h)
-d_behind kinds.Optional addresses most d more some h = rw some refl
-d_behind kinds.Required addresses most d more some h = rw some refl
+d_beyond kinds.Never addresses most d more some h = absurd (false≢true h)
+d_beyond (kinds.Fixed graphic) addresses most d more some h = absurd (false≢true h)
+d_beyond kinds.Optional addresses most d more some h = rw some refl
+d_beyond kinds.Required addresses most d more some h = rw some refl
 
 -- the operands by their parts
-operands_by : (form : Form) (columns behind_first behind_second : List ℕ) (a b : OperandField) (read : Read)
-    → first_operand Plain form.most columns ≡ (a, behind_first)
-    → second_operand Plain form.most behind_first ≡ (b, behind_second)
-    → d_of form behind_second ≡ read
+operands_by : (form : Form) (columns beyond_first beyond_second : List ℕ) (a b : OperandField) (read : Read)
+    → first_operand Plain form.most columns ≡ (a, beyond_first)
+    → second_operand Plain form.most beyond_first ≡ (b, beyond_second)
+    → d_of form beyond_second ≡ read
     → operands_of Plain form columns ≡ operands_with form.least a b read
-operands_by form columns behind_first behind_second a b read first second d = rw (first, second, d) refl
+operands_by form columns beyond_first beyond_second a b read first second d = rw (first, second, d) refl
 
 abbrev pub address_field : Address → OperandField
 address_field address = fields.Operand (operands.Address address)

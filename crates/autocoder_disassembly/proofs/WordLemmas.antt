@@ -80,7 +80,7 @@ for_parts mnemonic operation addresses d instruction h =
       least = second.1;
       most = third.1;
       said = fourth.1;
-      behind = last.1;
+      beyond = last.1;
     }
 
 assembled_by : (line : Line) (instruction : Instruction) (operands : List ℕ) (wanted : List Cell)
@@ -149,7 +149,7 @@ text_again mnemonic operation addresses d operands wanted good read =
 
 -- the operands that are written, by whether the mnemonic says the d-character
 abbrev written_by : Bool → List Cell → List ℕ
-written_by says_d behind = operands_text (if says_d then take (length behind - 1) behind else behind)
+written_by says_d beyond = operands_text (if says_d then take (length beyond - 1) beyond else beyond)
 
 none_by : (operation : Cell) (says_d : Bool) (instruction : Instruction) → IsOwn operation → operation.mark ≡ true
     → IsFor says_d (graphic_of operation) 0 None instruction
@@ -214,28 +214,28 @@ two_d_by operation h t u x y z d false instruction own mark placed other own_d u
     placed other this (d_tail (graphic_of operation) 2 d instruction (omega arith) own_d unmarked this)
 
 -- three cells in front of others
-record IsSplit (h t u : Cell) (behind : List Cell) : Type 0 where
+record IsSplit (h t u : Cell) (beyond : List Cell) : Type 0 where
   placed : IsPlaced h t u
-  unmarked : list_all has_no_mark behind ≡ true
-  spelled : is_spelled behind ≡ true
+  unmarked : list_all has_no_mark beyond ≡ true
+  spelled : is_spelled beyond ≡ true
 
-split : (h t u : Cell) (behind : List Cell) → list_all has_no_mark (h ∷ t ∷ u ∷ behind) ≡ true
-    → is_spelled (h ∷ t ∷ u ∷ behind) ≡ true → IsSplit h t u behind
-split h t u behind unmarked spelled =
+split : (h t u : Cell) (beyond : List Cell) → list_all has_no_mark (h ∷ t ∷ u ∷ beyond) ≡ true
+    → is_spelled (h ∷ t ∷ u ∷ beyond) ≡ true → IsSplit h t u beyond
+split h t u beyond unmarked spelled =
     let first = and_parts (has_no_mark h) _ unmarked in
     let second = and_parts (has_no_mark t) _ first.1 in
     let third = and_parts (has_no_mark u) _ second.1 in
-    let spelling = and_parts (is_spelling h.char t.char u.char) (is_spelled behind) spelled in
+    let spelling = and_parts (is_spelling h.char t.char u.char) (is_spelled beyond) spelled in
     record {
       placed = record { spelling = spelling.0; first = first.0; second = second.0; third = third.0 };
       unmarked = third.1;
       spelled = spelling.1;
     }
 
-again_by : (operation : Cell) (behind : List Cell) → length behind ≤ 7 → IsOwn operation → IsOwnD behind
-    → operation.mark ≡ true → list_all has_no_mark behind ≡ true → is_spelled behind ≡ true
-    → has_mnemonic (graphic_of operation) (addresses_in behind) (d_in behind) ≡ true
-    → IsTextOf (instruction_text (operation ∷ behind)) (operation ∷ behind)
+again_by : (operation : Cell) (beyond : List Cell) → length beyond ≤ 7 → IsOwn operation → IsOwnD beyond
+    → operation.mark ≡ true → list_all has_no_mark beyond ≡ true → is_spelled beyond ≡ true
+    → has_mnemonic (graphic_of operation) (addresses_in beyond) (d_in beyond) ≡ true
+    → IsTextOf (instruction_text (operation ∷ beyond)) (operation ∷ beyond)
 again_by operation [] few own own_d mark unmarked spelled has =
     let mnemonic : Mnemonic = mnemonic_of (graphic_of operation) 0 None in
     text_again mnemonic (graphic_of operation) 0 None (written_by mnemonic.says_d []) (operation ∷ [])
@@ -291,11 +291,11 @@ again_by operation (h ∷ t ∷ u ∷ x ∷ y ∷ z ∷ d ∷ further ∷ more) 
     absurd (omega (arith, few))
 
 -- the text of an instruction that the assembler has a word for
-pub written_again : (operation : Cell) (behind : List Cell) → length behind ≤ 7 → IsOwn operation → IsOwnD behind
-    → has_word (operation ∷ behind) ≡ true
-    → IsTextOf (instruction_text (operation ∷ behind)) (operation ∷ behind)
-written_again operation behind few own own_d h =
+pub written_again : (operation : Cell) (beyond : List Cell) → length beyond ≤ 7 → IsOwn operation → IsOwnD beyond
+    → has_word (operation ∷ beyond) ≡ true
+    → IsTextOf (instruction_text (operation ∷ beyond)) (operation ∷ beyond)
+written_again operation beyond few own own_d h =
     let last = and_parts _ _ h in
     let spelled = and_parts _ _ last.0 in
     let marks = and_parts _ _ spelled.0 in
-    again_by operation behind few own own_d marks.0 marks.1 spelled.1 last.1
+    again_by operation beyond few own own_d marks.0 marks.1 spelled.1 last.1

@@ -46,7 +46,7 @@ abbrev pub is_spelled : List Cell → Bool
 is_spelled [] = true
 is_spelled (d ∷ []) = true
 is_spelled (x ∷ y ∷ []) = false
-is_spelled (h ∷ t ∷ u ∷ behind) = is_spelling h.char t.char u.char && is_spelled behind
+is_spelled (h ∷ t ∷ u ∷ beyond) = is_spelling h.char t.char u.char && is_spelled beyond
 
 abbrev pub has_no_mark : Cell → Bool
 has_no_mark cell = not cell.mark
@@ -55,9 +55,9 @@ has_no_mark cell = not cell.mark
 -- its spelling, and one word mark, over the operation
 abbrev pub has_word : List Cell → Bool
 has_word [] = false
-has_word (operation ∷ behind) =
-    operation.mark && list_all has_no_mark behind && is_spelled behind
-    && has_mnemonic (graphic_of operation) (addresses_in behind) (d_in behind)
+has_word (operation ∷ beyond) =
+    operation.mark && list_all has_no_mark beyond && is_spelled beyond
+    && has_mnemonic (graphic_of operation) (addresses_in beyond) (d_in beyond)
 
 -- the line of a source that has a text from column 16 on, and no label
 abbrev pub line_with : List ℕ → List ℕ

@@ -21,8 +21,8 @@ is_legal (Some operation) len = has_length operation len
 -- whether cells are an instruction: a word mark over an operation of this machine, and as many cells as it may have
 abbrev pub is_instruction : List Cell → Bool
 is_instruction [] = false
-is_instruction (operation ∷ behind) =
-    operation.mark && nat_le (length behind) 7 && is_legal (operation_of operation.char) (length behind + 1)
+is_instruction (operation ∷ beyond) =
+    operation.mark && nat_le (length beyond) 7 && is_legal (operation_of operation.char) (length beyond + 1)
 
 -- an instruction by its characters in eight columns, and as Autocoder writes it
 abbrev pub as_instruction : List Cell → List ℕ

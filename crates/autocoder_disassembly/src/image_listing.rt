@@ -45,13 +45,13 @@ fn is_instruction(cells: &[Cell]) -> bool
     ensures value { result ≡ is_instruction cells.now }
     ensures few { result ≡ true → length cells.now ≤ 8 }
 {
-    let [operation, behind @ ..] = cells else {
+    let [operation, beyond @ ..] = cells else {
         return false;
     };
-    if behind.len() > 7 {
+    if beyond.len() > 7 {
         return false;
     }
-    operation.mark && is_legal(operation.char, behind.len() as u16 + 1)
+    operation.mark && is_legal(operation.char, beyond.len() as u16 + 1)
 }
 
 /// Adds the characters of cells by their graphics.

@@ -84,10 +84,10 @@ fn write_segments<W: Sink>(
     ensures room { OnOk result (most_in_page ≤ vec_capacity text.new) }
 {
     let mut rest = image.again();
-    while let Some((segment, behind)) = rest.split_first() {
+    while let Some((segment, beyond)) = rest.split_first() {
         make_room(text, SEGMENT_BYTES, writer)?;
         put_in_room(text, builder, &segment);
-        rest = behind;
+        rest = beyond;
     }
     Ok(())
 }

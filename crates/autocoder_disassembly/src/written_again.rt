@@ -19,10 +19,10 @@ fn is_spelling(h: Char, t: Char, u: Char) -> bool
 }
 
 /// Whether the cells after an operation are up to two addresses in that spelling, and a d-character or none.
-fn is_spelled(behind: &[Cell]) -> bool
-    ensures { result ≡ is_spelled behind.now }
+fn is_spelled(beyond: &[Cell]) -> bool
+    ensures { result ≡ is_spelled beyond.now }
 {
-    match behind {
+    match beyond {
         [] | [_] => true,
         [_, _] => false,
         [h, t, u, more @ ..] => is_spelling(h.char, t.char, u.char) && is_spelled(more),
@@ -30,10 +30,10 @@ fn is_spelled(behind: &[Cell]) -> bool
 }
 
 /// The graphic of the d-character of an instruction, by the cells after its operation, if it has one.
-fn d_in(behind: &[Cell]) -> Option<u8>
-    ensures { result ≡ d_in behind.now }
+fn d_in(beyond: &[Cell]) -> Option<u8>
+    ensures { result ≡ d_in beyond.now }
 {
-    match behind {
+    match beyond {
         [] | [_, _] => None,
         [d] => Some(d.char.graphic()),
         [_, _, _, more @ ..] => d_in(more),
@@ -41,10 +41,10 @@ fn d_in(behind: &[Cell]) -> Option<u8>
 }
 
 /// Whether a write of a line may have these characters after its operation.
-fn is_write(behind: &[Cell]) -> bool
-    ensures { result ≡ is_write behind.now }
+fn is_write(beyond: &[Cell]) -> bool
+    ensures { result ≡ is_write beyond.now }
 {
-    match d_in(behind) {
+    match d_in(beyond) {
         Some(d) => d == b')',
         None => true,
     }
@@ -58,14 +58,14 @@ fn is_no_operation(more: usize) -> bool
 }
 
 /// Whether a language of the assembler has a form of an operation with these characters after it.
-fn has_form(operation: u8, behind: &[Cell]) -> bool
-    ensures { result ≡ has_form operation behind.now }
+fn has_form(operation: u8, beyond: &[Cell]) -> bool
+    ensures { result ≡ has_form operation beyond.now }
 {
     if operation == b'2' {
-        return is_write(behind);
+        return is_write(beyond);
     }
     if operation == b'N' {
-        return is_no_operation(behind.len());
+        return is_no_operation(beyond.len());
     }
     true
 }
@@ -74,8 +74,8 @@ fn has_form(operation: u8, behind: &[Cell]) -> bool
 pub(crate) fn is_written_again(cells: &[Cell]) -> bool
     ensures { result ≡ is_written_again cells.now }
 {
-    let [operation, behind @ ..] = cells else {
+    let [operation, beyond @ ..] = cells else {
         return false;
     };
-    is_spelled(behind) && has_form(operation.char.graphic(), behind)
+    is_spelled(beyond) && has_form(operation.char.graphic(), beyond)
 }

@@ -27,7 +27,7 @@ use Rattle.autocoder_symbols.specs.Symbols.{Sites, up_to_end, sites_of, is_label
 use Rattle.autocoder_symbols.specs.declared.fault.AsmKind.{AsmKind}
 use Rattle.autocoder_symbols.specs.declared.fault.AsmKind.TheVariants as kinds
 use Rattle.autocoder_symbols.specs.declared.symbols.Declaration.{Declaration}
-use Rattle.autocoder_faults.specs.FirstFault.{place_behind, first_place, has_fault, scanned, lowest, or_behind}
+use Rattle.autocoder_faults.specs.FirstFault.{place_beyond, first_place, has_fault, scanned, lowest, or_beyond}
 use Rattle.autocoder_faults.specs.FirstFault.{first_of}
 use Rattle.autocoder_faults.specs.FirstFault.{first_fault_from, first_fault, undefined, undefined_in, is_unequal}
 use Rattle.autocoder_faults.specs.declared.first_fault.LineContext.{LineContext}
@@ -107,24 +107,24 @@ no_link_on_line sites at line unended clean =
 -- of lines without a fault the first has none, nor have those after it
 record IsCleanFirst (declared : Declared) (at : LineContext) (line : Line) (lines : List Line) : Type 0 where
   here : lowest declared at line ≡ None
-  behind : first_fault_from declared (place_behind at line) lines ≡ None
+  beyond : first_fault_from declared (place_beyond at line) lines ≡ None
 
 clean_first : (declared : Declared) (at : LineContext) (line : Line) (lines : List Line)
     → first_fault_from declared at (line ∷ lines) ≡ None → IsCleanFirst declared at line lines
 clean_first declared at line lines none = by (lowest declared at line) refl none
   where
     by : (kind : Option AsmKind) → lowest declared at line ≡ kind
-        → or_behind at.number kind (first_fault_from declared (place_behind at line) lines) ≡ None
+        → or_beyond at.number kind (first_fault_from declared (place_beyond at line) lines) ≡ None
         → IsCleanFirst declared at line lines
-    by None e behind = record { here = e; behind = behind }
-    by (Some kind) e behind = cc
+    by None e beyond = record { here = e; beyond = beyond }
+    by (Some kind) e beyond = cc
 
 -- lines without a fault have no links
 no_links : (sites : Sites) (at : LineContext) (lines : List Line) → at.is_ended ≡ false
     → first_fault_from (plainly sites) at lines ≡ None
     → links_from sites at.number no_chains (up_to_end lines) ≡ no_chains
 no_links sites at [] unended none = refl
-no_links sites at (line ∷ lines) unended none = by (is_end line) refl (no_links sites (place_behind at line) lines)
+no_links sites at (line ∷ lines) unended none = by (is_end line) refl (no_links sites (place_beyond at line) lines)
   where
     first : IsCleanFirst (plainly sites) at line lines
     first = clean_first (plainly sites) at line lines none
@@ -136,13 +136,13 @@ no_links sites at (line ∷ lines) unended none = by (is_end line) refl (no_link
 
     by : (b : Bool) → is_end line ≡ b
         → (at.is_ended || is_end line ≡ false
-        → first_fault_from (plainly sites) (place_behind at line) lines ≡ None
+        → first_fault_from (plainly sites) (place_beyond at line) lines ≡ None
         → links_from sites (at.number + 1) no_chains (up_to_end lines) ≡ no_chains)
         → links_from sites at.number no_chains (cond b (line ∷ []) (line ∷ up_to_end lines)) ≡ no_chains
     by true e rest = here
     by false e rest =
         ap (λ links. links_from sites (at.number + 1) links (up_to_end lines)) here
-        ∙ rest (rw (unended, e) refl) first.behind
+        ∙ rest (rw (unended, e) refl) first.beyond
 
 -- so the chains of lines without a fault are those in their language
 pub chains_alike : (language : Language) (lines : List Line) → first_fault language lines ≡ None
@@ -238,9 +238,9 @@ widely_faultless : (sites : Sites) (at : LineContext) (lines : List Line)
 widely_faultless sites at [] none = none
 widely_faultless sites at (line ∷ lines) none =
     let first = clean_first (plainly sites) at line lines none in
-    ap (λ kind. or_behind at.number kind (first_fault_from (widely sites) (place_behind at line) lines))
+    ap (λ kind. or_beyond at.number kind (first_fault_from (widely sites) (place_beyond at line) lines))
     (widely_lowest sites at line first.here)
-    ∙ widely_faultless sites (place_behind at line) lines first.behind
+    ∙ widely_faultless sites (place_beyond at line) lines first.beyond
 
 -- lines without a fault in the plain language have none in the wider one
 pub clean_in_wider : (lines : List Line) → first_fault Plain lines ≡ None → first_fault Ibm lines ≡ None

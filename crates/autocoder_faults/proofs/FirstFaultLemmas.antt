@@ -10,23 +10,23 @@ use Rattle.autocoder_statements.specs.Statement.{is_end}
 use Rattle.autocoder_statements.specs.declared.statement.Line.{Line}
 use Rattle.autocoder_symbols.specs.Known.{Declared}
 use Rattle.autocoder_symbols.specs.declared.fault.AsmKind.TheVariants as kinds
-use Rattle.autocoder_faults.specs.FirstFault.{areas_behind, place_behind, place_at, has_fault, IsClean, AreClean}
+use Rattle.autocoder_faults.specs.FirstFault.{areas_beyond, place_beyond, place_at, has_fault, IsClean, AreClean}
 use Rattle.autocoder_faults.specs.FirstFault.{IsFaultAt}
 use Rattle.autocoder_faults.specs.FirstFault.{IsFirstFault}
 use Rattle.autocoder_faults.specs.declared.first_fault.LineContext.{LineContext}
 
-fold-push : (areas : Option ℕ) (lines : List Line) (line : Line) → fold areas_behind areas (lines ++ line ∷ [])
-    ≡ areas_behind (fold areas_behind areas lines) line
+fold-push : (areas : Option ℕ) (lines : List Line) (line : Line) → fold areas_beyond areas (lines ++ line ∷ [])
+    ≡ areas_beyond (fold areas_beyond areas lines) line
 fold-push areas [] line = refl
-fold-push areas (first ∷ lines) line = fold-push (areas_behind areas first) lines line
+fold-push areas (first ∷ lines) line = fold-push (areas_beyond areas first) lines line
 
 next_place : (lines : List Line) (i : ℕ) (d : Line) → i < length lines
-    → place_behind (place_at lines i) (get_or lines i d) ≡ place_at lines (i + 1)
+    → place_beyond (place_at lines i) (get_or lines i d) ≡ place_at lines (i + 1)
 next_place lines i d h =
     let ended = list_any_more is_end lines i d h in
-    let areas : fold areas_behind None (take (i + 1) lines)
-    ≡ areas_behind (fold areas_behind None (take i lines)) (get_or lines i d) =
-    ap (fold areas_behind None) (take_more lines i d h) ∙ fold-push None (take i lines) (get_or lines i d) in
+    let areas : fold areas_beyond None (take (i + 1) lines)
+    ≡ areas_beyond (fold areas_beyond None (take i lines)) (get_or lines i d) =
+    ap (fold areas_beyond None) (take_more lines i d h) ∙ fold-push None (take i lines) (get_or lines i d) in
     let of : Bool → Option ℕ → LineContext =
     λ is_ended after. record { number = i + 1 + 1; is_ended = is_ended; areas = after } in
     λ j. of (sym ended j) (sym areas j)
@@ -34,10 +34,10 @@ next_place lines i d h =
 -- the place after a line is that of the next
 pub next_place_is : (lines : List Line) (i : ℕ) (d : Line) (at after : LineContext) → i < length lines
     → at ≡ place_at lines i
-    → after ≡ place_behind at (get_or lines i d)
+    → after ≡ place_beyond at (get_or lines i d)
     → after ≡ place_at lines (i + 1)
 next_place_is lines i d at after h here e =
-    e ∙ ap (λ (p : LineContext). place_behind p (get_or lines i d)) here ∙ next_place lines i d h
+    e ∙ ap (λ (p : LineContext). place_beyond p (get_or lines i d)) here ∙ next_place lines i d h
 
 -- one line more without fault
 pub next_clean : (declared : Declared) (lines : List Line) (i : ℕ) (d : Line) (at : LineContext)

@@ -24,7 +24,7 @@ above n [] kind ascends stands = absurd stands
 above n (first ∷ kinds) kind ascends stands =
     elim stands [
       | inl same ↦ (let ranks : rank kind ≡ rank first = ap rank same in let low = ascends.0 in omega arith)
-      | inr behind ↦ (let low = ascends.0 in let high = above (rank first) kinds kind ascends.1 behind in omega arith)
+      | inr beyond ↦ (let low = ascends.0 in let high = above (rank first) kinds kind ascends.1 beyond in omega arith)
     ]
 
 pub found : (test : AsmKind → Bool) (kinds : List AsmKind) (kind : AsmKind) → first_of test kinds ≡ Some kind
@@ -42,7 +42,7 @@ passed : (test : AsmKind → Bool) (n : ℕ) (kinds : List AsmKind) (kind lower 
     → rank lower < rank kind → test lower ≡ false
 passed test n [] kind lower e ascends stands h = absurd stands
 passed test n (first ∷ kinds) kind lower e ascends stands h =
-    by (test first) refl e (λ e behind. passed test (rank first) kinds kind lower e ascends.1 behind h)
+    by (test first) refl e (λ e beyond. passed test (rank first) kinds kind lower e ascends.1 beyond h)
   where
     by : (b : Bool) → test first ≡ b → cond b (Some first) (first_of test kinds) ≡ Some kind
         → (first_of test kinds ≡ Some kind → Stands lower kinds → test lower ≡ false) → test lower ≡ false
@@ -51,9 +51,9 @@ passed test n (first ∷ kinds) kind lower e ascends stands h =
         let ranks : rank first ≡ rank kind = ap rank same in
         elim stands [
           | inl here ↦ (let equal : rank lower ≡ rank first = ap rank here in absurd (omega arith))
-          | inr behind ↦ (let high = above (rank first) kinds lower ascends.1 behind in absurd (omega arith))
+          | inr beyond ↦ (let high = above (rank first) kinds lower ascends.1 beyond in absurd (omega arith))
         ]
-    by false fails e rest = elim stands [ inl here ↦ ap test here ∙ fails | inr behind ↦ rest e behind ]
+    by false fails e rest = elim stands [ inl here ↦ ap test here ∙ fails | inr beyond ↦ rest e beyond ]
 
 none_passes : (test : AsmKind → Bool) (kinds : List AsmKind) (kind : AsmKind) → first_of test kinds ≡ None
     → Stands kind kinds → test kind ≡ false
@@ -63,7 +63,7 @@ none_passes test (first ∷ kinds) kind e stands = by (test first) refl e (none_
     by : (b : Bool) → test first ≡ b → cond b (Some first) (first_of test kinds) ≡ None
         → (first_of test kinds ≡ None → Stands kind kinds → test kind ≡ false) → test kind ≡ false
     by true passes e rest = cc
-    by false fails e rest = elim stands [ inl here ↦ ap test here ∙ fails | inr behind ↦ rest e behind ]
+    by false fails e rest = elim stands [ inl here ↦ ap test here ∙ fails | inr beyond ↦ rest e beyond ]
 
 -- a kind is one that lines are looked at for, or no line has it
 either : (declared : Declared) (at : LineContext) (line : Line) (kind : AsmKind)

@@ -21,8 +21,8 @@ use Rattle.autocoder_symbols.specs.Reading.{lines_in}
 use Rattle.autocoder_symbols.specs.Known.{Declared, declared_at}
 use Rattle.autocoder_symbols.specs.declared.fault.AsmKind.{AsmKind}
 use Rattle.autocoder_symbols.specs.declared.fault.AsmKind.TheVariants as kinds
-use Rattle.autocoder_faults.specs.FirstFault.{bad_label, bad_operation, bad_operands, is_field, lowest, or_behind}
-use Rattle.autocoder_faults.specs.FirstFault.{place_behind, first_place, first_fault_from, first_fault, IsClean}
+use Rattle.autocoder_faults.specs.FirstFault.{bad_label, bad_operation, bad_operands, is_field, lowest, or_beyond}
+use Rattle.autocoder_faults.specs.FirstFault.{place_beyond, first_place, first_fault_from, first_fault, IsClean}
 use Rattle.autocoder_faults.specs.declared.first_fault.LineContext.{LineContext}
 use Rattle.autocoder_faults.proofs.ChainsLemmas.{clean_in_wider}
 use Rattle.autocoder_faults.proofs.LowestLemmas.{clean_line}
@@ -108,15 +108,15 @@ pub all_sound : (declared : Declared) (at : LineContext) (lines : List Line) →
     → list_all is_sound lines ≡ true
 all_sound declared at [] none = refl
 all_sound declared at (line ∷ lines) none =
-    by (lowest declared at line) refl none (all_sound declared (place_behind at line) lines)
+    by (lowest declared at line) refl none (all_sound declared (place_beyond at line) lines)
   where
     by : (kind : Option AsmKind) → lowest declared at line ≡ kind
-        → or_behind at.number kind (first_fault_from declared (place_behind at line) lines) ≡ None
-        → (first_fault_from declared (place_behind at line) lines ≡ None → list_all is_sound lines ≡ true)
+        → or_beyond at.number kind (first_fault_from declared (place_beyond at line) lines) ≡ None
+        → (first_fault_from declared (place_beyond at line) lines ≡ None → list_all is_sound lines ≡ true)
         → list_all is_sound (line ∷ lines) ≡ true
-    by None e behind rest =
-        rw (sound_by declared at line.bytes line.statement (clean_line declared at line None (sym e))) (rest behind)
-    by (Some kind) e behind rest = cc
+    by None e beyond rest =
+        rw (sound_by declared at line.bytes line.statement (clean_line declared at line None (sym e))) (rest beyond)
+    by (Some kind) e beyond rest = cc
 
 -- a source in which the plain language finds no fault, and in which it cuts no text, says the same in each language
 pub lines_alike : (language : Language) (source : List ℕ) → first_fault Plain (lines_in Plain source) ≡ None

@@ -51,8 +51,8 @@ areas_by areas (roles.Divides span) = areas
 abbrev pub areas_with : Option ℕ → Body → Option ℕ
 areas_with areas body = areas_by areas (describe body).areas
 
-abbrev pub areas_behind : Option ℕ → Line → Option ℕ
-areas_behind areas line =
+abbrev pub areas_beyond : Option ℕ → Line → Option ℕ
+areas_beyond areas line =
     option_map_or (λ (statement : Statement). areas_with areas statement.body) line.statement areas
 
 -- the place of the first line of a source
@@ -60,9 +60,9 @@ abbrev pub first_place : LineContext
 first_place = record { number = 1; is_ended = false; areas = None }
 
 -- the place after a line
-abbrev pub place_behind : LineContext → Line → LineContext
-place_behind this line =
-    record { number = this.number + 1; is_ended = this.is_ended || is_end line; areas = areas_behind this.areas line }
+abbrev pub place_beyond : LineContext → Line → LineContext
+place_beyond this line =
+    record { number = this.number + 1; is_ended = this.is_ended || is_end line; areas = areas_beyond this.areas line }
 
 abbrev pub is_field : AreaRole → Bool
 is_field roles.Ends = false
@@ -228,15 +228,15 @@ lowest_in declared at areas this =
     else None
 
 -- a line's fault if it has one, and else that of the lines after it
-abbrev pub or_behind : ℕ → Option AsmKind → Option AsmFault → Option AsmFault
-or_behind number None behind = behind
-or_behind number (Some kind) behind = Some (record { line = number; kind = kind })
+abbrev pub or_beyond : ℕ → Option AsmKind → Option AsmFault → Option AsmFault
+or_beyond number None beyond = beyond
+or_beyond number (Some kind) beyond = Some (record { line = number; kind = kind })
 
 -- the first line with a fault, with its lowest kind; the end of a source without END is one
 abbrev pub first_fault_from : Declared → LineContext → List Line → Option AsmFault
 first_fault_from declared at [] = if at.is_ended then None else Some (record { line = at.number; kind = kinds.NoEnd })
 first_fault_from declared at (line ∷ lines) =
-    or_behind at.number (lowest declared at line) (first_fault_from declared (place_behind at line) lines)
+    or_beyond at.number (lowest declared at line) (first_fault_from declared (place_beyond at line) lines)
 
 abbrev pub first_fault : Language → List Line → Option AsmFault
 first_fault language lines = first_fault_from (declared_at language lines) first_place lines
@@ -244,7 +244,7 @@ first_fault language lines = first_fault_from (declared_at language lines) first
 -- the place of the line with this index: its number, whether one of those before it is an END, and the areas before it
 abbrev pub place_at : List Line → ℕ → LineContext
 place_at lines k =
-    record { number = k + 1; is_ended = list_any is_end (take k lines); areas = fold areas_behind None (take k lines) }
+    record { number = k + 1; is_ended = list_any is_end (take k lines); areas = fold areas_beyond None (take k lines) }
 
 -- a line has no fault
 abbrev pub IsClean : Declared → LineContext → Line → Type 0

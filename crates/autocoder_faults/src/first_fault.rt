@@ -4,7 +4,7 @@ ghost use Rattle.indexmap.specs.IndexMap.{get};
 ghost use Rattle.autocoder_statements.specs.Description.{describe};
 ghost use Rattle.autocoder_symbols.specs.Symbols.{same_label};
 ghost use Rattle.autocoder_symbols.specs.View.{symbols_view};
-ghost use Rattle.autocoder_faults.specs.FirstFault.{first_place, place_behind, areas_by, bad_label, is_field};
+ghost use Rattle.autocoder_faults.specs.FirstFault.{first_place, place_beyond, areas_by, bad_label, is_field};
 ghost use Rattle.autocoder_faults.specs.FirstFault.{double_label};
 ghost use Rattle.autocoder_faults.specs.FirstFault.{is_area, double_area, is_double, symbol_in_base, symbol_in_literal};
 ghost use Rattle.autocoder_faults.specs.FirstFault.{symbol_in, is_undefined, is_unknown_before, may_equal, is_unequal};
@@ -41,9 +41,9 @@ impl LineContext {
     };
 
     /// The place after a line.
-    pub fn behind(self, line: &Line) -> LineContext
+    pub fn beyond(self, line: &Line) -> LineContext
         requires { self.number < 2 ^ 33 }
-        ensures { result ≡ place_behind self line.now }
+        ensures { result ≡ place_beyond self line.now }
     {
         let same = LineContext {
             number: self.number + 1,
@@ -54,7 +54,7 @@ impl LineContext {
                 let row = statement.body.describe();
                 LineContext {
                     is_ended: self.is_ended || row.is_end(),
-                    areas: self.areas_behind(row.areas),
+                    areas: self.areas_beyond(row.areas),
                     ..same
                 }
             },
@@ -63,7 +63,7 @@ impl LineContext {
     }
 
     /// The length of the areas that a field after a statement would divide, which is this to areas.
-    fn areas_behind(self, role: AreaRole) -> Option<u16>
+    fn areas_beyond(self, role: AreaRole) -> Option<u16>
         ensures { result ≡ areas_by self.areas role }
     {
         match role {
@@ -314,7 +314,7 @@ pub fn first_fault(symbols: &Symbols, lines: &Lines<'_>) -> Option<AsmFault>
                 kind,
             });
         }
-        at = at.behind(line);
+        at = at.beyond(line);
     }
     if at.is_ended {
         None

@@ -33,19 +33,19 @@ impl<'a> SegmentsSoFar<'a> {
         all: &Placing<'a>,
         statement: &Statement,
         row: &Description,
-        behind: &Lines<'_>,
+        beyond: &Lines<'_>,
     ) -> Result<(), AsmFault>
         requires { row.now ≡ describe statement.now.body }
         ensures built { OnOk result ((rest : List (ℕ × ACell)) → built self.new.builder rest
             ≡ built self.old.builder
             (numbered (address_or_zero (start_of (places_of self.old.so_far) (Some statement.now)))
-            (statement_cells (places_of all.now) (places_of self.old.so_far) (Some statement.now) behind.now)
+            (statement_cells (places_of all.now) (places_of self.old.so_far) (Some statement.now) beyond.now)
             ++ rest)) }
         ensures placed { OnOk result
             (places_of self.new.so_far ≡ after_statement (places_of self.old.so_far) statement.now) }
         ensures err { IfErr result IsMemory }
     {
-        self.builder.put_row(alloc, all, &self.so_far, row, behind)?;
+        self.builder.put_row(alloc, all, &self.so_far, row, beyond)?;
         self.so_far.place_row(statement, row)?;
         Ok(())
     }
@@ -78,7 +78,7 @@ impl<'a> SegmentsSoFar<'a> {
                     kind: AsmKind::OutOfCore,
                 });
             }
-            self.put_row(alloc, all, statement, &row, &lines.behind(i))?;
+            self.put_row(alloc, all, statement, &row, &lines.beyond(i))?;
         }
         Ok(())
     }

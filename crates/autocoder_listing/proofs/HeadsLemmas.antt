@@ -26,7 +26,7 @@ use Rattle.autocoder_listing.specs.declared.heads.Head.{Head}
 -- a remark places nothing
 record PlacesNothing (body : Body) : Type 0 where
   contents : (describe body).contents ≡ contents.Nothing
-  literals : (describe body).next ≡ next.Behind
+  literals : (describe body).next ≡ next.Beyond
 
 remark_places_nothing : (body : Body) → (describe body).is_remark ≡ true → PlacesNothing body
 remark_places_nothing bodies.Unknown is = absurd cc

@@ -75,9 +75,9 @@ fields_count_from_000 : image_shown counted ≡ (700, codes "~    ~ ~    ~ ~\"~A
 unfolding image_shown counted
 fields_count_from_000 = refl
 
-the_first_instruction_is_behind_the_group_mark : start_shown counted ≡ 711
+the_first_instruction_is_beyond_the_group_mark : start_shown counted ≡ 711
 unfolding start_shown counted
-the_first_instruction_is_behind_the_group_mark = refl
+the_first_instruction_is_beyond_the_group_mark = refl
 
 -- the index of a symbol is that of its EQU, or of the symbol that this names; ORG and END take none
 equal : List ℕ

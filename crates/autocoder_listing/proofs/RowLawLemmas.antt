@@ -22,13 +22,13 @@ with_step : (number : ℕ) (address : Option ℤ) (text : List ℕ) (at : ℕ) (
 with_step number None text at characters found rows = refl
 with_step number (Some address) text at characters found rows = refl
 
-row_step : (all this : Placement) (number : ℕ) (statement : Option Statement) (behind : List Line) (at : ℕ)
+row_step : (all this : Placement) (number : ℕ) (statement : Option Statement) (beyond : List Line) (at : ℕ)
     (characters : List ℕ) (found : Option ℕ) (rows : List Row)
-    → last_at at characters found (listed (row_of all this number statement behind) ++ rows)
-    ≡ last_at at characters (cond (shows at characters all this statement behind) (Some number) found) rows
-row_step all this number None behind at characters found rows = refl
-row_step all this number (Some statement) behind at characters found rows =
-    with_step number (address_shown all this statement.body) (characters_text (cells_at all this statement.body behind))
+    → last_at at characters found (listed (row_of all this number statement beyond) ++ rows)
+    ≡ last_at at characters (cond (shows at characters all this statement beyond) (Some number) found) rows
+row_step all this number None beyond at characters found rows = refl
+row_step all this number (Some statement) beyond at characters found rows =
+    with_step number (address_shown all this statement.body) (characters_text (cells_at all this statement.body beyond))
     at characters found rows
 
 -- whether a line shows the characters, with these placed above the first of the lines

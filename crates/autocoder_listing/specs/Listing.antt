@@ -26,7 +26,7 @@ use Rattle.autocoder_statements.specs.declared.statement.Statement.{Statement}
 use Rattle.autocoder_statements.specs.declared.statement.Line.{Line}
 use Rattle.autocoder_placing.specs.Cells.{contents_cells, literal_cells}
 use Rattle.autocoder_placing.specs.Literals.{key_of}
-use Rattle.autocoder_placing.specs.Placement.{Placement, point_value, behind_literal, start_of, placed_after, unplaced}
+use Rattle.autocoder_placing.specs.Placement.{Placement, point_value, beyond_literal, start_of, placed_after, unplaced}
 use Rattle.autocoder_placing.specs.Placement.{placed}
 
 -- the most digits that a number of the machine this runs on has
@@ -107,11 +107,11 @@ abbrev pub literal_lines : Placement → ℤ → List Literal → List (List ℕ
 literal_lines all from [] = []
 literal_lines all from (literal ∷ literals) =
     listing_line None (Some from) (literal_cells all (key_of literal)) (literal_spelling literal)
-    ∷ literal_lines all (behind_literal from (key_of literal)) literals
+    ∷ literal_lines all (beyond_literal from (key_of literal)) literals
 
 -- how the literals were first written that a body places
 abbrev pub literals_by : Placement → Next → List Literal
-literals_by this next.Behind = []
+literals_by this next.Beyond = []
 literals_by this next.Literals = drop (length this.addresses) this.spellings
 literals_by this next.Value = []
 literals_by this next.LiteralsAtValue = drop (length this.addresses) this.spellings

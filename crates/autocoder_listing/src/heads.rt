@@ -124,17 +124,17 @@ impl Heads {
         so_far: &Placing<'a>,
         number: u64,
         line: &Line,
-        behind: &Lines<'_>,
+        beyond: &Lines<'_>,
     ) -> Result<(), AsmFault>
         ensures heads { OnOk result (self.new.heads.items ≡ self.old.heads.items
-            ++ heads_at (places_of all.now) (places_of so_far.now) number line.now.statement behind.now) }
+            ++ heads_at (places_of all.now) (places_of so_far.now) number line.now.statement beyond.now) }
         ensures literals { OnOk result (self.new.literals.items ≡ self.old.literals.items
             ++ literals_text (places_of all.now) (places_of so_far.now) line.now.statement) }
         ensures err { IfErr result IsMemory }
     {
         let before = self.literals.len();
         put_literals_of(alloc, all, so_far, line, &mut self.literals)?;
-        let row = row_of(alloc, all, so_far, number, line, behind)?;
+        let row = row_of(alloc, all, so_far, number, line, beyond)?;
         put_head(&mut self.heads, row, self.literals.len() - before)
     }
 
@@ -155,7 +155,7 @@ impl Heads {
     {
         for i in 0..lines.len() {
             let line = &lines.line(i);
-            self.put_line(alloc, all, so_far, i as u64 + 1, line, &lines.behind(i))?;
+            self.put_line(alloc, all, so_far, i as u64 + 1, line, &lines.beyond(i))?;
             so_far.place(line)?;
         }
         Ok(())

@@ -167,7 +167,7 @@ pub(crate) fn literals_by<'b>(so_far: &'b Placing<'_>, next: Next) -> &'b [Liter
 {
     match next {
         Next::Literals | Next::LiteralsAtValue => pending_spellings(so_far),
-        Next::Behind | Next::Value | Next::Elsewhere => &[],
+        Next::Beyond | Next::Value | Next::Elsewhere => &[],
     }
 }
 
@@ -256,17 +256,17 @@ fn line_for<'a>(
     number: u64,
     source: &[u8],
     line: &Line,
-    behind: &Lines<'_>,
+    beyond: &Lines<'_>,
 ) -> Result<ListingLine, AsmFault>
     ensures ok { IfOk result (λ text. text
-        ≡ line_for (places_of all.now) (places_of so_far.now) number source.now line.now.statement behind.now) }
+        ≡ line_for (places_of all.now) (places_of so_far.now) number source.now line.now.statement beyond.now) }
     ensures err { IfErr result IsMemory }
 {
     match &line.statement {
         Some(statement) => {
             let row = statement.body.describe();
             let address = address_shown(all, so_far, &statement.body, &row)?;
-            let cells = cells_at(alloc, all, so_far, &row, behind)?;
+            let cells = cells_at(alloc, all, so_far, &row, beyond)?;
             listing_line(alloc, Some(number), address, &cells, source)
         },
         None => listing_line(alloc, Some(number), None, &[], source),
@@ -281,17 +281,17 @@ pub(crate) fn list_line<'a>(
     number: u64,
     source: &[u8],
     line: &Line,
-    behind: &Lines<'_>,
+    beyond: &Lines<'_>,
     lines: &mut Vec<ListingLine>,
 ) -> Result<(), AsmFault>
     ensures listed { OnOk result (lines.new.items ≡ lines.old.items
         ++ (literal_lines (places_of all.now) (start_of (places_of so_far.now) line.now.statement)
         (literals_in (places_of so_far.now) line.now.statement)
-        ++ line_for (places_of all.now) (places_of so_far.now) number source.now line.now.statement behind.now
+        ++ line_for (places_of all.now) (places_of so_far.now) number source.now line.now.statement beyond.now
         ∷ [])) }
     ensures err { IfErr result IsMemory }
 {
     put_literals_of(alloc, all, so_far, line, lines)?;
-    lines.push(line_for(alloc, all, so_far, number, source, line, behind)?)?;
+    lines.push(line_for(alloc, all, so_far, number, source, line, beyond)?)?;
     Ok(())
 }

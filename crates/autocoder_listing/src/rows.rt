@@ -81,17 +81,17 @@ fn row_with<'a>(
     so_far: &Placing<'a>,
     number: u64,
     statement: &Statement,
-    behind: &Lines<'_>,
+    beyond: &Lines<'_>,
 ) -> Result<Option<Row>, AsmFault>
     ensures ok { IfOk result (λ row. row
-        ≡ row_of (places_of all.now) (places_of so_far.now) number (Some statement.now) behind.now) }
+        ≡ row_of (places_of all.now) (places_of so_far.now) number (Some statement.now) beyond.now) }
     ensures err { IfErr result IsMemory }
 {
     let row = statement.body.describe();
     let Some(address) = address_shown(all, so_far, &statement.body, &row)? else {
         return Ok(None);
     };
-    let cells = cells_at(alloc, all, so_far, &row, behind)?;
+    let cells = cells_at(alloc, all, so_far, &row, beyond)?;
     let characters = characters_of(alloc, &cells)?;
     Ok(Some(Row {
         number,
@@ -107,14 +107,14 @@ pub(crate) fn row_of<'a>(
     so_far: &Placing<'a>,
     number: u64,
     line: &Line,
-    behind: &Lines<'_>,
+    beyond: &Lines<'_>,
 ) -> Result<Option<Row>, AsmFault>
     ensures ok { IfOk result (λ row. row
-        ≡ row_of (places_of all.now) (places_of so_far.now) number line.now.statement behind.now) }
+        ≡ row_of (places_of all.now) (places_of so_far.now) number line.now.statement beyond.now) }
     ensures err { IfErr result IsMemory }
 {
     match &line.statement {
-        Some(statement) => row_with(alloc, all, so_far, number, statement, behind),
+        Some(statement) => row_with(alloc, all, so_far, number, statement, beyond),
         None => Ok(None),
     }
 }
@@ -145,7 +145,7 @@ fn put_rows<'a>(
 {
     for i in 0..lines.len() {
         let line = &lines.line(i);
-        let row = row_of(alloc, all, so_far, i as u64 + 1, line, &lines.behind(i))?;
+        let row = row_of(alloc, all, so_far, i as u64 + 1, line, &lines.beyond(i))?;
         put_row(rows, row)?;
         so_far.place(line)?;
     }

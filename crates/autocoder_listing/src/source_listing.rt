@@ -30,12 +30,12 @@ impl<'a> ListingSoFar<'a> {
         number: u64,
         source: &[u8],
         line: &Line,
-        behind: &Lines<'_>,
+        beyond: &Lines<'_>,
     ) -> Result<(), AsmFault>
         ensures listed { OnOk result (self.new.listing.items ≡ self.old.listing.items
             ++ (literal_lines (places_of all.now) (start_of (places_of self.old.so_far) line.now.statement)
             (literals_in (places_of self.old.so_far) line.now.statement)
-            ++ line_for (places_of all.now) (places_of self.old.so_far) number source.now line.now.statement behind.now
+            ++ line_for (places_of all.now) (places_of self.old.so_far) number source.now line.now.statement beyond.now
             ∷ [])) }
         ensures placed { OnOk result
             (places_of self.new.so_far ≡ placed_after (places_of self.old.so_far) line.now) }
@@ -48,7 +48,7 @@ impl<'a> ListingSoFar<'a> {
             number,
             source,
             line,
-            behind,
+            beyond,
             &mut self.listing,
         )?;
         self.so_far.place(line)?;
@@ -72,12 +72,12 @@ impl<'a> ListingSoFar<'a> {
         let mut sources = source;
         for i in 0..lines.len() {
             let line = &lines.line(i);
-            let Some((text, behind)) = split_line(sources) else {
+            let Some((text, beyond)) = split_line(sources) else {
                 unreachable!()
             };
-            let later = lines.behind(i);
+            let later = lines.beyond(i);
             self.put_line(alloc, all, i as u64 + 1, text, line, &later)?;
-            sources = behind;
+            sources = beyond;
         }
         Ok(())
     }

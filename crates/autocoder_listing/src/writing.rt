@@ -261,13 +261,13 @@ fn write_lines<W: Sink>(
     let mut left = heads.heads.as_slice();
     let mut literals = heads.literals.as_slice();
     let mut number = 1;
-    while let Some((line, behind)) = split_line(rest) {
+    while let Some((line, beyond)) = split_line(rest) {
         let head = head_at(left, number);
         write_line(page, front, number, head, literals, line, writer)?;
         left = heads_after(head, left);
         literals = literals_after(head, literals);
         number += 1;
-        rest = behind;
+        rest = beyond;
     }
     Ok(())
 }

@@ -40,6 +40,6 @@ instruction_in_turn all here given instruction of before first between after ope
     subst (λ (at : ℤ). between ≡ first ++ operands_cells all at of) same two in
     let operated : first ≡ before ++ marked (char_of instruction.operation) ∷ [] =
     one ∙ ap (λ (code : ℕ). before ++ marked code ∷ []) same_char in
-    let behind = in_turn first between after (operands_cells all here of) (map plain (d_codes of.d)) addresses three in
+    let beyond = in_turn first between after (operands_cells all here of) (map plain (d_codes of.d)) addresses three in
     in_turn before first after (marked (char_of instruction.operation) ∷ [])
-    (operands_cells all here of ++ map plain (d_codes of.d)) operated behind
+    (operands_cells all here of ++ map plain (d_codes of.d)) operated beyond

@@ -49,12 +49,12 @@ use Rattle.autocoder_placing.specs.Cells.{field_cells}
 use Rattle.autocoder_placing.specs.Cells.{address_constant_cells, group_mark, record_mark, repeated, areas_cells}
 use Rattle.autocoder_placing.specs.Cells.{contents_cells}
 use Rattle.autocoder_placing.specs.Cells.{unit_or_address_codes}
-use Rattle.autocoder_placing.specs.Cells.{row_cells, body_cells, statement_cells, numbered, cells_from, fields_behind}
+use Rattle.autocoder_placing.specs.Cells.{row_cells, body_cells, statement_cells, numbered, cells_from, fields_beyond}
 use Rattle.autocoder_placing.specs.Characters.{char_of, char_with, characters_of, codes_in}
 use Rattle.autocoder_placing.specs.Literals.{key_length}
 use Rattle.autocoder_placing.specs.Placement.{Placement, unplaced, instruction_length, constant_length, area_stride}
 use Rattle.autocoder_placing.specs.Placement.{address_unit, areas_length, symbols_of}
-use Rattle.autocoder_placing.specs.Placement.{chain_length, contents_length, entry_value, pending, behind_literals}
+use Rattle.autocoder_placing.specs.Placement.{chain_length, contents_length, entry_value, pending, beyond_literals}
 use Rattle.autocoder_placing.specs.Placement.{own_value, start_by, start_of, placed_after, placed}
 use Rattle.autocoder_placing.specs.PlacementLaws.{total}
 use Rattle.autocoder_placing.specs.Segments.{start_or_zero, closed, goes_on, cut}
@@ -201,7 +201,7 @@ area_length length_is spans =
 repeated_length : (n : ℕ) (area : List Cell) → length (repeated n area) ≡ n * length area
 repeated_length zero area = omega arith
 repeated_length (suc n) area =
-    length-append area (repeated n area) ∙ ap (λ (behind : ℕ). length area + behind) (repeated_length n area)
+    length-append area (repeated n area) ∙ ap (λ (beyond : ℕ). length area + beyond) (repeated_length n area)
     ∙ omega (arith, suc-mul n (length area))
 
 group_mark_length : (is_asked : Bool) → length (group_mark is_asked) ≡ (if is_asked then 1 else 0)
@@ -215,10 +215,10 @@ record_mark_length false = refl
 areas_few : (areas : Option Areas) (lines : List Line) → length (areas_cells areas lines) ≤ areas_length areas
 areas_few None lines = omega arith
 areas_few (Some areas) lines =
-    let area = area_cells areas.length (fields_behind lines) ++ record_mark areas.has_record_marks in
+    let area = area_cells areas.length (fields_beyond lines) ++ record_mark areas.has_record_marks in
     let one : length area ≡ area_stride areas =
-    length-append (area_cells areas.length (fields_behind lines)) (record_mark areas.has_record_marks)
-    ∙ ap (λ (n : ℕ). n + length (record_mark areas.has_record_marks)) (area_length areas.length (fields_behind lines))
+    length-append (area_cells areas.length (fields_beyond lines)) (record_mark areas.has_record_marks)
+    ∙ ap (λ (n : ℕ). n + length (record_mark areas.has_record_marks)) (area_length areas.length (fields_beyond lines))
     ∙ ap (λ (n : ℕ). areas.length + n) (record_mark_length areas.has_record_marks) in
     let marked = repeated areas.count area in
     let all : length marked ≡ areas.count * area_stride areas =
@@ -236,11 +236,11 @@ chain_few chain = by chain.operation refl
         rw e (omega (arith, all))
 
 -- what literals take, one after the other
-pub behind_total : (from : ℤ) (literals : List LiteralKey) → behind_literals from literals
+pub beyond_total : (from : ℤ) (literals : List LiteralKey) → beyond_literals from literals
     ≡ from +ℤ pos (total literals)
-behind_total from [] = sym (+ℤ_idr from)
-behind_total from (literal ∷ literals) =
-    behind_total (from +ℤ pos (key_length literal)) literals
+beyond_total from [] = sym (+ℤ_idr from)
+beyond_total from (literal ∷ literals) =
+    beyond_total (from +ℤ pos (key_length literal)) literals
     ∙ +ℤ_assoc from (pos (key_length literal)) (pos (total literals))
 
 literal_few : (all : Placement) (literal : LiteralKey) → length (literal_codes all literal) ≤ key_length literal
@@ -267,11 +267,11 @@ literals_below : (size : ℕ) (all : Placement) (from : ℤ) (literals : List Li
 literals_below size all from [] small inside = refl
 literals_below size all from (literal ∷ literals) small inside =
     let used = literal ∷ literals in
-    let core : are_in_core size from (behind_literals from used) ≡ true =
-    not-false (are_in_core size from (behind_literals from used)) (some_core used (omega arith) inside) in
+    let core : are_in_core size from (beyond_literals from used) ≡ true =
+    not-false (are_in_core size from (beyond_literals from used)) (some_core used (omega arith) inside) in
     let n = total used in
     let fits : are_in_core size from (from +ℤ pos n) ≡ true =
-    ap (are_in_core size from) (sym (behind_total from used)) ∙ core in
+    ap (are_in_core size from) (sym (beyond_total from used)) ∙ core in
     numbered_below size (address_or_zero from) (flat_map (literal_cells all) used)
     (λ some.
     let few = literals_few all used in
@@ -279,9 +279,9 @@ literals_below size all from (literal ∷ literals) small inside =
     omega (arith, whole, few))
   where
     some_core : (used : List LiteralKey) → 0 < length used → literals_outside size from used ≡ false
-        → not (are_in_core size from (behind_literals from used)) ≡ false
+        → not (are_in_core size from (beyond_literals from used)) ≡ false
     some_core used some h =
-        elim (and_cases (nat_lt 0 (length used)) (not (are_in_core size from (behind_literals from used))) h) [
+        elim (and_cases (nat_lt 0 (length used)) (not (are_in_core size from (beyond_literals from used))) h) [
           | inl none ↦ absurd (both_ways (nat_lt 0 (length used)) none (lt-ltb 0 (length used) some))
           | inr core ↦ core
         ]
@@ -319,7 +319,7 @@ row_below : (size : ℕ) (all this : Placement) (row : Description) (step : Next
     → places_outside size (start_by this row step) (contents_length row.contents) ≡ false
     → next_outside size this row step ≡ false
     → are_below size (numbered (address_or_zero (start_by this row step)) (row_cells all this row step lines)) ≡ true
-row_below size all this row next.Behind lines small places literals =
+row_below size all this row next.Beyond lines small places literals =
     contents_below size all this this.next row.contents lines small places
 row_below size all this row next.Literals lines small places literals =
     literals_below size all this.next (pending this) small literals
@@ -424,37 +424,37 @@ cut_inside size at cells (next ∷ more) small inside below =
         (list_all (is_inside size) (cut next.0 (next.1 ∷ []) more))
         (closed_inside size at cells small inside) (anew (λ some. omega (arith, low)) rest)
 
-row_entry : (size : ℕ) (all this : Placement) (row : Description) (asked : Addressing) (behind : ℤ)
-    → (0 < size) × (size ≤ 16000) → addresses_outside size all this row asked ≡ false → address_or_zero behind < size
-    → address_or_zero (entry_in_row all asked behind) < size
-row_entry size all this row addressing.Nothing behind bounds h low = low
-row_entry size all this row (addressing.Addresses of) behind bounds h low = low
-row_entry size all this row (addressing.EarlierValue of) behind bounds h low = low
-row_entry size all this row (addressing.Equal of) behind bounds h low = low
-row_entry size all this row (addressing.Value of) behind bounds h low = low
-row_entry size all this row (addressing.Entry of) behind bounds h low =
+row_entry : (size : ℕ) (all this : Placement) (row : Description) (asked : Addressing) (beyond : ℤ)
+    → (0 < size) × (size ≤ 16000) → addresses_outside size all this row asked ≡ false → address_or_zero beyond < size
+    → address_or_zero (entry_in_row all asked beyond) < size
+row_entry size all this row addressing.Nothing beyond bounds h low = low
+row_entry size all this row (addressing.Addresses of) beyond bounds h low = low
+row_entry size all this row (addressing.EarlierValue of) beyond bounds h low = low
+row_entry size all this row (addressing.Equal of) beyond bounds h low = low
+row_entry size all this row (addressing.Value of) beyond bounds h low = low
+row_entry size all this row (addressing.Entry of) beyond bounds h low =
     let value = entry_value all of.a in
     value_inside size value bounds.1 (not-false (is_in_core size value) h)
 
-body_entry : (size : ℕ) (all this : Placement) (body : Body) (behind : ℤ) → (0 < size) × (size ≤ 16000)
-    → body_outside size all this body ≡ false → address_or_zero behind < size → address_or_zero (entry_by all body behind) < size
-body_entry size all this body behind bounds h low =
+body_entry : (size : ℕ) (all this : Placement) (body : Body) (beyond : ℤ) → (0 < size) × (size ≤ 16000)
+    → body_outside size all this body ≡ false → address_or_zero beyond < size → address_or_zero (entry_by all body beyond) < size
+body_entry size all this body beyond bounds h low =
     let row = describe body in
     let places = places_outside size (start_by this row row.next) (contents_length row.contents) in
     let addresses = addresses_outside size all this row row.addressing in
-    row_entry size all this row row.addressing behind bounds
+    row_entry size all this row row.addressing beyond bounds
     (neither (places || next_outside size this row row.next) addresses h).1 low
 
-line_entry : (size : ℕ) (all this : Placement) (line : Line) (behind : ℤ) → (0 < size) × (size ≤ 16000)
-    → line_outside size all this line ≡ false → address_or_zero behind < size
-    → address_or_zero (entry_with all line.statement behind) < size
-line_entry size all this line behind bounds inside low = by line.statement inside
+line_entry : (size : ℕ) (all this : Placement) (line : Line) (beyond : ℤ) → (0 < size) × (size ≤ 16000)
+    → line_outside size all this line ≡ false → address_or_zero beyond < size
+    → address_or_zero (entry_with all line.statement beyond) < size
+line_entry size all this line beyond bounds inside low = by line.statement inside
   where
     by : (statement : Option Statement)
         → option_map_or (λ (found : Statement). body_outside size all this found.body) statement false ≡ false
-        → address_or_zero (entry_with all statement behind) < size
+        → address_or_zero (entry_with all statement beyond) < size
     by None h = low
-    by (Some statement) h = body_entry size all this statement.body behind bounds h low
+    by (Some statement) h = body_entry size all this statement.body beyond bounds h low
 
 entry_below : (size : ℕ) (all : Placement) (number : ℕ) (this : Placement) (lines : List Line)
     → (0 < size) × (size ≤ 16000)

@@ -189,8 +189,8 @@ cut_from size at cells (next ∷ more) small inside few below =
     (cut_from size next.0 (next.1 ∷ []) more small (λ some. omega (arith, low)) (omega arith) parts.1)
     (starts size next.0 (next.1 ∷ []) more small (omega arith) (omega (arith, low)) (omega arith) parts.1)
   where
-    behind : List Segment
-    behind = cut next.0 (next.1 ∷ []) more
+    beyond : List Segment
+    beyond = cut next.0 (next.1 ∷ []) more
 
     apart : (given : List Cell) → given ≡ cells → goes_on at cells next.0 ≡ false
         → CutFrom next.0 (next.1 ∷ []) more (cut next.0 (next.1 ∷ []) more)
@@ -209,7 +209,7 @@ cut_from size at cells (next ∷ more) small inside few below =
         (first ++ cut next.0 (next.1 ∷ []) more))
         (sym one)
         (record {
-          whole = ap (λ (cells_behind : List (ℕ × Cell)). numbered at (cell ∷ given) ++ cells_behind) anew.whole;
+          whole = ap (λ (cells_beyond : List (ℕ × Cell)). numbered at (cell ∷ given) ++ cells_beyond) anew.whole;
           few =
               and_from (has_few (record { address = at; cells = cell ∷ given }))
               (list_all has_few (cut next.0 (next.1 ∷ []) more))

@@ -27,7 +27,7 @@ use Rattle.autocoder_symbols.specs.Chains.{chains_of}
 use Rattle.autocoder_symbols.specs.Symbols.{sites_of}
 use Rattle.autocoder_placing.specs.Literals.{key_of, same_key}
 use Rattle.autocoder_placing.specs.Placement.{Placement, nothing_placed, pending, with_literal, with_operand, with_uses}
-use Rattle.autocoder_placing.specs.Placement.{with_areas, next_moved, behind_row, behind_body, with_label, label_value}
+use Rattle.autocoder_placing.specs.Placement.{with_areas, next_moved, beyond_row, beyond_body, with_label, label_value}
 use Rattle.autocoder_placing.specs.Placement.{origin_value, placed_after, placed, placed_among}
 use Rattle.autocoder_placing.specs.PlacementLaws.{row_length, body_length, length_with, lengths_from, origin_by}
 use Rattle.autocoder_placing.specs.PlacementLaws.{origin_in}
@@ -36,8 +36,8 @@ use Rattle.autocoder_placing.specs.PlacementLaws.{uses}
 use Rattle.autocoder_placing.specs.PlacementLaws.{total, with_use, IsPlacedInTurn}
 use Rattle.autocoder_placing.specs.declared.literals.LiteralKey.{LiteralKey}
 use Rattle.autocoder_placing.specs.declared.symbol_values.SymbolValue.{SymbolValue}
-use Rattle.autocoder_placing.proofs.CoreLemmas.{behind_total}
-use Rattle.autocoder_placing.proofs.StandingLemmas.{stands_behind}
+use Rattle.autocoder_placing.proofs.CoreLemmas.{beyond_total}
+use Rattle.autocoder_placing.proofs.StandingLemmas.{stands_beyond}
 
 -- a literal and an operand leave the next place
 literal_next : (this : Placement) (literal : Literal) → (with_literal this literal).next ≡ this.next
@@ -74,21 +74,21 @@ uses_next this (addressing.Equal of) = refl
 uses_next this (addressing.Value of) = refl
 uses_next this (addressing.Entry of) = refl
 
-row_next : (this : Placement) (row : Description) → (behind_row this row).next ≡ (next_moved this row row.next).next
+row_next : (this : Placement) (row : Description) → (beyond_row this row).next ≡ (next_moved this row row.next).next
 row_next this row =
     let on = next_moved this row row.next in
     uses_next (with_areas on this.next row.areas) row.addressing ∙ areas_next on this.next row.areas
 
 next_moved_next : (this : Placement) (row : Description) (step : Next) → origin_by step row.addressing ≡ None
     → (next_moved this row step).next ≡ this.next +ℤ pos (row_length this row step)
-next_moved_next this row next.Behind none = refl
-next_moved_next this row next.Literals none = behind_total this.next (pending this)
+next_moved_next this row next.Beyond none = refl
+next_moved_next this row next.Literals none = beyond_total this.next (pending this)
 next_moved_next this row next.Value none = cc
 next_moved_next this row next.LiteralsAtValue none = cc
 next_moved_next this row next.Elsewhere none = sym (+ℤ_idr this.next)
 
 body_next : (this : Placement) (body : Body) → origin_in body ≡ None
-    → (behind_body this body).next ≡ this.next +ℤ pos (body_length this body)
+    → (beyond_body this body).next ≡ this.next +ℤ pos (body_length this body)
 body_next this body none =
     row_next this (describe body) ∙ next_moved_next this (describe body) (describe body).next none
 
@@ -117,7 +117,7 @@ line_next this line none = by line.statement none
         ≡ this.next +ℤ pos (length_with this statement)
     by None h = sym (+ℤ_idr this.next)
     by (Some statement) h =
-        label_next (behind_body this statement.body) (well_formed statement.label) (label_value this statement.body)
+        label_next (beyond_body this statement.body) (well_formed statement.label) (label_value this statement.body)
         ∙ body_next this statement.body h
 
 lines_next : (this : Placement) (lines : List Line) → AreNoOrigins lines
@@ -128,10 +128,10 @@ lines_next this (line ∷ lines) none =
     ∙ ap (λ (n : ℤ). n +ℤ pos (lengths_from (placed_after this line) lines)) (line_next this line none.0)
     ∙ +ℤ_assoc this.next (pos (length_with this line.statement)) (pos (lengths_from (placed_after this line) lines))
 
-fold_append : (this : Placement) (before behind : List Line)
-    → fold placed_after this (before ++ behind) ≡ fold placed_after (fold placed_after this before) behind
-fold_append this [] behind = refl
-fold_append this (line ∷ before) behind = fold_append (placed_after this line) before behind
+fold_append : (this : Placement) (before beyond : List Line)
+    → fold placed_after this (before ++ beyond) ≡ fold placed_after (fold placed_after this before) beyond
+fold_append this [] beyond = refl
+fold_append this (line ∷ before) beyond = fold_append (placed_after this line) before beyond
 
 origin_next : (this : Placement) (line : Line) (of : Operands) → origin_with line.statement ≡ Some of
     → (placed_after this line).next
@@ -141,7 +141,7 @@ origin_next this line of is = by line.statement is
     moved_to : (row : Description) (step : Next) → origin_by step row.addressing ≡ Some of
         → (next_moved this row step).next
         ≡ origin_value this this next.Value of.a +ℤ pos (row_length this row step)
-    moved_to row next.Behind h = cc
+    moved_to row next.Beyond h = cc
     moved_to row next.Literals h = cc
     moved_to row next.Value h =
         let same : operands_in row.addressing ≡ of = cc in
@@ -149,12 +149,12 @@ origin_next this line of is = by line.statement is
         ∙ sym (+ℤ_idr (origin_value this this next.Value of.a))
     moved_to row next.LiteralsAtValue h =
         let same : operands_in row.addressing ≡ of = cc in
-        behind_total (origin_value this this next.Value (operands_in row.addressing).a) (pending this)
+        beyond_total (origin_value this this next.Value (operands_in row.addressing).a) (pending this)
         ∙ ap (λ (given : Operands). origin_value this this next.Value given.a +ℤ pos (total (pending this))) same
     moved_to row next.Elsewhere h = cc
 
     body : (given : Body) → origin_in given ≡ Some of
-        → (behind_body this given).next
+        → (beyond_body this given).next
         ≡ origin_value this this next.Value of.a +ℤ pos (body_length this given)
     body given h = row_next this (describe given) ∙ moved_to (describe given) (describe given).next h
 
@@ -163,7 +163,7 @@ origin_next this line of is = by line.statement is
         ≡ origin_value this this next.Value of.a +ℤ pos (length_with this statement)
     by None h = cc
     by (Some statement) h =
-        label_next (behind_body this statement.body) (well_formed statement.label) (label_value this statement.body)
+        label_next (beyond_body this statement.body) (well_formed statement.label) (label_value this statement.body)
         ∙ body statement.body h
 
 -- a literal that is used goes last, unless it is there
@@ -202,7 +202,7 @@ areas_literals this first (areas.Divides span) = refl
 
 next_moved_literals : (this : Placement) (row : Description) (step : Next)
     → (next_moved this row step).literals ≡ this.literals
-next_moved_literals this row next.Behind = refl
+next_moved_literals this row next.Beyond = refl
 next_moved_literals this row next.Literals = refl
 next_moved_literals this row next.Value = refl
 next_moved_literals this row next.LiteralsAtValue = refl
@@ -221,7 +221,7 @@ uses_use this (addressing.Value of) = refl
 uses_use this (addressing.Entry of) = refl
 
 body_use : (this : Placement) (body : Body)
-    → (behind_body this body).literals ≡ fold with_use this.literals (uses_in body)
+    → (beyond_body this body).literals ≡ fold with_use this.literals (uses_in body)
 body_use this body =
     let row = describe body in
     let on = next_moved this row row.next in
@@ -238,7 +238,7 @@ line_use this line = by line.statement
         ≡ fold with_use this.literals (uses_with statement)
     by None = refl
     by (Some statement) =
-        label_literals (behind_body this statement.body) (well_formed statement.label) (label_value this statement.body)
+        label_literals (beyond_body this statement.body) (well_formed statement.label) (label_value this statement.body)
         ∙ body_use this statement.body
 
 lines_use : (this : Placement) (lines : List Line)
@@ -284,7 +284,7 @@ areas_spelled this first (areas.Divides span) so_far = so_far
 
 next_moved_spelled : (this : Placement) (row : Description) (step : Next) → IsSpelled this
     → IsSpelled (next_moved this row step)
-next_moved_spelled this row next.Behind so_far = so_far
+next_moved_spelled this row next.Beyond so_far = so_far
 next_moved_spelled this row next.Literals so_far = so_far
 next_moved_spelled this row next.Value so_far = so_far
 next_moved_spelled this row next.LiteralsAtValue so_far = so_far
@@ -299,7 +299,7 @@ uses_spelled this (addressing.Equal of) so_far = so_far
 uses_spelled this (addressing.Value of) so_far = so_far
 uses_spelled this (addressing.Entry of) so_far = so_far
 
-body_spelled : (this : Placement) (body : Body) → IsSpelled this → IsSpelled (behind_body this body)
+body_spelled : (this : Placement) (body : Body) → IsSpelled this → IsSpelled (beyond_body this body)
 body_spelled this body so_far =
     let row = describe body in
     let on = next_moved this row row.next in
@@ -313,11 +313,11 @@ line_spelled this line so_far = by line.statement
         → IsSpelled (placed_after this (record { bytes = line.bytes; statement = statement }))
     by None = so_far
     by (Some statement) =
-        let behind = behind_body this statement.body in
+        let beyond = beyond_body this statement.body in
         let label = well_formed statement.label in
         let value = label_value this statement.body in
-        ap (map key_of) (label_spellings behind label value) ∙ body_spelled this statement.body so_far
-        ∙ sym (label_literals behind label value)
+        ap (map key_of) (label_spellings beyond label value) ∙ body_spelled this statement.body so_far
+        ∙ sym (label_literals beyond label value)
 
 lines_spelled : (this : Placement) (lines : List Line) → IsSpelled this → IsSpelled (fold placed_after this lines)
 lines_spelled this [] so_far = so_far
@@ -337,7 +337,7 @@ placed_in_turn lines =
       literals = lines_use first lines;
       spelled = lines_spelled first lines refl;
       standing = λ before line rest k literal is places there.
-          stands_behind (placed_among lines before) (placed lines) line rest (uses lines) k literal
+          stands_beyond (placed_among lines before) (placed lines) line rest (uses lines) k literal
           (ap (fold placed_after first) is ∙ fold_append first before (line ∷ rest))
           (lines_use first lines) places there;
     }

@@ -4,16 +4,16 @@ use Rattle.std.proofs.Common.{refl, sym, ap, ◌∙◌, add-one, drop-cons}
 use Rattle.std.proofs.lemmas.List.{append_assoc}
 use Rattle.autocoder_statements.specs.declared.description.Description.{Description}
 use Rattle.autocoder_placing.specs.Placement.{Placement, units_from, gone_on, with_ends, first_of_two, end_of_two}
-use Rattle.autocoder_placing.specs.Placement.{behind_row}
+use Rattle.autocoder_placing.specs.Placement.{beyond_row}
 use Rattle.autocoder_placing.specs.Literals.{key_length}
 use Rattle.autocoder_placing.specs.declared.literals.LiteralKey.{LiteralKey}
 
 -- with the units place of one literal more, what is placed and what is left to place are all units places
 pub one_more_placed : (from : ℤ) (literals : List LiteralKey) (i : ℕ) (d : LiteralKey) (so_far put whole : List ℤ)
-    (size behind units given : ℤ) → i < length literals → so_far ++ units_from from (drop i literals) ≡ whole
-    → put ≡ so_far ++ units ∷ [] → size ≡ pos (key_length (get_or literals i d)) → behind ≡ from +ℤ size
-    → units ≡ behind +ℤ negsuc 0 → given ≡ behind → put ++ units_from given (drop (i + 1) literals) ≡ whole
-one_more_placed from literals i d so_far put whole size behind units given inside left one long past last same =
+    (size beyond units given : ℤ) → i < length literals → so_far ++ units_from from (drop i literals) ≡ whole
+    → put ≡ so_far ++ units ∷ [] → size ≡ pos (key_length (get_or literals i d)) → beyond ≡ from +ℤ size
+    → units ≡ beyond +ℤ negsuc 0 → given ≡ beyond → put ++ units_from given (drop (i + 1) literals) ≡ whole
+one_more_placed from literals i d so_far put whole size beyond units given inside left one long past last same =
     let first : drop i literals ≡ get_or literals i d ∷ drop (i + 1) literals =
     rw add-one (drop-cons literals i d inside) in
     let next : units_from from (drop i literals) ≡ units ∷ units_from given (drop (i + 1) literals) =
@@ -26,7 +26,7 @@ one_more_placed from literals i d so_far put whole size behind units given insid
 pub passed : (before on after : Placement) (row : Description) (first : Option ℤ) (before_end : ℤ)
     → on ≡ gone_on before row → after ≡ with_ends on first before_end
     → first ≡ first_of_two before.first_instruction before.next row.contents
-    → before_end ≡ end_of_two before.before_end before.next row.addressing → after ≡ behind_row before row
+    → before_end ≡ end_of_two before.before_end before.next row.addressing → after ≡ beyond_row before row
 passed before on after row first before_end gone noted is_first is_end =
     let found = first_of_two before.first_instruction before.next row.contents in
     noted ∙ ap (λ (this : Placement). with_ends this first before_end) gone

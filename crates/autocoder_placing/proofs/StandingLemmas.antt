@@ -29,7 +29,7 @@ use Rattle.autocoder_statements.specs.declared.statement.Line.{Line}
 use Rattle.autocoder_placing.specs.Literals.{key_of, same_key, key_length}
 use Rattle.autocoder_placing.specs.Cells.{literal_value}
 use Rattle.autocoder_placing.specs.Placement.{Placement, pending, units_from, with_literal, with_operand, with_uses}
-use Rattle.autocoder_placing.specs.Placement.{with_areas, own_value, next_moved, start_by, start_of, behind_body}
+use Rattle.autocoder_placing.specs.Placement.{with_areas, own_value, next_moved, start_by, start_of, beyond_body}
 use Rattle.autocoder_placing.specs.Placement.{label_value, with_label, placed_after}
 use Rattle.autocoder_placing.specs.PlacementLaws.{total, places_by, places_in, places_with, with_use}
 use Rattle.autocoder_placing.specs.contracts.literals.LiteralKeyEq.TheImpl.Laws as key_laws
@@ -47,16 +47,16 @@ more_at (x ∷ xs) ys (suc i) v h = more_at xs ys i v h
 append_at : {A : Type 0} (xs ys : List A) (k : ℕ) → slice_get (xs ++ ys) (length xs + k) ≡ slice_get ys k
 append_at [] ys k = let none : 0 + k ≡ k = omega arith in ap (slice_get ys) none
 append_at (x ∷ xs) ys k =
-    let behind : suc (length xs) + k ≡ suc (length xs + k) = omega arith in
-    ap (slice_get (x ∷ (xs ++ ys))) behind ∙ append_at xs ys k
+    let beyond : suc (length xs) + k ≡ suc (length xs + k) = omega arith in
+    ap (slice_get (x ∷ (xs ++ ys))) beyond ∙ append_at xs ys k
 
 -- a place of what is left of a list
 drop_at : {A : Type 0} (n : ℕ) (xs : List A) (k : ℕ) → slice_get (drop n xs) k ≡ slice_get xs (n + k)
 drop_at zero xs k = let none : k ≡ 0 + k = omega arith in ap (slice_get xs) none
 drop_at (suc n) [] k = refl
 drop_at (suc n) (x ∷ xs) k =
-    let behind : suc (n + k) ≡ suc n + k = omega arith in
-    drop_at n xs k ∙ ap (slice_get (x ∷ xs)) behind
+    let beyond : suc (n + k) ≡ suc n + k = omega arith in
+    drop_at n xs k ∙ ap (slice_get (x ∷ xs)) beyond
 
 -- each literal stays in its place, and with it its address
 record Grown (this after : Placement) : Type 0 where
@@ -102,7 +102,7 @@ areas_grown this first (areas.Makes made) = record { literals = λ i v h. h; add
 areas_grown this first (areas.Divides span) = unchanged this
 
 next_moved_grown : (this : Placement) (row : Description) (step : Next) → Grown this (next_moved this row step)
-next_moved_grown this row next.Behind = record { literals = λ i v h. h; addresses = λ i v h. h }
+next_moved_grown this row next.Beyond = record { literals = λ i v h. h; addresses = λ i v h. h }
 next_moved_grown this row next.Literals = record {
   literals = λ i v h. h;
   addresses = more_at this.addresses (units_from this.next (pending this));
@@ -124,7 +124,7 @@ uses_grown this (addressing.Equal of) = unchanged this
 uses_grown this (addressing.Value of) = unchanged this
 uses_grown this (addressing.Entry of) = unchanged this
 
-body_grown : (this : Placement) (body : Body) → Grown this (behind_body this body)
+body_grown : (this : Placement) (body : Body) → Grown this (beyond_body this body)
 body_grown this body =
     let row = describe body in
     let on = next_moved this row row.next in
@@ -145,11 +145,11 @@ line_grown this line = by line.statement
         → Grown this (placed_after this (record { bytes = line.bytes; statement = statement }))
     by None = unchanged this
     by (Some statement) =
-        let behind = behind_body this statement.body in
+        let beyond = beyond_body this statement.body in
         let label = well_formed statement.label in
         let value = label_value this statement.body in
-        grown_on this behind (with_label behind label value) (body_grown this statement.body)
-        (label_grown behind label value)
+        grown_on this beyond (with_label beyond label value) (body_grown this statement.body)
+        (label_grown beyond label value)
 
 lines_grown : (this : Placement) (lines : List Line) → Grown this (fold placed_after this lines)
 lines_grown this [] = unchanged this
@@ -210,14 +210,14 @@ line_units this line places = by line.statement places
   where
     next_moved_units : (row : Description) (step : Next) → places_by step ≡ true
         → (next_moved this row step).addresses ≡ this.addresses ++ units_from (start_by this row step) (pending this)
-    next_moved_units row next.Behind h = cc
+    next_moved_units row next.Beyond h = cc
     next_moved_units row next.Literals h = refl
     next_moved_units row next.Value h = cc
     next_moved_units row next.LiteralsAtValue h = refl
     next_moved_units row next.Elsewhere h = cc
 
     body : (given : Body) → places_in given ≡ true
-        → (behind_body this given).addresses
+        → (beyond_body this given).addresses
         ≡ this.addresses ++ units_from (start_by this (describe given) (describe given).next) (pending this)
     body given h =
         let row = describe given in
@@ -225,17 +225,17 @@ line_units this line places = by line.statement places
         uses_units (with_areas on this.next row.areas) row.addressing ∙ areas_units on this.next row.areas
         ∙ next_moved_units row row.next h
 
-    label_units : (behind : Placement) (label : Option Label) (value : SymbolValue)
-        → (with_label behind label value).addresses ≡ behind.addresses
-    label_units behind None value = refl
-    label_units behind (Some label) value = refl
+    label_units : (beyond : Placement) (label : Option Label) (value : SymbolValue)
+        → (with_label beyond label value).addresses ≡ beyond.addresses
+    label_units beyond None value = refl
+    label_units beyond (Some label) value = refl
 
     by : (statement : Option Statement) → places_with statement ≡ true
         → (placed_after this (record { bytes = line.bytes; statement = statement })).addresses
         ≡ this.addresses ++ units_from (start_of this statement) (pending this)
     by None h = cc
     by (Some statement) h =
-        label_units (behind_body this statement.body) (well_formed statement.label) (label_value this statement.body)
+        label_units (beyond_body this statement.body) (well_formed statement.label) (label_value this statement.body)
         ∙ body statement.body h
 
 -- what is nowhere in a list is first found after it
@@ -243,8 +243,8 @@ none_before : {A : Type 0} (p : A → Bool) (xs : List A) → list_any p xs ≡ 
 none_before p [] h = refl
 none_before p (x ∷ xs) h =
     let parts = neither (p x) (list_any p xs) h in
-    let behind = none_before p xs parts.1 in
-    rw parts.0 (omega (arith, behind))
+    let beyond = none_before p xs parts.1 in
+    rw parts.0 (omega (arith, beyond))
 
 -- with one element more, what is found first stays so
 still_first : {A : Type 0} (p : A → Bool) (xs : List A) (y : A) (i : ℕ) → i < length xs → position_or_len p xs ≡ i
@@ -301,13 +301,13 @@ value_at all i literal units distinct there is =
     rw (distinct i literal there, lt-ltb i (length all.literals) inside, is) refl
 
 -- a literal that a line places follows those that it places before it, whatever lines follow
-pub stands_behind : (this all : Placement) (line : Line) (rest : List Line) (more : List LiteralKey) (k : ℕ)
+pub stands_beyond : (this all : Placement) (line : Line) (rest : List Line) (more : List LiteralKey) (k : ℕ)
     (literal : LiteralKey)
     → all ≡ fold placed_after (placed_after this line) rest → all.literals ≡ fold with_use [] more
     → places_with line.statement ≡ true → slice_get (pending this) k ≡ Some literal
     → literal_value all literal
     ≡ start_of this line.statement +ℤ pos (total (take (k + 1) (pending this))) +ℤ negsuc 0
-stands_behind this all line rest more k literal is used places there =
+stands_beyond this all line rest more k literal is used places there =
     let after = placed_after this line in
     let i = length this.addresses + k in
     let from = start_of this line.statement in

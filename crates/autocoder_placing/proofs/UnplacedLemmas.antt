@@ -23,7 +23,7 @@ use Rattle.autocoder_symbols.specs.Symbols.{sites_of}
 use Rattle.autocoder_placing.specs.Literals.{key_of, same_key}
 use Rattle.autocoder_placing.specs.Placement.{Placement, nothing_placed, with_literal, with_operand, with_uses}
 use Rattle.autocoder_placing.specs.Placement.{with_areas}
-use Rattle.autocoder_placing.specs.Placement.{next_moved, behind_row, behind_body, with_label, label_value}
+use Rattle.autocoder_placing.specs.Placement.{next_moved, beyond_row, beyond_body, with_label, label_value}
 use Rattle.autocoder_placing.specs.Placement.{placed_after}
 use Rattle.autocoder_placing.specs.Placement.{unplaced, placed}
 use Rattle.autocoder_placing.specs.declared.symbol_values.SymbolValue.{SymbolValue}
@@ -63,13 +63,13 @@ areas_chains this first (areas.Divides span) = refl
 
 next_moved_chains : (this : Placement) (row : Description) (step : Next)
     → (next_moved this row step).chains ≡ this.chains
-next_moved_chains this row next.Behind = refl
+next_moved_chains this row next.Beyond = refl
 next_moved_chains this row next.Literals = refl
 next_moved_chains this row next.Value = refl
 next_moved_chains this row next.LiteralsAtValue = refl
 next_moved_chains this row next.Elsewhere = refl
 
-row_chains : (this : Placement) (row : Description) → (behind_row this row).chains ≡ this.chains
+row_chains : (this : Placement) (row : Description) → (beyond_row this row).chains ≡ this.chains
 row_chains this row =
     let on = next_moved this row row.next in
     uses_chains (with_areas on this.next row.areas) row.addressing ∙ areas_chains on this.next row.areas
@@ -87,7 +87,7 @@ line_chains this line = by line.statement
         → (placed_after this (record { bytes = line.bytes; statement = statement })).chains ≡ this.chains
     by None = refl
     by (Some statement) =
-        label_chains (behind_body this statement.body) (well_formed statement.label) (label_value this statement.body)
+        label_chains (beyond_body this statement.body) (well_formed statement.label) (label_value this statement.body)
         ∙ row_chains this (describe statement.body)
 
 lines_chains : (this : Placement) (lines : List Line) → (fold placed_after this lines).chains ≡ this.chains

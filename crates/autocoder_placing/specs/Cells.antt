@@ -160,22 +160,22 @@ literal_cells all literal = with_word_mark (literal_codes all literal)
 
 -- the fields directly after areas, comments and headings aside
 abbrev pub fields_by : AreaRole → List Span → List Span
-fields_by areas.Ends behind = []
-fields_by areas.Keeps behind = behind
-fields_by (areas.Makes made) behind = []
-fields_by (areas.Divides None) behind = behind
-fields_by (areas.Divides (Some span)) behind = span ∷ behind
+fields_by areas.Ends beyond = []
+fields_by areas.Keeps beyond = beyond
+fields_by (areas.Makes made) beyond = []
+fields_by (areas.Divides None) beyond = beyond
+fields_by (areas.Divides (Some span)) beyond = span ∷ beyond
 
 abbrev pub fields_of : Body → List Span → List Span
-fields_of body behind = fields_by (describe body).areas behind
+fields_of body beyond = fields_by (describe body).areas beyond
 
 abbrev pub fields_with : Option Statement → List Span → List Span
-fields_with None behind = behind
-fields_with (Some statement) behind = fields_of statement.body behind
+fields_with None beyond = beyond
+fields_with (Some statement) beyond = fields_of statement.body beyond
 
-abbrev pub fields_behind : List Line → List Span
-fields_behind [] = []
-fields_behind (line ∷ lines) = fields_with line.statement (fields_behind lines)
+abbrev pub fields_beyond : List Line → List Span
+fields_beyond [] = []
+fields_beyond (line ∷ lines) = fields_with line.statement (fields_beyond lines)
 
 -- a word mark at a place of an area of blanks
 abbrev pub with_mark_at : List Cell → ℕ → List Cell
@@ -208,7 +208,7 @@ group_mark false = []
 abbrev pub areas_cells : Option Areas → List Line → List Cell
 areas_cells None lines = []
 areas_cells (Some areas) lines =
-    repeated areas.count (area_cells areas.length (fields_behind lines) ++ record_mark areas.has_record_marks)
+    repeated areas.count (area_cells areas.length (fields_beyond lines) ++ record_mark areas.has_record_marks)
     ++ group_mark areas.has_group_mark
 
 -- a chain: its operation with a word mark, as often as it is repeated
@@ -231,7 +231,7 @@ contents_cells all this (contents.AddressConstant constant) lines =
 
 -- the cells that a statement places: its own, or literals
 abbrev pub row_cells : Placement → Placement → Description → Next → List Line → List Cell
-row_cells all this row next.Behind lines = contents_cells all this row.contents lines
+row_cells all this row next.Beyond lines = contents_cells all this row.contents lines
 row_cells all this row next.Literals lines = flat_map (literal_cells all) (pending this)
 row_cells all this row next.Value lines = []
 row_cells all this row next.LiteralsAtValue lines = flat_map (literal_cells all) (pending this)

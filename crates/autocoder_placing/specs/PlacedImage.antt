@@ -14,19 +14,19 @@ use Rattle.autocoder_placing.specs.Segments.{segments_of}
 
 -- where END lets a program begin; of any other line, what is given for those after it
 abbrev pub entry_in_row : Placement → Addressing → ℤ → ℤ
-entry_in_row all addressing.Nothing behind = behind
-entry_in_row all (addressing.Addresses of) behind = behind
-entry_in_row all (addressing.EarlierValue of) behind = behind
-entry_in_row all (addressing.Equal of) behind = behind
-entry_in_row all (addressing.Value of) behind = behind
-entry_in_row all (addressing.Entry of) behind = entry_value all of.a
+entry_in_row all addressing.Nothing beyond = beyond
+entry_in_row all (addressing.Addresses of) beyond = beyond
+entry_in_row all (addressing.EarlierValue of) beyond = beyond
+entry_in_row all (addressing.Equal of) beyond = beyond
+entry_in_row all (addressing.Value of) beyond = beyond
+entry_in_row all (addressing.Entry of) beyond = entry_value all of.a
 
 abbrev pub entry_by : Placement → Body → ℤ → ℤ
-entry_by all body behind = entry_in_row all (describe body).addressing behind
+entry_by all body beyond = entry_in_row all (describe body).addressing beyond
 
 abbrev pub entry_with : Placement → Option Statement → ℤ → ℤ
-entry_with all None behind = behind
-entry_with all (Some statement) behind = entry_by all statement.body behind
+entry_with all None beyond = beyond
+entry_with all (Some statement) beyond = entry_by all statement.body beyond
 
 -- the value of the first END
 abbrev pub entry_in : Placement → List Line → ℤ

@@ -142,8 +142,8 @@ abbrev pub symbol_by : List (Label × SymbolValue) → Label → SymbolValue
 symbol_by values label = unwrap_or (lookup (same_label label) values) no_symbol
 
 -- a symbol by the end of its chain: with what the links add to the last symbol's value, and their index before its own
-abbrev pub symbol_behind : List (Label × SymbolValue) → Link → SymbolValue
-symbol_behind values link =
+abbrev pub symbol_beyond : List (Label × SymbolValue) → Link → SymbolValue
+symbol_beyond values link =
     let last = symbol_by values link.to in
     record { value = last.value +ℤ link.added; index = unwrap_or link.index last.index; unit = None }
 
@@ -154,7 +154,7 @@ SymbolValues = Label → SymbolValue
 -- what symbols stand for by what is placed so far: the label of a chain by its end
 abbrev pub symbols_of : Placement → SymbolValues
 symbols_of this label =
-    option_map_or (symbol_behind this.values) (link_of this.chains label) (symbol_by this.values label)
+    option_map_or (symbol_beyond this.values) (link_of this.chains label) (symbol_by this.values label)
 
 -- the value of what an address is counted from, with this place for an asterisk
 abbrev pub base_value : SymbolValues → ℤ → Base → ℤ
@@ -211,7 +211,7 @@ index_so_far symbols (fields.Operand (operands.Unit unit)) = 0
 
 -- an asterisk is the next place in ORG and LTORG, and in other values the last place before it
 abbrev pub asterisk_place : ℤ → Next → ℤ
-asterisk_place place next.Behind = place +ℤ negsuc 0
+asterisk_place place next.Beyond = place +ℤ negsuc 0
 asterisk_place place next.Literals = place +ℤ negsuc 0
 asterisk_place place next.Value = place
 asterisk_place place next.LiteralsAtValue = place
@@ -241,30 +241,30 @@ abbrev pub pending : Placement → List LiteralKey
 pending this = drop (length this.addresses) this.literals
 
 -- the place after literals that begin at a place
-abbrev pub behind_literal : ℤ → LiteralKey → ℤ
-behind_literal from literal = from +ℤ pos (key_length literal)
+abbrev pub beyond_literal : ℤ → LiteralKey → ℤ
+beyond_literal from literal = from +ℤ pos (key_length literal)
 
-abbrev pub behind_literals : ℤ → List LiteralKey → ℤ
-behind_literals from literals = fold behind_literal from literals
+abbrev pub beyond_literals : ℤ → List LiteralKey → ℤ
+beyond_literals from literals = fold beyond_literal from literals
 
 -- the units places of literals that begin at a place
 abbrev pub units_from : ℤ → List LiteralKey → List ℤ
 units_from from [] = []
 units_from from (literal ∷ literals) =
-    (behind_literal from literal +ℤ negsuc 0) ∷ units_from (behind_literal from literal) literals
+    (beyond_literal from literal +ℤ negsuc 0) ∷ units_from (beyond_literal from literal) literals
 
 -- the higher of a place that there may be and another
 abbrev pub higher : Option ℤ → ℤ → ℤ
-higher None behind = behind
-higher (Some highest) behind = if int_lt highest behind then behind else highest
+higher None beyond = beyond
+higher (Some highest) beyond = if int_lt highest beyond then beyond else highest
 
 -- the place after the highest that is taken, once all from a first place up to the one before another are
 abbrev pub highest_with : Option ℤ → ℤ → ℤ → Option ℤ
-highest_with highest first behind = if int_lt first behind then Some (higher highest behind) else highest
+highest_with highest first beyond = if int_lt first beyond then Some (higher highest beyond) else highest
 
 -- the places up to the one before this are taken, and it is next
 abbrev pub taken_up_to : Placement → ℤ → Placement
-taken_up_to this behind = record this { next = behind; highest = highest_with this.highest this.next behind }
+taken_up_to this beyond = record this { next = beyond; highest = highest_with this.highest this.next beyond }
 
 -- a literal that is used: a new one goes last
 abbrev pub with_literal : Placement → Literal → Placement
@@ -294,13 +294,13 @@ with_area values units (keys.Area literal) =
 abbrev pub with_area_labels : List (Label × SymbolValue) → ℤ → List LiteralKey → List (Label × SymbolValue)
 with_area_labels values from [] = values
 with_area_labels values from (literal ∷ literals) =
-    let behind = behind_literal from literal in
-    with_area_labels (with_area values (behind +ℤ negsuc 0) literal) behind literals
+    let beyond = beyond_literal from literal in
+    with_area_labels (with_area values (beyond +ℤ negsuc 0) literal) beyond literals
 
 -- EX, END and LTORG place the literals that are used and not placed
 abbrev pub with_pending : Placement → Placement
 with_pending this =
-    record (taken_up_to this (behind_literals this.next (pending this))) {
+    record (taken_up_to this (beyond_literals this.next (pending this))) {
       values = with_area_labels this.values this.next (pending this);
       addresses =
           this.addresses ++ units_from this.next (pending this);
@@ -342,7 +342,7 @@ own_value this asked = origin_value this this next.Value (operands_in asked).a
 
 -- what becomes of the next place
 abbrev pub next_moved : Placement → Description → Next → Placement
-next_moved this row next.Behind = taken_up_to this (this.next +ℤ pos (contents_length row.contents))
+next_moved this row next.Beyond = taken_up_to this (this.next +ℤ pos (contents_length row.contents))
 next_moved this row next.Literals = with_pending this
 next_moved this row next.Value = with_next this (own_value this row.addressing)
 next_moved this row next.LiteralsAtValue = with_pending (with_next this (own_value this row.addressing))
@@ -351,7 +351,7 @@ next_moved this row next.Elsewhere = this
 -- where a statement places its cells: from the next place on, but those of LTORG, and of a constant elsewhere, from its
 -- value on
 abbrev pub start_by : Placement → Description → Next → ℤ
-start_by this row next.Behind = this.next
+start_by this row next.Beyond = this.next
 start_by this row next.Literals = this.next
 start_by this row next.Value = this.next
 start_by this row next.LiteralsAtValue = own_value this row.addressing
@@ -390,13 +390,13 @@ abbrev pub gone_on : Placement → Description → Placement
 gone_on this row = with_uses (with_areas (next_moved this row row.next) this.next row.areas) row.addressing
 
 -- what is placed after a statement
-abbrev pub behind_row : Placement → Description → Placement
-behind_row this row =
+abbrev pub beyond_row : Placement → Description → Placement
+beyond_row this row =
     with_ends (gone_on this row) (first_of_two this.first_instruction this.next row.contents)
     (end_of_two this.before_end this.next row.addressing)
 
-abbrev pub behind_body : Placement → Body → Placement
-behind_body this body = behind_row this (describe body)
+abbrev pub beyond_body : Placement → Body → Placement
+beyond_body this body = beyond_row this (describe body)
 
 -- the value that a statement asks for, by the labels of what is placed by others
 abbrev pub asked_value : Placement → Placement → Next → Addressing → ℤ
@@ -457,7 +457,7 @@ with_label this (Some label) value = record this { values = insert_entry same_la
 
 abbrev pub after_statement : Placement → Statement → Placement
 after_statement this statement =
-    with_label (behind_body this statement.body) (well_formed statement.label) (label_value this statement.body)
+    with_label (beyond_body this statement.body) (well_formed statement.label) (label_value this statement.body)
 
 abbrev pub placed_after : Placement → Line → Placement
 placed_after this line = option_map_or (after_statement this) line.statement this

@@ -29,7 +29,7 @@ total (literal ∷ literals) = key_length literal + total literals
 
 -- how many places from the next one on a body takes: EX, END and LTORG those of the literals that they place
 abbrev pub row_length : Placement → Description → Next → ℕ
-row_length this row next.Behind = contents_length row.contents
+row_length this row next.Beyond = contents_length row.contents
 row_length this row next.Literals = total (pending this)
 row_length this row next.Value = 0
 row_length this row next.LiteralsAtValue = total (pending this)
@@ -49,7 +49,7 @@ lengths_from this (line ∷ lines) = length_with this line.statement + lengths_f
 
 -- the operand of an origin
 abbrev pub origin_by : Next → Addressing → Option Operands
-origin_by next.Behind asked = None
+origin_by next.Beyond asked = None
 origin_by next.Literals asked = None
 origin_by next.Value asked = Some (operands_in asked)
 origin_by next.LiteralsAtValue asked = Some (operands_in asked)
@@ -69,7 +69,7 @@ AreNoOrigins (line ∷ lines) = (origin_with line.statement ≡ None) × AreNoOr
 
 -- EX, END and LTORG place literals
 abbrev pub places_by : Next → Bool
-places_by next.Behind = false
+places_by next.Beyond = false
 places_by next.Literals = true
 places_by next.Value = false
 places_by next.LiteralsAtValue = true

@@ -22,7 +22,7 @@ use Rattle.autocoder_statements.specs.declared.statement.Statement.{Statement}
 use Rattle.autocoder_statements.specs.declared.statement.Line.{Line}
 use Rattle.autocoder_symbols.specs.declared.fault.AsmKind.TheVariants as kinds
 use Rattle.autocoder_symbols.specs.declared.fault.AsmFault.{AsmFault}
-use Rattle.autocoder_placing.specs.Placement.{Placement, symbols_of, contents_length, pending, behind_literals}
+use Rattle.autocoder_placing.specs.Placement.{Placement, symbols_of, contents_length, pending, beyond_literals}
 use Rattle.autocoder_placing.specs.Placement.{start_by}
 use Rattle.autocoder_placing.specs.Placement.{instruction_length}
 use Rattle.autocoder_placing.specs.Placement.{address_unit, base_value, asked_value, entry_value, placed_after}
@@ -39,7 +39,7 @@ is_in_core size value = int_le (pos 0) value && int_lt value (pos size)
 
 -- whether the places from the first up to the one before another are in core
 abbrev pub are_in_core : ℕ → ℤ → ℤ → Bool
-are_in_core size first behind = int_le (pos 0) first && int_le behind (pos size)
+are_in_core size first beyond = int_le (pos 0) first && int_le beyond (pos size)
 
 -- the last place of a length
 abbrev pub last_place : ℤ → ℕ → ℤ
@@ -80,11 +80,11 @@ may_name_unit (contents.AddressConstant constant) = false
 -- literals that are placed from here on and aren't in core
 abbrev pub literals_outside : ℕ → ℤ → List LiteralKey → Bool
 literals_outside size from literals =
-    nat_lt 0 (length literals) && not (are_in_core size from (behind_literals from literals))
+    nat_lt 0 (length literals) && not (are_in_core size from (beyond_literals from literals))
 
 -- literals that a statement places and that aren't in core
 abbrev pub next_outside : ℕ → Placement → Description → Next → Bool
-next_outside size this row next.Behind = false
+next_outside size this row next.Beyond = false
 next_outside size this row next.Literals = literals_outside size (start_by this row next.Literals) (pending this)
 next_outside size this row next.Value = false
 next_outside size this row next.LiteralsAtValue =
@@ -93,7 +93,7 @@ next_outside size this row next.Elsewhere = false
 
 -- a value that isn't in core; the next place may be the one after the last
 abbrev pub value_outside : ℕ → ℤ → Next → Bool
-value_outside size value next.Behind = not (is_in_core size value)
+value_outside size value next.Beyond = not (is_in_core size value)
 value_outside size value next.Literals = not (is_in_core size value)
 value_outside size value next.Value = not (are_in_core size value value)
 value_outside size value next.LiteralsAtValue = not (are_in_core size value value)

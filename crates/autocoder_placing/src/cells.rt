@@ -7,7 +7,7 @@ ghost use Rattle.autocoder_placing.specs.Characters.{char_with};
 ghost use Rattle.autocoder_placing.specs.Cells.{address_or_zero, plain, with_word_mark, indexed, literal_value};
 ghost use Rattle.autocoder_placing.specs.Cells.{operand_codes, d_codes, operands_cells, instruction_cells};
 ghost use Rattle.autocoder_placing.specs.Cells.{constant_cells};
-ghost use Rattle.autocoder_placing.specs.Cells.{literal_cells, fields_behind, with_mark_at, with_field, repeated};
+ghost use Rattle.autocoder_placing.specs.Cells.{literal_cells, fields_beyond, with_mark_at, with_field, repeated};
 ghost use Rattle.autocoder_placing.specs.Cells.{areas_cells, unit_codes, chain_cells, contents_cells, row_cells};
 ghost use Rattle.autocoder_placing.specs.Cells.{signed_place, signed_address, field_cells, address_constant_cells};
 ghost use Rattle.autocoder_placing.specs.Cells.{group_mark, record_mark};
@@ -365,7 +365,7 @@ fn mark_field(area: &mut [Cell], span: Span)
 
 /// Sets the word marks of the fields directly after areas, comments and headings aside.
 fn mark_fields(area: &mut [Cell], lines: &Lines<'_>)
-    ensures { area.new ≡ fold with_field area.old (fields_behind lines.now) }
+    ensures { area.new ≡ fold with_field area.old (fields_beyond lines.now) }
 {
     for i in 0..lines.len() {
         let line = &lines.line(i);
@@ -502,7 +502,7 @@ pub fn put_row(
     ensures err { IfErr result IsMemory }
 {
     match row.next {
-        Next::Behind | Next::Elsewhere => {
+        Next::Beyond | Next::Elsewhere => {
             put_contents(alloc, all, so_far, &row.contents, lines, out)
         },
         Next::Literals | Next::LiteralsAtValue => put_literals(all, so_far.pending(), out),

@@ -44,16 +44,16 @@ fn put_statement(
     all: &Placing<'_>,
     so_far: &Placing<'_>,
     row: &Description,
-    behind: &Lines<'_>,
+    beyond: &Lines<'_>,
     storage: &mut [Cell],
 ) -> Result<(), AsmFault>
     ensures ok { OnOk result (storage.new ≡ fold with_cell storage.old
         (numbered (address_or_zero (start_by (places_of so_far.now) row.now row.now.next))
-        (row_cells (places_of all.now) (places_of so_far.now) row.now row.now.next behind.now))) }
+        (row_cells (places_of all.now) (places_of so_far.now) row.now row.now.next beyond.now))) }
     ensures err { IfErr result IsMemory }
 {
     let first = so_far.start_address(row)?;
-    let cells = cells_of(alloc, all, so_far, row, behind)?;
+    let cells = cells_of(alloc, all, so_far, row, beyond)?;
     put_cells(storage, first, &cells)
 }
 
@@ -68,10 +68,10 @@ impl FilledPlaces {
         all: &Placing<'_>,
         so_far: &Placing<'_>,
         line: &Line,
-        behind: &Lines<'_>,
+        beyond: &Lines<'_>,
     ) -> Result<FilledPlaces, AsmFault>
         ensures ok { IfOk result (λ places. places
-            ≡ filled_by (places_of all.now) (places_of so_far.now) line.now behind.now) }
+            ≡ filled_by (places_of all.now) (places_of so_far.now) line.now beyond.now) }
         ensures err { IfErr result IsMemory }
     {
         let Some(statement) = &line.statement else {
@@ -82,7 +82,7 @@ impl FilledPlaces {
         };
         let row = statement.body.describe();
         let first = so_far.start_address(&row)?;
-        let cells = cells_of(alloc, all, so_far, &row, behind)?;
+        let cells = cells_of(alloc, all, so_far, &row, beyond)?;
         Ok(FilledPlaces {
             first,
             count: cells.len(),
@@ -96,12 +96,12 @@ fn put_line(
     all: &Placing<'_>,
     so_far: &mut Placing<'_>,
     line: &Line,
-    behind: &Lines<'_>,
+    beyond: &Lines<'_>,
     storage: &mut [Cell],
 ) -> Result<(), AsmFault>
     ensures storage { OnOk result (storage.new ≡ fold with_cell storage.old
         (numbered (address_or_zero (start_of (places_of so_far.old) line.now.statement))
-        (statement_cells (places_of all.now) (places_of so_far.old) line.now.statement behind.now))) }
+        (statement_cells (places_of all.now) (places_of so_far.old) line.now.statement beyond.now))) }
     ensures placed { OnOk result (places_of so_far.new ≡ placed_after (places_of so_far.old) line.now) }
     ensures err { IfErr result IsMemory }
 {
@@ -109,7 +109,7 @@ fn put_line(
         return Ok(());
     };
     let row = statement.body.describe();
-    put_statement(alloc, all, so_far, &row, behind, storage)?;
+    put_statement(alloc, all, so_far, &row, beyond, storage)?;
     so_far.place_row(statement, &row)
 }
 
@@ -131,7 +131,7 @@ fn put_lines(
             all,
             so_far,
             &lines.line(i),
-            &lines.behind(i),
+            &lines.beyond(i),
             storage,
         )?;
     }

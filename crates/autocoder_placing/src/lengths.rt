@@ -16,8 +16,8 @@ pub(crate) fn last_place(first: i64, length: u32) -> Result<i64, AsmFault>
     ensures value { IfOk result (λ last. last ≡ last_place first length) }
     ensures err { IfErr result IsMemory }
 {
-    let behind = checked_sum(first, i64::from(length))?;
-    checked_sum(behind, -1)
+    let beyond = checked_sum(first, i64::from(length))?;
+    checked_sum(beyond, -1)
 }
 
 /// How many places an operand takes.
@@ -62,8 +62,8 @@ fn area_stride(areas: Areas) -> u32
 fn areas_length(areas: Areas) -> u32
     ensures { result ≡ areas_length (Some areas) }
 {
-    let behind = if areas.has_group_mark { 1 } else { 0 };
-    u32::from(areas.count) * area_stride(areas) + behind
+    let beyond = if areas.has_group_mark { 1 } else { 0 };
+    u32::from(areas.count) * area_stride(areas) + beyond
 }
 
 /// How many places the instructions of a chain take.

@@ -8,14 +8,14 @@ ghost use Rattle.autocoder_symbols.specs.Symbols.{sites_of};
 ghost use Rattle.autocoder_symbols.specs.View.{chains_view};
 ghost use Rattle.autocoder_placing.specs.Placement.{nothing_placed, with_literal, with_operand, with_pending};
 ghost use Rattle.autocoder_placing.specs.Placement.{with_uses};
-ghost use Rattle.autocoder_placing.specs.Placement.{pending, behind_literals, units_from, with_area, with_area_labels};
+ghost use Rattle.autocoder_placing.specs.Placement.{pending, beyond_literals, units_from, with_area, with_area_labels};
 ghost use Rattle.autocoder_placing.specs.Placement.{contents_length, value_so_far, index_so_far, asked_value};
 ghost use Rattle.autocoder_placing.specs.Placement.{first_of_two};
 ghost use Rattle.autocoder_placing.specs.Placement.{end_of_two, counted_from, index_of_fields, with_areas, own_value};
 ghost use Rattle.autocoder_placing.specs.Placement.{start_by, with_ends, point_value, point_index, label_value};
 ghost use Rattle.autocoder_placing.specs.Placement.{next_moved};
 ghost use Rattle.autocoder_placing.specs.Placement.{highest_with, taken_up_to, label_unit};
-ghost use Rattle.autocoder_placing.specs.Placement.{gone_on, behind_row, with_label, placed_after, after_statement};
+ghost use Rattle.autocoder_placing.specs.Placement.{gone_on, beyond_row, with_label, placed_after, after_statement};
 ghost use Rattle.autocoder_placing.specs.Placement.{placed};
 ghost use Rattle.autocoder_placing.specs.Values.{last_place};
 ghost use Rattle.autocoder_placing.specs.View.{places_of};
@@ -135,21 +135,21 @@ fn label_unit(addressing: &Addressing) -> Option<Unit>
 }
 
 /// The place after the highest that is taken, once all from a first place up to the one before another are.
-fn highest_with(highest: Option<i64>, first: i64, behind: i64) -> Option<i64>
-    ensures { result ≡ highest_with highest first behind }
+fn highest_with(highest: Option<i64>, first: i64, beyond: i64) -> Option<i64>
+    ensures { result ≡ highest_with highest first beyond }
 {
-    if first >= behind {
+    if first >= beyond {
         return highest;
     }
     match highest {
-        Some(highest) if highest >= behind => Some(highest),
-        Some(_) | None => Some(behind),
+        Some(highest) if highest >= beyond => Some(highest),
+        Some(_) | None => Some(beyond),
     }
 }
 
 /// The place after literals that begin at a place.
-pub(crate) fn behind_literals(from: i64, literals: &[LiteralKey]) -> Result<i64, AsmFault>
-    ensures value { IfOk result (λ behind. behind ≡ behind_literals from literals.now) }
+pub(crate) fn beyond_literals(from: i64, literals: &[LiteralKey]) -> Result<i64, AsmFault>
+    ensures value { IfOk result (λ beyond. beyond ≡ beyond_literals from literals.now) }
     ensures err { IfErr result IsMemory }
 {
     let mut next = from;
@@ -185,10 +185,10 @@ fn give_areas(values: &mut Values, from: i64, literals: &[LiteralKey]) -> Result
 {
     let mut next = from;
     for literal in literals {
-        let behind = checked_sum(next, i64::from(literal.len()))?;
-        let units = checked_sum(behind, -1)?;
+        let beyond = checked_sum(next, i64::from(literal.len()))?;
+        let units = checked_sum(beyond, -1)?;
         give_area(values, units, *literal)?;
-        next = behind;
+        next = beyond;
     }
     Ok(())
 }
@@ -199,21 +199,21 @@ fn place_literals(
     literals: &[LiteralKey],
     addresses: &mut Vec<i64>,
 ) -> Result<i64, AsmFault>
-    ensures next { IfOk result (λ next. next ≡ behind_literals from literals.now) }
+    ensures next { IfOk result (λ next. next ≡ beyond_literals from literals.now) }
     ensures addresses { OnOk result (addresses.new.items ≡ addresses.old.items ++ units_from from literals.now) }
     ensures err { IfErr result IsMemory }
 {
     let mut next = from;
     for literal in literals {
-        let behind = checked_sum(next, i64::from(literal.len()))?;
-        addresses.push(checked_sum(behind, -1)?)?;
-        next = behind;
+        let beyond = checked_sum(next, i64::from(literal.len()))?;
+        addresses.push(checked_sum(beyond, -1)?)?;
+        next = beyond;
     }
     Ok(next)
 }
 
 /// The literals from an index on.
-fn behind(literals: &IndexSet<LiteralKey, SourceHashing>, first: usize) -> &[LiteralKey]
+fn beyond(literals: &IndexSet<LiteralKey, SourceHashing>, first: usize) -> &[LiteralKey]
     ensures { result.now ≡ drop first literals.now.keys }
 {
     let all = literals.as_slice();
@@ -250,7 +250,7 @@ impl<'a> Placing<'a> {
     pub(crate) fn pending(&self) -> &[LiteralKey]
         ensures { result.now ≡ pending (places_of self.now) }
     {
-        behind(&self.literals, self.addresses.len())
+        beyond(&self.literals, self.addresses.len())
     }
 
     /// The place that a statement's point names, with its operand by the labels of what is placed by others.
@@ -337,11 +337,11 @@ impl<'a> Placing<'a> {
     }
 
     /// Takes the places up to the one before this, which is next.
-    fn take_up_to(&mut self, behind: i64)
-        ensures { places_of self.new ≡ taken_up_to (places_of self.old) behind }
+    fn take_up_to(&mut self, beyond: i64)
+        ensures { places_of self.new ≡ taken_up_to (places_of self.old) beyond }
     {
-        self.highest = highest_with(self.highest, self.next, behind);
-        self.next = behind;
+        self.highest = highest_with(self.highest, self.next, beyond);
+        self.next = beyond;
     }
 
     /// Places the literals that are used and not placed.
@@ -350,10 +350,10 @@ impl<'a> Placing<'a> {
         ensures err { IfErr result IsMemory }
     {
         let first = self.addresses.len();
-        let literals = behind(&self.literals, first);
+        let literals = beyond(&self.literals, first);
         give_areas(&mut self.values, self.next, literals)?;
-        let behind = place_literals(self.next, literals, &mut self.addresses)?;
-        self.take_up_to(behind);
+        let beyond = place_literals(self.next, literals, &mut self.addresses)?;
+        self.take_up_to(beyond);
         Ok(())
     }
 
@@ -371,7 +371,7 @@ impl<'a> Placing<'a> {
         ensures err { IfErr result IsMemory }
     {
         match row.next {
-            Next::Behind | Next::Literals | Next::Value => Ok(self.next),
+            Next::Beyond | Next::Literals | Next::Value => Ok(self.next),
             Next::LiteralsAtValue | Next::Elsewhere => self.own_value(row.addressing),
         }
     }
@@ -382,7 +382,7 @@ impl<'a> Placing<'a> {
         ensures err { IfErr result IsMemory }
     {
         match row.next {
-            Next::Behind => {
+            Next::Beyond => {
                 let length = i64::from(contents_length(&row.contents));
                 self.take_up_to(checked_sum(self.next, length)?);
             },
@@ -450,7 +450,7 @@ impl<'a> Placing<'a> {
     }
 
     /// The place of the first instruction, once a statement is at the next place.
-    fn first_behind(&self, row: &Description) -> Option<i64>
+    fn first_beyond(&self, row: &Description) -> Option<i64>
         ensures { result
             ≡ first_of_two (places_of self.now).first_instruction (places_of self.now).next row.now.contents }
     {
@@ -458,7 +458,7 @@ impl<'a> Placing<'a> {
     }
 
     /// The next place as it was before END, once a statement is at the next place.
-    fn end_behind(&self, row: &Description) -> i64
+    fn end_beyond(&self, row: &Description) -> i64
         ensures { result
             ≡ end_of_two (places_of self.now).before_end (places_of self.now).next row.now.addressing }
     {
@@ -468,11 +468,11 @@ impl<'a> Placing<'a> {
     /// Goes on after a statement, notes and places its literals, and notes where the program begins.
     #[tactic(auto, using(crate::proofs::PlacingLemmas::passed))]
     fn pass(&mut self, row: &Description) -> Result<(), AsmFault>
-        ensures ok { OnOk result (places_of self.new ≡ behind_row (places_of self.old) row.now) }
+        ensures ok { OnOk result (places_of self.new ≡ beyond_row (places_of self.old) row.now) }
         ensures err { IfErr result IsMemory }
     {
-        let first = self.first_behind(row);
-        let before_end = self.end_behind(row);
+        let first = self.first_beyond(row);
+        let before_end = self.end_beyond(row);
         self.go_on(row)?;
         self.set_ends(first, before_end);
         Ok(())

@@ -119,14 +119,14 @@ impl Builder {
         all: &Placing<'_>,
         so_far: &Placing<'_>,
         row: &Description,
-        behind: &Lines<'_>,
+        beyond: &Lines<'_>,
     ) -> Result<(), AsmFault>
         ensures built { OnOk result ((rest : List (ℕ × ACell)) → built self.new rest ≡ built self.old
             (numbered (address_or_zero (start_by (places_of so_far.now) row.now row.now.next))
-            (row_cells (places_of all.now) (places_of so_far.now) row.now row.now.next behind.now) ++ rest)) }
+            (row_cells (places_of all.now) (places_of so_far.now) row.now row.now.next beyond.now) ++ rest)) }
         ensures err { IfErr result IsMemory }
     {
-        let cells = cells_of(alloc, all, so_far, row, behind)?;
+        let cells = cells_of(alloc, all, so_far, row, beyond)?;
         self.put_all(so_far.start_address(row)?, &cells)
     }
 

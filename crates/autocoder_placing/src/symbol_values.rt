@@ -3,7 +3,7 @@ ghost use Rattle.std.specs.Prelude.{◌≡◌, ◌+◌, ◌*◌, IfOk, IfErr};
 ghost use Rattle.indexmap.specs.IndexMap.{get};
 ghost use Rattle.autocoder_symbols.specs.Chains.{link_of};
 ghost use Rattle.autocoder_symbols.specs.Fault.{IsMemory};
-ghost use Rattle.autocoder_placing.specs.Placement.{register_value, next_hundred, symbol_by, symbol_behind, symbols_of};
+ghost use Rattle.autocoder_placing.specs.Placement.{register_value, next_hundred, symbol_by, symbol_beyond, symbols_of};
 ghost use Rattle.autocoder_placing.specs.Placement.{base_value, value_so_far, base_index, address_index, index_so_far};
 ghost use Rattle.autocoder_placing.specs.Placement.{asterisk_place, entry_value, asked_value, origin_value};
 ghost use Rattle.autocoder_placing.specs.Placement.{address_unit};
@@ -80,7 +80,7 @@ fn asterisk_place(next: i64, step: Next) -> Result<i64, AsmFault>
     ensures err { IfErr result IsMemory }
 {
     match step {
-        Next::Behind | Next::Literals => checked_sum(next, -1),
+        Next::Beyond | Next::Literals => checked_sum(next, -1),
         Next::Value | Next::LiteralsAtValue | Next::Elsewhere => Ok(next),
     }
 }
@@ -104,8 +104,8 @@ impl<'a> Placing<'a> {
     }
 
     /// A symbol by the end of its chain, by the values of labels so far.
-    fn symbol_behind(&self, link: Link) -> Result<SymbolValue, AsmFault>
-        ensures symbol { IfOk result (λ symbol. symbol ≡ symbol_behind (places_of self.now).values link) }
+    fn symbol_beyond(&self, link: Link) -> Result<SymbolValue, AsmFault>
+        ensures symbol { IfOk result (λ symbol. symbol ≡ symbol_beyond (places_of self.now).values link) }
         ensures err { IfErr result IsMemory }
     {
         let last = self.symbol_by(link.to);
@@ -122,7 +122,7 @@ impl<'a> Placing<'a> {
         ensures err { IfErr result IsMemory }
     {
         match self.chains.link_of(label) {
-            Some(link) => self.symbol_behind(link),
+            Some(link) => self.symbol_beyond(link),
             None => Ok(self.symbol_by(label)),
         }
     }

@@ -10,7 +10,7 @@ ghost use Rattle.autocoder_placing.specs.View.{places_of};
 
 use crate::lengths::{contents_length, instruction_length, last_place};
 use crate::literals::LiteralKey;
-use crate::placing::{Placing, behind_literals};
+use crate::placing::{Placing, beyond_literals};
 use autocoder_statements::{
     Address, Addressing, Contents, Description, Literal, Next, Operand, OperandField, Operands,
 };
@@ -25,10 +25,10 @@ fn is_in_core(size: u16, value: i64) -> bool
 }
 
 /// Whether the places from the first up to the one before another all are in core.
-fn are_in_core(size: u16, first: i64, behind: i64) -> bool
-    ensures { result ≡ are_in_core size first behind }
+fn are_in_core(size: u16, first: i64, beyond: i64) -> bool
+    ensures { result ≡ are_in_core size first beyond }
 {
-    first >= 0 && behind <= i64::from(size)
+    first >= 0 && beyond <= i64::from(size)
 }
 
 /// Whether a value isn't in core. The next place may be the one after the last.
@@ -36,7 +36,7 @@ fn is_value_outside(size: u16, value: i64, next: Next) -> bool
     ensures { result ≡ value_outside size value next }
 {
     match next {
-        Next::Behind | Next::Literals | Next::Elsewhere => !is_in_core(size, value),
+        Next::Beyond | Next::Literals | Next::Elsewhere => !is_in_core(size, value),
         Next::Value | Next::LiteralsAtValue => !are_in_core(size, value, value),
     }
 }
@@ -46,8 +46,8 @@ fn are_places_outside(size: u16, first: i64, length: u32) -> Result<bool, AsmFau
     ensures value { IfOk result (λ outside. outside ≡ places_outside size first length) }
     ensures err { IfErr result IsMemory }
 {
-    let behind = checked_sum(first, i64::from(length))?;
-    Ok(length > 0 && !are_in_core(size, first, behind))
+    let beyond = checked_sum(first, i64::from(length))?;
+    Ok(length > 0 && !are_in_core(size, first, beyond))
 }
 
 /// Whether literals that are placed from here on aren't in core.
@@ -55,8 +55,8 @@ fn are_literals_outside(size: u16, from: i64, literals: &[LiteralKey]) -> Result
     ensures value { IfOk result (λ outside. outside ≡ literals_outside size from literals.now) }
     ensures err { IfErr result IsMemory }
 {
-    let behind = behind_literals(from, literals)?;
-    Ok(!literals.is_empty() && !are_in_core(size, from, behind))
+    let beyond = beyond_literals(from, literals)?;
+    Ok(!literals.is_empty() && !are_in_core(size, from, beyond))
 }
 
 /// Whether the first address may be a symbol that names a unit: in an instruction that the machine hasn't got, as each
@@ -139,7 +139,7 @@ impl<'a> Placing<'a> {
             Next::Literals | Next::LiteralsAtValue => {
                 are_literals_outside(size, self.start_by(row)?, self.pending())
             },
-            Next::Behind | Next::Value | Next::Elsewhere => Ok(false),
+            Next::Beyond | Next::Value | Next::Elsewhere => Ok(false),
         }
     }
 

@@ -62,13 +62,13 @@ no_unit : flaw (codes "CU   ") (codes "2,R ") ≡ at 21 1 flaws.NoUnit
 unfolding flaw at
 no_unit = refl
 
-no_address_behind_a_tape : flaw (codes "RT   ") (codes "1,2X ") ≡ at 23 2 flaws.NoAddress
+no_address_beyond_a_tape : flaw (codes "RT   ") (codes "1,2X ") ≡ at 23 2 flaws.NoAddress
 unfolding flaw at
-no_address_behind_a_tape = refl
+no_address_beyond_a_tape = refl
 
-no_address_at_all_behind_a_tape : flaw (codes "WT   ") (codes "1 ") ≡ at 22 0 flaws.AddressMissing
+no_address_at_all_beyond_a_tape : flaw (codes "WT   ") (codes "1 ") ≡ at 22 0 flaws.AddressMissing
 unfolding flaw at
-no_address_at_all_behind_a_tape = refl
+no_address_at_all_beyond_a_tape = refl
 
 a_unit_without_d_character : flaw (codes "MCW  ") (codes "%U1,AREA ") ≡ at 29 0 flaws.CharacterMissing
 unfolding flaw at
@@ -134,25 +134,25 @@ an_area_as_an_address : flaw (codes "DSA  ") (codes "TAG#3 ") ≡ at 21 5 flaws.
 unfolding flaw at
 an_area_as_an_address = refl
 
-an_adjustment_behind_an_area : flaw (codes "A    ") (codes "TAG#3+1,5 ") ≡ at 21 7 flaws.NoAddress
+an_adjustment_beyond_an_area : flaw (codes "A    ") (codes "TAG#3+1,5 ") ≡ at 21 7 flaws.NoAddress
 unfolding flaw at
-an_adjustment_behind_an_area = refl
+an_adjustment_beyond_an_area = refl
 
 an_area_of_too_many_places : flaw (codes "MLNS ") (codes "5,TAG#51 ") ≡ at 23 6 flaws.NoAddress
 unfolding flaw at
 an_area_of_too_many_places = refl
 
-something_behind_literals : flaw (codes "A    ") (codes "TAG#3,+TAB,1 ") ≡ at 31 2 flaws.TooMuch
+something_beyond_literals : flaw (codes "A    ") (codes "TAG#3,+TAB,1 ") ≡ at 31 2 flaws.TooMuch
 unfolding flaw at
-something_behind_literals = refl
+something_beyond_literals = refl
 
 options_without_areas : flaw (codes "DA   ") (codes "X5,G ") ≡ at 21 2 flaws.NoAreas
 unfolding flaw at
 options_without_areas = refl
 
-something_behind_the_next_hundred : flaw (codes "ORG  ") (codes "*+X00,5 ") ≡ at 26 2 flaws.TooMuch
+something_beyond_the_next_hundred : flaw (codes "ORG  ") (codes "*+X00,5 ") ≡ at 26 2 flaws.TooMuch
 unfolding flaw at
-something_behind_the_next_hundred = refl
+something_beyond_the_next_hundred = refl
 
 a_next_place_with_an_index_register : flaw (codes "ORG  ") (codes "*+X1 ") ≡ at 21 4 flaws.NoValue
 unfolding flaw at
@@ -178,9 +178,9 @@ a_number_with_an_index_register : flaw (codes "DCW  ") (codes "+5+X1 ") ≡ at 2
 unfolding flaw at
 a_number_with_an_index_register = refl
 
-something_behind_an_address : flaw (codes "DC   ") (codes "-TAB,1 ") ≡ at 25 2 flaws.TooMuch
+something_beyond_an_address : flaw (codes "DC   ") (codes "-TAB,1 ") ≡ at 25 2 flaws.TooMuch
 unfolding flaw at
-something_behind_an_address = refl
+something_beyond_an_address = refl
 
 -- what is wrong with columns for an operation
 operation_at : List ℕ → OperationFlaw

@@ -61,7 +61,7 @@ graphics_stay (byte ∷ more) all =
 -- the columns in front, those from 6 to 72, and those after
 joined : (columns : List ℕ) → take 5 columns ++ (columns_in 6 72 columns ++ drop 72 columns) ≡ columns
 joined columns =
-    ap (λ (behind : List ℕ). take 5 columns ++ (take 67 (drop 5 columns) ++ behind)) (sym (drop-drop 67 5 columns))
+    ap (λ (beyond : List ℕ). take 5 columns ++ (take 67 (drop 5 columns) ++ beyond)) (sym (drop-drop 67 5 columns))
     ∙ ap (λ (rest : List ℕ). take 5 columns ++ rest) (take-append-drop 67 (drop 5 columns)) ∙ take-append-drop 5 columns
 
 -- columns of which none is foreign have their capitals already

@@ -6,7 +6,7 @@ use Rattle.std.specs.List.{prefix_len, suffix_len, list_all}
 use Rattle.autocoder_statements.specs.Address.{base_len}
 use Rattle.autocoder_statements.specs.Mnemonic.{operation_of}
 use Rattle.autocoder_statements.specs.Nearness.{nearest_mnemonic, word_in}
-use Rattle.autocoder_statements.specs.Operands.{operand_len, behind_operand}
+use Rattle.autocoder_statements.specs.Operands.{operand_len, beyond_operand}
 use Rattle.autocoder_statements.specs.SourceLine.{padded, columns_in, is_blank, is_comment, is_graphic, is_printable}
 use Rattle.autocoder_statements.specs.Literal.{is_sign}
 use Rattle.autocoder_statements.specs.declared.flaw.OperationFlaw.{OperationFlaw}
@@ -48,7 +48,7 @@ first_base columns = stretch (21 + sign_len columns) (base_len (drop (sign_len c
 -- that of the second
 abbrev pub second_base : List ℕ → Stretch
 second_base columns =
-    let second = drop 1 (behind_operand columns) in
+    let second = drop 1 (beyond_operand columns) in
     stretch (21 + (operand_len false columns + 1) + sign_len second) (base_len (drop (sign_len second) second))
 
 -- what columns hold from the first that isn't blank on

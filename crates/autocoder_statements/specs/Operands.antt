@@ -35,17 +35,17 @@ operand_len is_quoted (byte ∷ more) =
 abbrev pub operand_in : List ℕ → List ℕ
 operand_in text = take (operand_len false text) text
 
-abbrev pub behind_operand : List ℕ → List ℕ
-behind_operand text = drop (operand_len false text) text
+abbrev pub beyond_operand : List ℕ → List ℕ
+beyond_operand text = drop (operand_len false text) text
 
 -- the one operand that there is
 abbrev pub lone_operand : List ℕ → List ℕ
-lone_operand text = if is_ended (behind_operand text) then operand_in text else []
+lone_operand text = if is_ended (beyond_operand text) then operand_in text else []
 
 -- the only operand after a comma
-abbrev pub operand_behind_comma : List ℕ → List ℕ
-operand_behind_comma [] = []
-operand_behind_comma (byte ∷ more) = if byte == comma then lone_operand more else []
+abbrev pub operand_beyond_comma : List ℕ → List ℕ
+operand_beyond_comma [] = []
+operand_beyond_comma (byte ∷ more) = if byte == comma then lone_operand more else []
 
 -- a literal begins with an at sign or a sign
 abbrev pub begins_literal : ℕ → Bool
@@ -82,11 +82,11 @@ abbrev pub OperandAndRest : Type 0
 OperandAndRest = OperandField × List ℕ
 
 abbrev pub read_operand : Language → List ℕ → OperandAndRest
-read_operand language text = (field_of language (operand_in text), behind_operand text)
+read_operand language text = (field_of language (operand_in text), beyond_operand text)
 
 abbrev pub read_instruction_operand : Language → List ℕ → OperandAndRest
 read_instruction_operand language text =
-    (field_with (instruction_operand_of language (operand_in text)), behind_operand text)
+    (field_with (instruction_operand_of language (operand_in text)), beyond_operand text)
 
 -- the first address, if the operation can have one, unless the first column is blank
 abbrev pub first_operand : Language → ℕ → List ℕ → OperandAndRest
@@ -104,13 +104,13 @@ abbrev pub lone_d : List ℕ → Option ℕ
 lone_d [] = None
 lone_d (byte ∷ more) = if is_ended more then Some byte else None
 
-abbrev pub d_behind_comma : List ℕ → Option ℕ
-d_behind_comma [] = None
-d_behind_comma (byte ∷ more) = if byte == comma then lone_d more else None
+abbrev pub d_beyond_comma : List ℕ → Option ℕ
+d_beyond_comma [] = None
+d_beyond_comma (byte ∷ more) = if byte == comma then lone_d more else None
 
 -- the d-character after the addresses
 abbrev pub d_at : ℕ → List ℕ → Option ℕ
-d_at most rest = if most == 0 then lone_d rest else d_behind_comma rest
+d_at most rest = if most == 0 then lone_d rest else d_beyond_comma rest
 
 -- a d-character, and whether it is as the form asks
 abbrev pub Read : Type 0

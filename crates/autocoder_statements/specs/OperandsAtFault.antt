@@ -9,7 +9,7 @@ use Rattle.autocoder_statements.specs.Flaw.{stretch}
 use Rattle.autocoder_statements.specs.Literal.{wide_literal_of}
 use Rattle.autocoder_statements.specs.Mnemonic.{operation_of}
 use Rattle.autocoder_statements.specs.Numbers.{number_between}
-use Rattle.autocoder_statements.specs.Operands.{is_ended, operand_len, operand_in, behind_operand, first_operand}
+use Rattle.autocoder_statements.specs.Operands.{is_ended, operand_len, operand_in, beyond_operand, first_operand}
 use Rattle.autocoder_statements.specs.Operands.{second_operand}
 use Rattle.autocoder_statements.specs.Operands.{OperandAndRest, count_of, is_malformed, operands_of, has_malformed}
 use Rattle.autocoder_statements.specs.SourceLine.{columns_in, is_blank}
@@ -34,8 +34,8 @@ abbrev pub flaw_after : ℕ → ℕ → OperandFlaw → Flaw
 flaw_after skipped length kind = record { columns = stretch (21 + skipped) length; kind = kind }
 
 -- what is wrong after the operands that an operation has
-abbrev pub flaw_behind : ℕ → List ℕ → Flaw
-flaw_behind skipped rest =
+abbrev pub flaw_beyond : ℕ → List ℕ → Flaw
+flaw_beyond skipped rest =
     if is_ended rest then flaw_after skipped 0 flaws.CharacterMissing
     else flaw_after skipped (position_or_len is_blank rest) flaws.TooMuch
 
@@ -49,7 +49,7 @@ flaw_after_first language form first columns =
     then flaw_after (length columns - length words) (operand_len false words) flaws.NoAddress
     else if nat_lt (count_of first.0 + count_of second.0) form.least
     then flaw_after (length columns - length second.1) 0 flaws.AddressMissing
-    else flaw_behind (length columns - length second.1) second.1
+    else flaw_beyond (length columns - length second.1) second.1
 
 -- what is wrong with the operands of this form: with the first, or after it
 abbrev pub operands_flaw : Language → Form → List ℕ → Flaw
@@ -88,21 +88,21 @@ wide_operands_flaw first form columns =
 -- what is wrong with one operand, this many columns after the first of them, or with what follows it
 abbrev pub lone_flaw : OperandFlaw → ℕ → List ℕ → Flaw
 lone_flaw kind skipped columns =
-    if is_ended (behind_operand columns) then flaw_after skipped (operand_len false columns) kind
-    else flaw_after (skipped + operand_len false columns) (position_or_len is_blank (behind_operand columns))
+    if is_ended (beyond_operand columns) then flaw_after skipped (operand_len false columns) kind
+    else flaw_after (skipped + operand_len false columns) (position_or_len is_blank (beyond_operand columns))
     flaws.TooMuch
 
 -- a field may have one place alone, and has it
 abbrev pub is_lone_place : Language → List ℕ → Bool
 is_lone_place languages.Plain columns = false
-is_lone_place languages.Ibm columns = is_ended (behind_operand columns)
+is_lone_place languages.Ibm columns = is_ended (beyond_operand columns)
 
 -- what is wrong with the only place of a field or its first, or else with its last
 abbrev pub span_flaw : Language → List ℕ → Flaw
 span_flaw language columns =
     if is_none (number_between 1 999 (operand_in columns)) || is_lone_place language columns
     then flaw_after 0 (operand_len false columns) flaws.NoSpan
-    else lone_flaw flaws.NoSpan (operand_len false columns + 1) (drop 1 (behind_operand columns))
+    else lone_flaw flaws.NoSpan (operand_len false columns + 1) (drop 1 (beyond_operand columns))
 
 -- the first operand is a literal that stands in instructions alone
 abbrev pub begins_with_literal : Language → List ℕ → Bool
@@ -125,15 +125,15 @@ value_flaw language columns = one_address_flaw flaws.NoValue language columns
 abbrev pub areas_flaw : Language → List ℕ → Flaw
 areas_flaw languages.Plain columns = lone_flaw flaws.NoAreas 0 columns
 areas_flaw languages.Ibm columns =
-    let behind = drop 1 (behind_operand columns) in
+    let beyond = drop 1 (beyond_operand columns) in
     if is_none (areas_of (operand_in columns)) then flaw_after 0 (operand_len false columns) flaws.NoAreas
-    else flaw_after (operand_len false columns + 1) (position_or_len is_blank behind) flaws.NoOptions
+    else flaw_after (operand_len false columns + 1) (position_or_len is_blank beyond) flaws.NoOptions
 
 -- what is wrong with the next place that ORG says
 abbrev pub origin_flaw : Language → List ℕ → Flaw
 origin_flaw languages.Plain columns = value_flaw languages.Plain columns
 origin_flaw languages.Ibm columns =
-    if is_hundred columns then flaw_behind (operand_len false columns) (behind_operand columns)
+    if is_hundred columns then flaw_beyond (operand_len false columns) (beyond_operand columns)
     else value_flaw languages.Ibm columns
 
 -- what is wrong with one address in the wider language, with an index register or without

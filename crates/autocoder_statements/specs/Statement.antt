@@ -8,7 +8,7 @@ use Rattle.autocoder_statements.specs.Label.{label_in}
 use Rattle.autocoder_statements.specs.Mnemonic.{operation_of}
 use Rattle.autocoder_statements.specs.Numbers.{number_between}
 use Rattle.autocoder_statements.specs.Constant.{constant_of}
-use Rattle.autocoder_statements.specs.Operands.{operand_in, behind_operand, lone_operand, operand_behind_comma}
+use Rattle.autocoder_statements.specs.Operands.{operand_in, beyond_operand, lone_operand, operand_beyond_comma}
 use Rattle.autocoder_statements.specs.Operands.{operands_of}
 use Rattle.autocoder_statements.specs.Description.{describe, is_required, is_forbidden, is_of_field, is_entry}
 use Rattle.autocoder_statements.specs.Punctuation.{letter_x}
@@ -59,7 +59,7 @@ span_of columns =
     option_and_then
     (λ first.
     option_map (λ last. record { first = first; last = last; is_marked = true })
-    (number_between first 999 (operand_behind_comma (behind_operand columns))))
+    (number_between first 999 (operand_beyond_comma (beyond_operand columns))))
     (number_between 1 999 (operand_in columns))
 
 -- the most places that DS keeps

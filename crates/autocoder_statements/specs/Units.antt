@@ -5,7 +5,7 @@ use Rattle.std.specs.Prelude.{pos, Option, None, Some, is_some}
 use Rattle.std.specs.Option.{option_map, option_or}
 use Rattle.bcd_1401.specs.Digits.{is_digit}
 use Rattle.autocoder_statements.specs.Label.{is_letter, label_of, register_of}
-use Rattle.autocoder_statements.specs.Operands.{OperandAndRest, behind_operand, field_with, instruction_operand_of}
+use Rattle.autocoder_statements.specs.Operands.{OperandAndRest, beyond_operand, field_with, instruction_operand_of}
 use Rattle.autocoder_statements.specs.Operands.{is_ended}
 use Rattle.autocoder_statements.specs.Operands.{operand_in, operands_after}
 use Rattle.autocoder_statements.specs.Punctuation.{percent_sign}
@@ -82,7 +82,7 @@ first_in (firsts.Tape letter) form word = unit_or_name (tape_of letter word) wor
 abbrev pub wide_first : FirstOperand → Form → List ℕ → OperandAndRest
 wide_first first form text =
     if (form.most == 0) || is_ended text then (fields.Absent, text)
-    else (field_with (first_in first form (operand_in text)), behind_operand text)
+    else (field_with (first_in first form (operand_in text)), beyond_operand text)
 
 -- the operands of a form with this first operand
 abbrev pub wide_operands : FirstOperand → Form → List ℕ → Operands

@@ -4,7 +4,7 @@ use Rattle.std.specs.Prelude.{Some}
 use Rattle.std.specs.Option.{option_map, option_and_then, option_or}
 use Rattle.std.specs.Str.{byte}
 use Rattle.autocoder_statements.specs.Numbers.{number_between}
-use Rattle.autocoder_statements.specs.Operands.{behind_operand, lone_operand, operand_in}
+use Rattle.autocoder_statements.specs.Operands.{beyond_operand, lone_operand, operand_in}
 use Rattle.autocoder_statements.specs.Punctuation.{blank, comma, letter_x}
 use Rattle.autocoder_statements.specs.Statement.{areas_of, span_of}
 use Rattle.autocoder_statements.specs.declared.statement.Areas.{Areas}
@@ -63,7 +63,7 @@ areas_with areas options =
 abbrev pub wide_areas_of : List ℕ → Option Areas
 wide_areas_of columns =
     option_and_then
-    (λ areas. option_map (areas_with areas) (options_and no_options (behind_operand columns)))
+    (λ areas. option_map (areas_with areas) (options_and no_options (beyond_operand columns)))
     (areas_of (operand_in columns))
 
 -- a place by itself sets no mark

@@ -9,7 +9,7 @@ use Rattle.bcd_1401.specs.Digits.{is_digit}
 use Rattle.autocoder_statements.specs.Constant.{constant_of, is_at_sign, text_of}
 use Rattle.autocoder_statements.specs.Literal.{signed_address}
 use Rattle.autocoder_statements.specs.Numbers.{number_between}
-use Rattle.autocoder_statements.specs.Operands.{behind_operand, is_ended, lone_operand, operand_in, operands_of}
+use Rattle.autocoder_statements.specs.Operands.{beyond_operand, is_ended, lone_operand, operand_in, operands_of}
 use Rattle.autocoder_statements.specs.Punctuation.{at_sign, minus_sign, number_sign, plus_sign}
 use Rattle.autocoder_statements.specs.Statement.{one_address}
 use Rattle.autocoder_statements.specs.WideColumns.{begins_text}
@@ -55,13 +55,13 @@ whole_text text =
 abbrev pub whole_text_of : List ℕ → Option Constant
 whole_text_of [] = None
 whole_text_of (byte ∷ more) =
-    if (byte == at_sign) && is_ended (behind_operand (byte ∷ more)) then option_map constants.Text (whole_text more)
+    if (byte == at_sign) && is_ended (beyond_operand (byte ∷ more)) then option_map constants.Text (whole_text more)
     else None
 
 -- columns for operands hold a text, and another at sign in what follows it
 abbrev pub has_cut_text : List ℕ → Bool
 has_cut_text columns =
-    begins_text columns && is_ended (behind_operand columns) && list_any is_at_sign (behind_operand columns)
+    begins_text columns && is_ended (beyond_operand columns) && list_any is_at_sign (beyond_operand columns)
 
 -- a text with at signs in it, where a shorter one ends before a blank
 abbrev pub uncut_text_of : List ℕ → Option Constant
@@ -81,8 +81,8 @@ many_blanks (byte ∷ more) = if byte == number_sign then number_between 51 9999
 
 -- an address as the only operand, if nothing follows it
 abbrev pub only : Address → List ℕ → Operands
-only address behind =
-    record { a = fields.Operand (operands.Address address); b = fields.Absent; d = None; is_whole = is_ended behind }
+only address beyond =
+    record { a = fields.Operand (operands.Address address); b = fields.Absent; d = None; is_whole = is_ended beyond }
 
 -- a constant with a word mark or without
 abbrev pub constant_by : Bool → Option Constant → Body
@@ -94,7 +94,7 @@ address_or_none is_marked (Some address) columns =
     bodies.AddressConstant (record {
       is_marked = is_marked;
       is_negative = slice_index columns 0 == minus_sign;
-      operands = only address (behind_operand columns);
+      operands = only address (beyond_operand columns);
     })
 
 -- what is a constant in the plain language stays one

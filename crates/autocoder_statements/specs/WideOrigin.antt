@@ -3,7 +3,7 @@
 use Rattle.std.specs.Prelude.{ℕ, Bool, true, if◌then◌else◌, List, pos, None, codes}
 use Rattle.std.specs.Option.{option_map_or}
 use Rattle.std.specs.Str.{bytes_eq}
-use Rattle.autocoder_statements.specs.Operands.{behind_operand, is_ended, operand_in, operands_of}
+use Rattle.autocoder_statements.specs.Operands.{beyond_operand, is_ended, operand_in, operands_of}
 use Rattle.autocoder_statements.specs.Statement.{one_address}
 use Rattle.autocoder_statements.specs.Units.{unit_of}
 use Rattle.autocoder_statements.specs.declared.address.Base.TheVariants as bases
@@ -31,7 +31,7 @@ up_to_one = record { least = 0; most = 1; d = d.Never }
 abbrev pub origin_in : List ℕ → Operands
 origin_in columns =
     if is_hundred columns
-    then record { a = next_hundred; b = fields.Absent; d = None; is_whole = is_ended (behind_operand columns) }
+    then record { a = next_hundred; b = fields.Absent; d = None; is_whole = is_ended (beyond_operand columns) }
     else operands_of languages.Ibm up_to_one columns
 
 -- an asterisk alone
@@ -54,11 +54,11 @@ entry_in columns = operands_of languages.Ibm up_to_one columns
 
 -- a unit as the only operand, if nothing follows it
 abbrev pub unit_alone : AUnit → List ℕ → Operands
-unit_alone unit behind =
-    record { a = fields.Operand (operands.Unit unit); b = fields.Absent; d = None; is_whole = is_ended behind }
+unit_alone unit beyond =
+    record { a = fields.Operand (operands.Unit unit); b = fields.Absent; d = None; is_whole = is_ended beyond }
 
 -- the operand of EQU: a unit, or an address
 abbrev pub equal_in : List ℕ → Operands
 equal_in columns =
-    option_map_or (λ (unit : AUnit). unit_alone unit (behind_operand columns)) (unit_of (operand_in columns))
+    option_map_or (λ (unit : AUnit). unit_alone unit (beyond_operand columns)) (unit_of (operand_in columns))
     (operands_of languages.Ibm one_address columns)

@@ -285,11 +285,11 @@ fn first_size(source: &[u8]) -> Option<u16>
     ensures { result ≡ first_size (map (line_in languages.Ibm) (lines_of source.now)) }
 {
     let mut rest = source;
-    while let Some((line, behind)) = split_line(rest) {
+    while let Some((line, beyond)) = split_line(rest) {
         if let Some(size) = control_on(line) {
             return size.size();
         }
-        rest = behind;
+        rest = beyond;
     }
     None
 }

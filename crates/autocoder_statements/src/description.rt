@@ -67,7 +67,7 @@ pub enum Addressing {
 #[derive(Clone, Copy, Debug, PartialEq, Eq)]
 pub enum Next {
     /// It is the one after the statement's places.
-    Behind,
+    Beyond,
     /// The literals used so far are placed, and it is the one after them.
     Literals,
     /// It is the value of the operand.
@@ -164,7 +164,7 @@ const PLAIN: Description = Description {
     names: Point::First,
     shows: Point::First,
     addressing: Addressing::Nothing,
-    next: Next::Behind,
+    next: Next::Beyond,
     areas: AreaRole::Ends,
     contents: Contents::Nothing,
     relation: Relation::Apart,

@@ -130,8 +130,8 @@ impl LabelField {
     pub(crate) fn from_columns(language: Language, columns: &[u8]) -> LabelField
         ensures { result ≡ label_in language columns.now }
     {
-        let (word, behind) = columns.split_at(bytes_before_blank(columns));
-        if !are_blank(behind) {
+        let (word, beyond) = columns.split_at(bytes_before_blank(columns));
+        if !are_blank(beyond) {
             return LabelField::Malformed;
         }
         if word.is_empty() {
@@ -148,8 +148,8 @@ impl LabelField {
 pub(crate) fn place_in(columns: &[u8]) -> Option<u32>
     ensures { result ≡ place_in columns.now }
 {
-    let (word, behind) = columns.split_at(bytes_before_blank(columns));
-    if are_blank(behind) {
+    let (word, beyond) = columns.split_at(bytes_before_blank(columns));
+    if are_blank(beyond) {
         short_number(word)
     } else {
         None

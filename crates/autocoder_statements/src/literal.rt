@@ -122,9 +122,9 @@ impl AreaLiteral {
     fn from_word(word: &[u8]) -> Option<AreaLiteral>
         ensures { result ≡ area_literal_of word.now }
     {
-        let (symbol, behind) = word.split_at(bytes_before_number_sign(word));
+        let (symbol, beyond) = word.split_at(bytes_before_number_sign(word));
         let label = Label::from_word(Language::Ibm, symbol)?;
-        let places = number_between(1, TEXT_LENGTH as u32, behind.get(1..).unwrap_or(&[]))?;
+        let places = number_between(1, TEXT_LENGTH as u32, beyond.get(1..).unwrap_or(&[]))?;
         Some(AreaLiteral {
             label,
             places: places as u8,

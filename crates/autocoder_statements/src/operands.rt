@@ -1,8 +1,8 @@
 //! The operands of an instruction.
 ghost use Rattle.std.specs.Prelude.{◌≡◌, ◌≤◌, false, length};
 ghost use Rattle.std.specs.Option.{option_map};
-ghost use Rattle.autocoder_statements.specs.Operands.{is_ended, operand_len, operand_in, behind_operand, lone_operand};
-ghost use Rattle.autocoder_statements.specs.Operands.{operand_behind_comma, operand_of, field_of, first_operand};
+ghost use Rattle.autocoder_statements.specs.Operands.{is_ended, operand_len, operand_in, beyond_operand, lone_operand};
+ghost use Rattle.autocoder_statements.specs.Operands.{operand_beyond_comma, operand_of, field_of, first_operand};
 ghost use Rattle.autocoder_statements.specs.Operands.{second_operand};
 ghost use Rattle.autocoder_statements.specs.Operands.{lone_d, d_at, d_of, count_of, is_malformed, operands_after};
 ghost use Rattle.autocoder_statements.specs.Operands.{operands_of};
@@ -86,7 +86,7 @@ pub(crate) fn operand_len(text: &[u8]) -> usize
 /// An operand and what follows it.
 pub(crate) fn split_operand(text: &[u8]) -> (&[u8], &[u8])
     ensures operand { result.0.now ≡ operand_in text.now }
-    ensures behind { result.1.now ≡ behind_operand text.now }
+    ensures beyond { result.1.now ≡ beyond_operand text.now }
 {
     text.split_at(operand_len(text))
 }
@@ -95,17 +95,17 @@ pub(crate) fn split_operand(text: &[u8]) -> (&[u8], &[u8])
 pub(crate) fn lone_operand(text: &[u8]) -> &[u8]
     ensures { result.now ≡ lone_operand text.now }
 {
-    let (operand, behind) = split_operand(text);
-    if is_ended(behind) { operand } else { &[] }
+    let (operand, beyond) = split_operand(text);
+    if is_ended(beyond) { operand } else { &[] }
 }
 
 /// Two operands with a comma between them; the second is empty if there is none, or a third one.
 pub(crate) fn two_operands(text: &[u8]) -> (&[u8], &[u8])
     ensures first { result.0.now ≡ operand_in text.now }
-    ensures second { result.1.now ≡ operand_behind_comma (behind_operand text.now) }
+    ensures second { result.1.now ≡ operand_beyond_comma (beyond_operand text.now) }
 {
-    let (first, behind) = split_operand(text);
-    match behind {
+    let (first, beyond) = split_operand(text);
+    match beyond {
         [b',', more @ ..] => (first, lone_operand(more)),
         _ => (first, &[]),
     }
@@ -179,31 +179,31 @@ impl OperandField {
 /// An operand, and what follows it.
 fn read_operand(language: Language, text: &[u8]) -> (OperandField, &[u8])
     ensures field { result.0 ≡ field_of language (operand_in text.now) }
-    ensures behind { result.1.now ≡ behind_operand text.now }
+    ensures beyond { result.1.now ≡ beyond_operand text.now }
 {
-    let (word, behind) = split_operand(text);
+    let (word, beyond) = split_operand(text);
     (
         OperandField::read(Operand::from_word(language, word)),
-        behind,
+        beyond,
     )
 }
 
 /// An operand of an instruction, and what follows it.
 fn read_instruction_operand(language: Language, text: &[u8]) -> (OperandField, &[u8])
     ensures field { result.0 ≡ field_with (instruction_operand_of language (operand_in text.now)) }
-    ensures behind { result.1.now ≡ behind_operand text.now }
+    ensures beyond { result.1.now ≡ beyond_operand text.now }
 {
-    let (word, behind) = split_operand(text);
+    let (word, beyond) = split_operand(text);
     (
         OperandField::read(Operand::of_instruction(language, word)),
-        behind,
+        beyond,
     )
 }
 
 /// The first address, if the operation can have one, and what follows it.
 pub(crate) fn first_operand(language: Language, most: u8, text: &[u8]) -> (OperandField, &[u8])
     ensures field { result.0 ≡ (first_operand language most text.now).0 }
-    ensures behind { result.1.now ≡ (first_operand language most text.now).1 }
+    ensures beyond { result.1.now ≡ (first_operand language most text.now).1 }
 {
     if most == 0 || is_ended(text) {
         (OperandField::Absent, text)
@@ -215,7 +215,7 @@ pub(crate) fn first_operand(language: Language, most: u8, text: &[u8]) -> (Opera
 /// The second address, after a comma, if the operation can have two, and what follows it.
 pub(crate) fn second_operand(language: Language, most: u8, rest: &[u8]) -> (OperandField, &[u8])
     ensures field { result.0 ≡ (second_operand language most rest.now).0 }
-    ensures behind { result.1.now ≡ (second_operand language most rest.now).1 }
+    ensures beyond { result.1.now ≡ (second_operand language most rest.now).1 }
 {
     match rest {
         [b',', more @ ..] if most > 1 => read_instruction_operand(language, more),
@@ -228,7 +228,7 @@ fn lone_d(text: &[u8]) -> Option<u8>
     ensures { result ≡ lone_d text.now }
 {
     match text {
-        [d, behind @ ..] if is_ended(behind) => Some(*d),
+        [d, beyond @ ..] if is_ended(beyond) => Some(*d),
         _ => None,
     }
 }

@@ -1,6 +1,6 @@
 //! What is wrong with operands, and in which columns.
 ghost use Rattle.std.specs.Prelude.{◌≡◌, ◌+◌, ◌≤◌, length};
-ghost use Rattle.autocoder_statements.specs.OperandsAtFault.{flaw_after, flaw_behind, flaw_after_first, operands_flaw};
+ghost use Rattle.autocoder_statements.specs.OperandsAtFault.{flaw_after, flaw_beyond, flaw_after_first, operands_flaw};
 ghost use Rattle.autocoder_statements.specs.OperandsAtFault.{first_flaw};
 ghost use Rattle.autocoder_statements.specs.OperandsAtFault.{is_no_first, wide_operands_flaw, lone_flaw, is_lone_place};
 ghost use Rattle.autocoder_statements.specs.OperandsAtFault.{span_flaw};
@@ -41,10 +41,10 @@ pub(crate) fn flaw_after(skipped: usize, length: usize, kind: OperandFlaw) -> Fl
 }
 
 /// What is wrong after the operands that an operation has.
-fn flaw_behind(skipped: usize, rest: &[u8]) -> Flaw
+fn flaw_beyond(skipped: usize, rest: &[u8]) -> Flaw
     requires start { skipped ≤ 54 }
     requires few { length rest.now ≤ 54 }
-    ensures { result ≡ flaw_behind skipped rest.now }
+    ensures { result ≡ flaw_beyond skipped rest.now }
 {
     if is_ended(rest) {
         flaw_after(skipped, 0, OperandFlaw::CharacterMissing)
@@ -58,15 +58,15 @@ pub(crate) fn flaw_after_first(
     language: Language,
     form: Form,
     a: OperandField,
-    behind: &[u8],
+    beyond: &[u8],
     columns: &[u8],
 ) -> Flaw
     requires few { length columns.now ≤ 52 }
-    requires rest { length behind.now ≤ 52 }
-    ensures { result ≡ flaw_after_first language form (a, behind.now) columns.now }
+    requires rest { length beyond.now ≤ 52 }
+    ensures { result ≡ flaw_after_first language form (a, beyond.now) columns.now }
 {
-    let (b, rest) = second_operand(language, form.most, behind);
-    let words = without_first(behind);
+    let (b, rest) = second_operand(language, form.most, beyond);
+    let words = without_first(beyond);
     if b.is_malformed() {
         let skipped = columns.len().saturating_sub(words.len());
         return flaw_after(skipped, operand_len(words), OperandFlaw::NoAddress);
@@ -75,7 +75,7 @@ pub(crate) fn flaw_after_first(
     if a.count() + b.count() < form.least {
         return flaw_after(skipped, 0, OperandFlaw::AddressMissing);
     }
-    flaw_behind(skipped, rest)
+    flaw_beyond(skipped, rest)
 }
 
 /// What is wrong with the operands of this form.
@@ -83,11 +83,11 @@ fn operands_flaw(language: Language, form: Form, columns: &[u8]) -> Flaw
     requires { length columns.now ≤ 52 }
     ensures { result ≡ operands_flaw language form columns.now }
 {
-    let (a, behind) = first_operand(language, form.most, columns);
+    let (a, beyond) = first_operand(language, form.most, columns);
     if a.is_malformed() {
         flaw_after(0, operand_len(columns), OperandFlaw::NoAddress)
     } else {
-        flaw_after_first(language, form, a, behind, columns)
+        flaw_after_first(language, form, a, beyond, columns)
     }
 }
 
@@ -120,11 +120,11 @@ pub(crate) fn wide_operands_flaw(first: FirstOperand, form: Form, columns: &[u8]
     requires { length columns.now ≤ 52 }
     ensures { result ≡ wide_operands_flaw first form columns.now }
 {
-    let (a, behind) = first.split(form, columns);
+    let (a, beyond) = first.split(form, columns);
     if first.is_no_first(a) {
         flaw_after(0, operand_len(columns), first.flaw())
     } else {
-        flaw_after_first(Language::Ibm, form, a, behind, columns)
+        flaw_after_first(Language::Ibm, form, a, beyond, columns)
     }
 }
 
@@ -134,13 +134,13 @@ pub(crate) fn lone_flaw(kind: OperandFlaw, skipped: usize, columns: &[u8]) -> Fl
     ensures { result ≡ lone_flaw kind skipped columns.now }
 {
     let count = operand_len(columns);
-    let behind = &columns[count..];
-    if is_ended(behind) {
+    let beyond = &columns[count..];
+    if is_ended(beyond) {
         flaw_after(skipped, count, kind)
     } else {
         flaw_after(
             skipped + count,
-            bytes_before_blank(behind),
+            bytes_before_blank(beyond),
             OperandFlaw::TooMuch,
         )
     }
@@ -234,7 +234,7 @@ pub(crate) fn origin_flaw(language: Language, columns: &[u8]) -> Flaw
 {
     if language == Language::Ibm && is_hundred(columns) {
         let count = operand_len(columns);
-        flaw_behind(count, &columns[count..])
+        flaw_beyond(count, &columns[count..])
     } else {
         value_flaw(language, columns)
     }

@@ -211,9 +211,9 @@ fn bytes_before_x(text: &[u8]) -> usize
 pub(crate) fn areas_of(word: &[u8]) -> Option<Areas>
     ensures { result ≡ areas_of word.now }
 {
-    let (count, behind) = word.split_at(bytes_before_x(word));
+    let (count, beyond) = word.split_at(bytes_before_x(word));
     let count = number_between(1, 99, count)?;
-    let length = number_between(1, AREA_LENGTH, behind.get(1..).unwrap_or(&[]))?;
+    let length = number_between(1, AREA_LENGTH, beyond.get(1..).unwrap_or(&[]))?;
     Some(Areas {
         count: count as u8,
         length: length as u16,

@@ -114,13 +114,13 @@ impl FirstOperand {
     /// The first operand of this form, if the operation can have one, and what follows it.
     pub(crate) fn split(self, form: Form, text: &[u8]) -> (OperandField, &[u8])
         ensures field { result.0 ≡ (wide_first self form text.now).0 }
-        ensures behind { result.1.now ≡ (wide_first self form text.now).1 }
+        ensures beyond { result.1.now ≡ (wide_first self form text.now).1 }
     {
         if form.most == 0 || is_ended(text) {
             return (OperandField::Absent, text);
         }
-        let (word, behind) = split_operand(text);
-        (OperandField::read(self.in_word(form, word)), behind)
+        let (word, beyond) = split_operand(text);
+        (OperandField::read(self.in_word(form, word)), beyond)
     }
 }
 
@@ -129,7 +129,7 @@ impl Operands {
     pub(crate) fn from_wide_columns(first: FirstOperand, form: Form, columns: &[u8]) -> Operands
         ensures { result ≡ wide_operands first form columns.now }
     {
-        let (a, behind) = first.split(form, columns);
-        Operands::after_first(Language::Ibm, form, a, behind)
+        let (a, beyond) = first.split(form, columns);
+        Operands::after_first(Language::Ibm, form, a, beyond)
     }
 }

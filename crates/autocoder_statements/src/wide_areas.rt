@@ -90,11 +90,11 @@ impl AreaOptions {
             let these = self.with(*letter)?;
             return these.and(more);
         }
-        let [digit, behind @ ..] = more else {
+        let [digit, beyond @ ..] = more else {
             return None;
         };
         let those = self.with_register(*digit)?;
-        those.and(behind)
+        those.and(beyond)
     }
 }
 
@@ -117,9 +117,9 @@ impl Areas {
 pub(crate) fn wide_areas_of(columns: &[u8]) -> Option<Areas>
     ensures { result ≡ wide_areas_of columns.now }
 {
-    let (word, behind) = split_operand(columns);
+    let (word, beyond) = split_operand(columns);
     let areas = areas_of(word)?;
-    let options = AreaOptions::NONE.and(behind)?;
+    let options = AreaOptions::NONE.and(beyond)?;
     Some(areas.with_options(options))
 }
 

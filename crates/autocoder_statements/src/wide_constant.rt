@@ -66,8 +66,8 @@ fn has_at_sign(text: &[u8]) -> bool
 pub(crate) fn has_cut_text(columns: &[u8]) -> bool
     ensures { result ≡ has_cut_text columns.now }
 {
-    let (_, behind) = split_operand(columns);
-    begins_text(columns) && is_ended(behind) && has_at_sign(behind)
+    let (_, beyond) = split_operand(columns);
+    begins_text(columns) && is_ended(beyond) && has_at_sign(beyond)
 }
 
 impl Constant {
@@ -140,14 +140,14 @@ fn many_blanks(word: &[u8]) -> Option<u16>
 
 impl Address {
     /// This address as the only operand, if nothing follows it.
-    fn only(self, behind: &[u8]) -> Operands
-        ensures { result ≡ only self behind.now }
+    fn only(self, beyond: &[u8]) -> Operands
+        ensures { result ≡ only self beyond.now }
     {
         Operands {
             a: OperandField::Operand(Operand::Address(self)),
             b: OperandField::Absent,
             d: None,
-            is_whole: is_ended(behind),
+            is_whole: is_ended(beyond),
         }
     }
 }
@@ -168,12 +168,12 @@ impl Body {
     fn address_or_none(is_marked: bool, columns: &[u8]) -> Body
         ensures { result ≡ address_or_none is_marked (signed_address (operand_in columns.now)) columns.now }
     {
-        let (word, behind) = split_operand(columns);
+        let (word, beyond) = split_operand(columns);
         match signed_address(word) {
             Some(address) => Body::AddressConstant(AddressConstant {
                 is_marked,
                 is_negative: begins_with_minus(columns),
-                operands: address.only(behind),
+                operands: address.only(beyond),
             }),
             None => Body::constant_by(is_marked, None),
         }

@@ -31,7 +31,7 @@ impl Operands {
         if !is_hundred(columns) {
             return Operands::entry(columns);
         }
-        let (_, behind) = split_operand(columns);
+        let (_, beyond) = split_operand(columns);
         Operands {
             a: OperandField::Operand(Operand::Address(Address {
                 base: Base::NextHundred,
@@ -40,7 +40,7 @@ impl Operands {
             })),
             b: OperandField::Absent,
             d: None,
-            is_whole: is_ended(behind),
+            is_whole: is_ended(beyond),
         }
     }
 
@@ -82,13 +82,13 @@ impl Operands {
     pub(crate) fn equal(columns: &[u8]) -> Operands
         ensures { result ≡ equal_in columns.now }
     {
-        let (word, behind) = split_operand(columns);
+        let (word, beyond) = split_operand(columns);
         match unit_of(word) {
             Some(unit) => Operands {
                 a: OperandField::Operand(Operand::Unit(unit)),
                 b: OperandField::Absent,
                 d: None,
-                is_whole: is_ended(behind),
+                is_whole: is_ended(beyond),
             },
             None => Operands::one_address(Language::Ibm, columns),
         }

@@ -18,7 +18,7 @@ use Rattle.autocoder_statements.specs.declared.statement.Line.{Line}
 use Rattle.autocoder_statements.specs.declared.statement.Statement.{Statement}
 use Rattle.autocoder_symbols.specs.Chains.{Chains, no_chains, link_in, is_declared_here, with_link, with_labelled}
 use Rattle.autocoder_symbols.specs.Chains.{with_line}
-use Rattle.autocoder_symbols.specs.Chains.{links_from, joined, beyond, onward, twice_over, doublings, followed}
+use Rattle.autocoder_symbols.specs.Chains.{links_from, joined, chained, onward, twice_over, doublings, followed}
 use Rattle.autocoder_symbols.specs.Chains.{chains_in}
 use Rattle.autocoder_symbols.specs.Chains.{unfollowed, joined_in, one_by_one, Meaning, meant, IsMeant, AreFollowed}
 use Rattle.autocoder_symbols.specs.Symbols.{Sites, same_label, up_to_end}
@@ -28,8 +28,8 @@ use Rattle.autocoder_symbols.proofs.ChainLinksLemmas.{followed_by_doubling}
 use Rattle.autocoder_symbols.proofs.SymbolsLemmas.{same_labels}
 
 -- two links make of a meaning what the first makes of what the second makes of it
-meant_beyond : (this that : Link) (symbol : Meaning) → meant (beyond this that) symbol ≡ meant this (meant that symbol)
-meant_beyond this that symbol =
+meant_chained : (this that : Link) (symbol : Meaning) → meant (chained this that) symbol ≡ meant this (meant that symbol)
+meant_chained this that symbol =
     λ i. record {
       value = values i;
       index = or_assoc this.index that.index symbol.index i;
@@ -99,7 +99,7 @@ said_onward meaning labels links said label this so =
     by (option_and_then (slice_get (map (joined labels) links)) this.next) refl
   where
     by : (found : Option Link) → option_and_then (slice_get (map (joined labels) links)) this.next ≡ found
-        → IsSaid meaning labels label (option_map_or (beyond this) found this)
+        → IsSaid meaning labels label (option_map_or (chained this) found this)
     by None none = so
     by (Some that) there =
         let of_symbol : IsMeant meaning this.to that =
@@ -107,7 +107,7 @@ said_onward meaning labels links said label this so =
         (sym (ap (option_and_then (slice_get (map (joined labels) links))) so.joined) ∙ there) in
         record {
           joined = joined_found labels links this.next that there;
-          meant = so.meant ∙ ap (meant this) of_symbol ∙ sym (meant_beyond this that (meaning that.to));
+          meant = so.meant ∙ ap (meant this) of_symbol ∙ sym (meant_chained this that (meaning that.to));
         }
 
 said_far : (n : ℕ) (meaning : Label → Meaning) (labels : List Label) (links : List Link)

@@ -11,7 +11,7 @@ use Rattle.std.proofs.lemmas.List.{length-map, map-id}
 use Rattle.std.proofs.lemmas.Option.{slice_get-map}
 use Rattle.std.proofs.lemmas.Simd.{map-map}
 use Rattle.autocoder_statements.specs.declared.label.Label.{Label}
-use Rattle.autocoder_symbols.specs.Chains.{beyond, onward, twice, twice_over, one_by_one, IsFollowed, Chains, link_of}
+use Rattle.autocoder_symbols.specs.Chains.{chained, onward, twice, twice_over, one_by_one, IsFollowed, Chains, link_of}
 use Rattle.autocoder_symbols.specs.Symbols.{same_label}
 use Rattle.autocoder_symbols.specs.declared.chains.Link.{Link}
 
@@ -33,8 +33,8 @@ pub max_assoc : (one two three : ℕ) → max (max one two) three ≡ max one (m
 max_assoc one two three = omega arith
 
 -- three links are one link, whichever two are joined first
-beyond_assoc : (one two three : Link) → beyond (beyond one two) three ≡ beyond one (beyond two three)
-beyond_assoc one two three =
+chained_assoc : (one two three : Link) → chained (chained one two) three ≡ chained one (chained two three)
+chained_assoc one two three =
     λ i. record {
       to = three.to;
       next = three.next;
@@ -44,21 +44,21 @@ beyond_assoc one two three =
     }
 
 -- two links go on where the second does
-onward_beyond : (links : List Link) (one two : Link) → onward links (beyond one two) ≡ beyond one (onward links two)
-onward_beyond links one two = by (option_and_then (slice_get links) two.next)
+onward_chained : (links : List Link) (one two : Link) → onward links (chained one two) ≡ chained one (onward links two)
+onward_chained links one two = by (option_and_then (slice_get links) two.next)
   where
     by : (found : Option Link)
-        → option_map_or (beyond (beyond one two)) found (beyond one two)
-        ≡ beyond one (option_map_or (beyond two) found two)
+        → option_map_or (chained (chained one two)) found (chained one two)
+        ≡ chained one (option_map_or (chained two) found two)
     by None = refl
-    by (Some three) = beyond_assoc one two three
+    by (Some three) = chained_assoc one two three
 
 -- and so they do link by link
-one_by_one_beyond : (n : ℕ) (links : List Link) (one two : Link)
-    → one_by_one n links (beyond one two) ≡ beyond one (one_by_one n links two)
-one_by_one_beyond zero links one two = refl
-one_by_one_beyond (suc n) links one two =
-    ap (onward links) (one_by_one_beyond n links one two) ∙ onward_beyond links one (one_by_one n links two)
+one_by_one_chained : (n : ℕ) (links : List Link) (one two : Link)
+    → one_by_one n links (chained one two) ≡ chained one (one_by_one n links two)
+one_by_one_chained zero links one two = refl
+one_by_one_chained (suc n) links one two =
+    ap (onward links) (one_by_one_chained n links one two) ∙ onward_chained links one (one_by_one n links two)
 
 -- one link and then n are n and then one
 one_by_one_onward : (n : ℕ) (links : List Link) (this : Link)
@@ -84,7 +84,7 @@ stays (suc n) links this end = ap (onward links) (stays n links this end) ∙ en
 -- at the end of its chain a link doesn't go on
 goes_no_further : (links : List Link) (this : Link) → this.next ≡ None → onward links this ≡ this
 goes_no_further links this end =
-    ap (λ next. option_map_or (beyond this) (option_and_then (slice_get links) next) this) end
+    ap (λ next. option_map_or (chained this) (option_and_then (slice_get links) next) this) end
 
 stays_at_end : (n : ℕ) (links : List Link) (this : Link) → this.next ≡ None → one_by_one n links this ≡ this
 stays_at_end n links this end = stays n links this (goes_no_further links this end)
@@ -99,14 +99,14 @@ found_in_map f links (Some k) = slice_get-map f links k
 onward_far : (n : ℕ) (links : List Link) (this : Link)
     → onward (map (one_by_one n links) links) this ≡ one_by_one n links (onward links this)
 onward_far n links this =
-    ap (λ found. option_map_or (beyond this) found this) (found_in_map (one_by_one n links) links this.next)
+    ap (λ found. option_map_or (chained this) found this) (found_in_map (one_by_one n links) links this.next)
     ∙ by (option_and_then (slice_get links) this.next) refl
   where
     by : (found : Option Link) → option_and_then (slice_get links) this.next ≡ found
-        → option_map_or (beyond this) (option_map (one_by_one n links) found) this
-        ≡ one_by_one n links (option_map_or (beyond this) found this)
-    by None none = sym (stays n links this (ap (λ found. option_map_or (beyond this) found this) none))
-    by (Some that) there = sym (one_by_one_beyond n links this that)
+        → option_map_or (chained this) (option_map (one_by_one n links) found) this
+        ≡ one_by_one n links (option_map_or (chained this) found this)
+    by None none = sym (stays n links this (ap (λ found. option_map_or (chained this) found this) none))
+    by (Some that) there = sym (one_by_one_chained n links this that)
 
 -- so twice as far as n links is n links, one more, and n more
 twice_far : (n : ℕ) (links : List Link)
@@ -160,10 +160,10 @@ ended_next n links this =
     ap (λ (far : Link). is_none far.next) (sym (one_by_one_onward n links this)) ∙ by this.next refl
   where
     on : (next : Option ℕ) (found : Option Link) → this.next ≡ next → option_and_then (slice_get links) next ≡ found
-        → onward links this ≡ option_map_or (beyond this) found this
+        → onward links this ≡ option_map_or (chained this) found this
     on next found is there =
-        ap (λ next. option_map_or (beyond this) (option_and_then (slice_get links) next) this) is
-        ∙ ap (λ found. option_map_or (beyond this) found this) there
+        ap (λ next. option_map_or (chained this) (option_and_then (slice_get links) next) this) is
+        ∙ ap (λ found. option_map_or (chained this) found this) there
 
     at_end : onward links this ≡ this → is_none (one_by_one n links (onward links this)).next ≡ is_none this.next
     at_end end =
@@ -176,7 +176,7 @@ ended_next n links this =
     at k is None none = at_end (on (Some k) None is none) ∙ ap is_none is
     at k is (Some that) there =
         ap (λ (link : Link). is_none (one_by_one n links link).next) (on (Some k) (Some that) is there)
-        ∙ ap (λ (link : Link). is_none link.next) (one_by_one_beyond n links this that)
+        ∙ ap (λ (link : Link). is_none link.next) (one_by_one_chained n links this that)
 
     by : (next : Option ℕ) → this.next ≡ next
         → is_none (one_by_one n links (onward links this)).next ≡ ends_by (endings n links) next

@@ -101,8 +101,8 @@ abbrev pub joined : List Label → Link → Link
 joined labels link = record link { next = position (same_label link.to) labels }
 
 -- a link followed by another as one
-abbrev pub beyond : Link → Link → Link
-beyond this that =
+abbrev pub chained : Link → Link → Link
+chained this that =
     record {
       to = that.to;
       next = that.next;
@@ -113,7 +113,7 @@ beyond this that =
 
 -- a link with the one that it goes on at, if it goes on
 abbrev pub onward : List Link → Link → Link
-onward links this = option_map_or (beyond this) (option_and_then (slice_get links) this.next) this
+onward links this = option_map_or (chained this) (option_and_then (slice_get links) this.next) this
 
 -- each link with the one that it goes on at: twice as far
 abbrev pub twice : List Link → List Link

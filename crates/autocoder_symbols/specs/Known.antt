@@ -27,17 +27,17 @@ abbrev pub known_alone : Declaration → Known
 known_alone this = if is_some this.area then known.WhenPlaced else known.From this.line
 
 -- not before this line
-abbrev pub known_behind : ℕ → Known → Known
-known_behind last (known.From line) = known.From (max last line)
-known_behind last known.WhenPlaced = known.WhenPlaced
-known_behind last known.Never = known.Never
+abbrev pub known_beyond : ℕ → Known → Known
+known_beyond last (known.From line) = known.From (max last line)
+known_beyond last known.WhenPlaced = known.WhenPlaced
+known_beyond last known.Never = known.Never
 
 -- the value of a label by its chain: from the last of the chain's lines on, and never if the chain never ends. At the
 -- end a symbol that isn't declared is the fault of the EQU that names it.
 abbrev pub known_by_chain : Sites → Link → Known
 known_by_chain sites link =
     if is_some link.next then known.Never
-    else option_map_or (λ (root : Declaration). known_behind link.last (known_alone root)) (sites link.to)
+    else option_map_or (λ (root : Declaration). known_beyond link.last (known_alone root)) (sites link.to)
     (known.From link.last)
 
 abbrev pub known_as : Declared → Option Link → Declaration → Known

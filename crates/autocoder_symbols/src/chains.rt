@@ -4,7 +4,7 @@ ghost use Rattle.indexmap.specs.IndexMap.{get};
 ghost use Rattle.autocoder_statements.specs.Statement.{is_end};
 ghost use Rattle.autocoder_symbols.specs.Chains.{no_chains, has_value, link_in_base, link_in, is_declared_here};
 ghost use Rattle.autocoder_symbols.specs.Chains.{with_link};
-ghost use Rattle.autocoder_symbols.specs.Chains.{with_line, links_from, joined, beyond, onward, twice, twice_over};
+ghost use Rattle.autocoder_symbols.specs.Chains.{with_line, links_from, joined, chained, onward, twice, twice_over};
 ghost use Rattle.autocoder_symbols.specs.Chains.{doublings, followed, chains_in, link_of, unfollowed, AreFollowed};
 ghost use Rattle.autocoder_symbols.specs.Fault.{IsMemory};
 ghost use Rattle.autocoder_symbols.specs.Symbols.{same_label, up_to_end};
@@ -54,8 +54,8 @@ const DOUBLINGS: usize = 32;
 
 impl Link {
     /// The link with another after it.
-    fn beyond(self, that: Link) -> Result<Link, AsmFault>
-        ensures link { IfOk result (λ link. link ≡ beyond self that) }
+    fn chained(self, that: Link) -> Result<Link, AsmFault>
+        ensures link { IfOk result (λ link. link ≡ chained self that) }
         ensures err { IfErr result IsMemory }
     {
         let added = checked_sum(self.added, that.added)?;
@@ -77,7 +77,7 @@ impl Link {
             return Ok(self);
         };
         match links.get(next as usize) {
-            Some(that) => self.beyond(*that),
+            Some(that) => self.chained(*that),
             None => Ok(self),
         }
     }

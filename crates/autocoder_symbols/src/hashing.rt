@@ -9,26 +9,26 @@ use std::hash::{BuildHasher, DefaultHasher, Hasher};
 #[derive(Clone, Copy)]
 pub struct SourceHashing {
     /// The hasher that has read the source.
-    pub behind_source: DefaultHasher,
+    pub beyond_source: DefaultHasher,
 }
 
 impl SourceHashing {
     /// The hashing of the labels and literals of a source.
     pub fn from_source(source: &[u8]) -> SourceHashing
-        ensures { result.behind_source ≡ sip.write sip.initial source.now }
+        ensures { result.beyond_source ≡ sip.write sip.initial source.now }
     {
-        let mut behind_source = DefaultHasher::new();
-        behind_source.write(source);
-        SourceHashing { behind_source }
+        let mut beyond_source = DefaultHasher::new();
+        beyond_source.write(source);
+        SourceHashing { beyond_source }
     }
 }
 
 impl BuildHasher for SourceHashing {
     type Hasher = DefaultHasher;
 
-    ghost build_hasher = { λ hashing. hashing.behind_source };
+    ghost build_hasher = { λ hashing. hashing.beyond_source };
 
     fn build_hasher(&self) -> DefaultHasher {
-        self.behind_source
+        self.beyond_source
     }
 }

@@ -262,7 +262,7 @@ impl<'a> Lines<'a> {
     }
 
     /// Those after the one with this index.
-    pub fn behind(&self, i: usize) -> Lines<'a>
+    pub fn beyond(&self, i: usize) -> Lines<'a>
         requires { i < length self.now }
         ensures { result ≡ drop (i + 1) self.now }
     {

@@ -2,7 +2,7 @@
 ghost use Rattle.std.specs.Prelude.{◌≡◌, ◌<◌, ◌^◌, length, IfOk, IfErr};
 ghost use Rattle.indexmap.specs.IndexMap.{get};
 ghost use Rattle.autocoder_symbols.specs.Fault.{IsMemory};
-ghost use Rattle.autocoder_symbols.specs.Known.{declared_at, known_alone, known_behind, known_by_chain, known_as};
+ghost use Rattle.autocoder_symbols.specs.Known.{declared_at, known_alone, known_beyond, known_by_chain, known_as};
 ghost use Rattle.autocoder_symbols.specs.Known.{known_of};
 ghost use Rattle.autocoder_symbols.specs.Known.{is_known_before, is_known_at_end};
 ghost use Rattle.autocoder_symbols.specs.Chains.{link_of};
@@ -53,8 +53,8 @@ impl Declaration {
 
 impl Known {
     /// The same, but not before this line.
-    fn behind(self, last: u64) -> Known
-        ensures { result ≡ known_behind last self }
+    fn beyond(self, last: u64) -> Known
+        ensures { result ≡ known_beyond last self }
     {
         match self {
             Known::From(line) => Known::From(last.max(line)),
@@ -71,7 +71,7 @@ fn known_by_chain(sites: &Sites, link: Link) -> Known
         return Known::Never;
     }
     match sites.get(&link.to).copied() {
-        Some(root) => root.known().behind(u64::from(link.last)),
+        Some(root) => root.known().beyond(u64::from(link.last)),
         None => Known::From(u64::from(link.last)),
     }
 }

@@ -47,8 +47,8 @@ found_has {X} test has (first ∷ rows) row all e =
   where
     by : (b : Bool) → cond b (Some first) (find test rows) ≡ Some row → has first ≡ true
         → (find test rows ≡ Some row → has row ≡ true) → has row ≡ true
-    by true e here behind = let same : first ≡ row = cc in ap has (sym same) ∙ here
-    by false e here behind = behind e
+    by true e here beyond = let same : first ≡ row = cc in ap has (sym same) ∙ here
+    by false e here beyond = beyond e
 
 -- the first and the second operand are there or not, and a d-character
 zero_or_one : (field : OperandField) → (count_of field ≡ 0) ⊎ (count_of field ≡ 1)

@@ -632,21 +632,21 @@ impl<'a> WarningsSoFar<'a> {
         n: usize,
         text: &[u8],
         line: &Line,
-        behind: &Lines<'_>,
+        beyond: &Lines<'_>,
     ) -> Result<LineFacts, AsmFault>
         requires few { length lines.now < 2 ^ 32 }
         requires line { n < length lines.now }
         ensures facts { IfOk result (λ facts. facts ≡ facts_of (address_or_zero (places_of self.old.so_far).next)
             (first_overlap self.old.fillers.items (take n lines.now)
-            (filled_by (places_of all.now) (places_of self.old.so_far) line.now behind.now)) (loss_of text.now)) }
+            (filled_by (places_of all.now) (places_of self.old.so_far) line.now beyond.now)) (loss_of text.now)) }
         ensures fillers { OnOk result (self.new.fillers.items ≡ with_filler (n + 1)
-            (filled_by (places_of all.now) (places_of self.old.so_far) line.now behind.now).first
-            (filled_by (places_of all.now) (places_of self.old.so_far) line.now behind.now).count
+            (filled_by (places_of all.now) (places_of self.old.so_far) line.now beyond.now).first
+            (filled_by (places_of all.now) (places_of self.old.so_far) line.now beyond.now).count
             self.old.fillers.items) }
         ensures same { (self.new.so_far ≡ self.old.so_far) × (self.new.warnings ≡ self.old.warnings) }
         ensures err { IfErr result IsMemory }
     {
-        let places = FilledPlaces::of_line(alloc, all, &self.so_far, line, behind)?;
+        let places = FilledPlaces::of_line(alloc, all, &self.so_far, line, beyond)?;
         let overlap = put_places(&mut self.fillers, lines, n, places)?;
         Ok(LineFacts {
             address: self.so_far.address(),
@@ -665,7 +665,7 @@ impl<'a> WarningsSoFar<'a> {
         n: usize,
         text: &[u8],
         line: &Line,
-        behind: &Lines<'_>,
+        beyond: &Lines<'_>,
     ) -> Result<(), AsmFault>
         requires few { length lines.now < 2 ^ 32 }
         requires line { n < length lines.now }
@@ -673,17 +673,17 @@ impl<'a> WarningsSoFar<'a> {
             ++ line_warnings (known_of this.now.notes) this.now.storage.items (n + 1)
             (facts_of (address_or_zero (places_of self.old.so_far).next)
             (first_overlap self.old.fillers.items (take n lines.now)
-            (filled_by (places_of all.now) (places_of self.old.so_far) line.now behind.now)) (loss_of text.now))
+            (filled_by (places_of all.now) (places_of self.old.so_far) line.now beyond.now)) (loss_of text.now))
             line.now) }
         ensures fillers { OnOk result (self.new.fillers.items ≡ with_filler (n + 1)
-            (filled_by (places_of all.now) (places_of self.old.so_far) line.now behind.now).first
-            (filled_by (places_of all.now) (places_of self.old.so_far) line.now behind.now).count
+            (filled_by (places_of all.now) (places_of self.old.so_far) line.now beyond.now).first
+            (filled_by (places_of all.now) (places_of self.old.so_far) line.now beyond.now).count
             self.old.fillers.items) }
         ensures placed { OnOk result
             (places_of self.new.so_far ≡ placed_after (places_of self.old.so_far) line.now) }
         ensures err { IfErr result IsMemory }
     {
-        let facts = self.facts(alloc, all, lines, n, text, line, behind)?;
+        let facts = self.facts(alloc, all, lines, n, text, line, beyond)?;
         warn_of_line(&mut self.warnings, this, n as u64 + 1, facts, line)?;
         self.so_far.place(line)?;
         Ok(())
@@ -713,8 +713,8 @@ impl<'a> WarningsSoFar<'a> {
             let Some((text, rest)) = split_line(sources) else {
                 unreachable!()
             };
-            let behind = lines.behind(i);
-            self.put_line(alloc, this, all, lines, i, text, &lines.line(i), &behind)?;
+            let beyond = lines.beyond(i);
+            self.put_line(alloc, this, all, lines, i, text, &lines.line(i), &beyond)?;
             sources = rest;
         }
         Ok(())

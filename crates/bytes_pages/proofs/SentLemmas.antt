@@ -24,10 +24,10 @@ sent_more old between new text left less first more = (
 )
 
 -- what was left has bytes after it
-pub sent_before : (old new : Option (List ℕ)) (text left behind : List ℕ) → Sent old new text left
-    → Sent old new (text ++ behind) (left ++ behind)
-sent_before old new text left behind sent =
-    (sent.0, ap (λ all. all ++ behind) sent.1 ∙ append_assoc sent.0 left behind, sent.2)
+pub sent_before : (old new : Option (List ℕ)) (text left beyond : List ℕ) → Sent old new text left
+    → Sent old new (text ++ beyond) (left ++ beyond)
+sent_before old new text left beyond sent =
+    (sent.0, ap (λ all. all ++ beyond) sent.1 ∙ append_assoc sent.0 left beyond, sent.2)
 
 -- all that was left was written
 pub sent_rest : (old between new : Option (List ℕ)) (text left : List ℕ) → Sent old between text left
@@ -45,10 +45,10 @@ sent_part old between new text left first part = (
 )
 
 -- a part of a text is one of any text that begins with it
-pub part_before : (old new : Option (List ℕ)) (text behind : List ℕ) → AppendsPart old new text
-    → AppendsPart old new (text ++ behind)
-part_before old new text behind part =
-    (part.0, (part.1.0 ++ behind, ap (λ all. all ++ behind) part.1.1 ∙ append_assoc part.0 part.1.0 behind), part.2)
+pub part_before : (old new : Option (List ℕ)) (text beyond : List ℕ) → AppendsPart old new text
+    → AppendsPart old new (text ++ beyond)
+part_before old new text beyond part =
+    (part.0, (part.1.0 ++ beyond, ap (λ all. all ++ beyond) part.1.1 ∙ append_assoc part.0 part.1.0 beyond), part.2)
 
 -- bytes were put after a page, and then others
 pub sent_then : (old between new : Option (List ℕ)) (page first next more less : List ℕ)

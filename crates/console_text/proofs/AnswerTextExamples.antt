@@ -148,11 +148,11 @@ a_card_ends_before_its_blanks : AllRead (
 unfolding text
 a_card_ends_before_its_blanks = refl
 
-the_blank_behind_a_name_and_a_number_stays : AllRead (
+the_blank_beyond_a_name_and_a_number_stays : AllRead (
     (printed 12 1 (replicate 132 0), codes "LINE 0012 01 ") ∷
     (card (replicate 80 0), codes "CARD ") ∷ [])
 unfolding text
-the_blank_behind_a_name_and_a_number_stays = refl
+the_blank_beyond_a_name_and_a_number_stays = refl
 
 a_refusal_has_its_number_and_its_name : AllRead (
     (answer.Refused Address, codes "REFUSED 1 ADDRESS") ∷

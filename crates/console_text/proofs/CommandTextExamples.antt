@@ -28,11 +28,11 @@ plain code = record { char = code; mark = false }
 abbrev marked : ℕ → Cell
 marked code = record { char = code; mark = true }
 
-cells_stand_behind_their_address : AllRead (
+cells_stand_beyond_their_address : AllRead (
     (Deposit 700 (marked 9 ∷ plain 9 ∷ plain 9 ∷ []), codes "DEPOSIT 0700 ~999") ∷
     (Deposit 15999 (plain 49 ∷ plain 0 ∷ []), codes "DEPOSIT 15999 A ") ∷ [])
 unfolding text
-cells_stand_behind_their_address = refl
+cells_stand_beyond_their_address = refl
 
 examine_has_its_count : AllRead (
     (Examine 2 1, codes "EXAMINE 0002 1") ∷

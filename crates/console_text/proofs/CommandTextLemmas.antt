@@ -123,30 +123,30 @@ switch_parts : (n : SwitchName) (on : Bool)
 switch_parts n on = simp (append_assoc, append-nil)
 
 typed_of : (command : Command) → CanBeSaid (line.Command command)
-    → IsTyped (text_of (line.Command command)).parts (text_of (line.Command command)).behind (command_text command)
+    → IsTyped (text_of (line.Command command)).parts (text_of (line.Command command)).beyond (command_text command)
 unfolding command_text
 typed_of (Deposit address cells) can =
-    let behind = blank ∷ cells_text cells in (
+    let beyond = blank ∷ cells_text cells in (
       0,
       codes "DEPOSIT",
-      blank ∷ (digits_in 4 address ++ behind),
+      blank ∷ (digits_in 4 address ++ beyond),
       deposit_parts address cells,
       refl,
       refl,
-      (1, digits_in 4 address, behind, refl, address_typed address can.0, refl, refl),
+      (1, digits_in 4 address, beyond, refl, address_typed address can.0, refl, refl),
     )
 typed_of (Examine address count) can =
-    let behind = blank ∷ digits_in 1 count in (
+    let beyond = blank ∷ digits_in 1 count in (
       0,
       codes "EXAMINE",
-      blank ∷ (digits_in 4 address ++ behind),
+      blank ∷ (digits_in 4 address ++ beyond),
       examine_parts address count,
       refl,
       refl,
       (
         1,
         digits_in 4 address,
-        behind,
+        beyond,
         refl,
         address_typed address can.0,
         refl,
@@ -164,14 +164,14 @@ typed_of (SetI address) can = (
   last_number address 4 (address_typed address can),
 )
 typed_of (Switch n on) can =
-    let behind = blank ∷ (setting_text on ++ []) in (
+    let beyond = blank ∷ (setting_text on ++ []) in (
       0,
       codes "SWITCH",
-      blank ∷ (letter_of n ++ behind),
+      blank ∷ (letter_of n ++ beyond),
       switch_parts n on,
       refl,
       refl,
-      (1, letter_of n, behind, refl, refl, refl, (1, setting_text on, [], refl, refl, tt, (0, refl))),
+      (1, letter_of n, beyond, refl, refl, refl, (1, setting_text on, [], refl, refl, tt, (0, refl))),
     )
 typed_of (Feed card) can = (
   0,

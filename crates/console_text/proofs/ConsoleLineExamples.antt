@@ -8,7 +8,7 @@ use Rattle.machine_commands.specs.declared.command.Command.TheVariants.{LoadKey,
 use Rattle.machine_panel.specs.declared.switch_name.SwitchName.TheVariants.{A, B, C, D, E, F, G}
 use Rattle.console_text.specs.declared.line.Line.TheVariants.{Empty, Command, Quit}
 use Rattle.console_text.specs.declared.line.LineFault.TheVariants.{Word, Number, Graphic, Length, Extra}
-use Rattle.console_text.specs.Words.{word_in, behind_word, keyword_of, number_of, address_of, count_of, switch_named}
+use Rattle.console_text.specs.Words.{word_in, beyond_word, keyword_of, number_of, address_of, count_of, switch_named}
 use Rattle.console_text.specs.Words.{setting_of}
 use Rattle.console_text.specs.ConsoleLine.{Said, said_by, said_in_words, said_with, ended}
 use Rattle.machine_notation.specs.Cells.{spelled, cells_of}
@@ -19,7 +19,7 @@ use Rattle.console_text.specs.CardText.{card_of}
 -- what a line says, with all that its grammar consists of open
 says : List ℕ → Said
 unfolding said_by said_in_words said_with ended spelled cells_of chars_of card_of deposit_of examine_of start_of
-    switch_said feed_of run_of word_in behind_word keyword_of number_of address_of count_of switch_named setting_of
+    switch_said feed_of run_of word_in beyond_word keyword_of number_of address_of count_of switch_named setting_of
     graphics
 says line = said_by line
 
@@ -41,11 +41,11 @@ a_line_of_blanks_is_empty : AllSay (
 unfolding says
 a_line_of_blanks_is_empty = refl
 
-blanks_in_front_between_and_behind_part_words : AllSay (
+blanks_in_front_between_and_beyond_part_words : AllSay (
     (codes "EXAMINE 0500 2", Ok (Command (Examine 500 2))) ∷
     (codes "  EXAMINE   0500  2   ", Ok (Command (Examine 500 2))) ∷ [])
 unfolding says
-blanks_in_front_between_and_behind_part_words = refl
+blanks_in_front_between_and_beyond_part_words = refl
 
 one_cell_where_no_number_says_how_many : AllSay (
     (codes "EXAMINE 2", Ok (Command (Examine 2 1))) ∷
@@ -104,12 +104,12 @@ a_tilde_marks_the_next_cell :
 unfolding says
 a_tilde_marks_the_next_cell = refl
 
-all_behind_one_blank_is_text : AllSay (
+all_beyond_one_blank_is_text : AllSay (
     (codes "DEPOSIT 0500  A", Ok (Command (Deposit 500 (plain 0 ∷ plain 49 ∷ [])))) ∷
     (codes " DEPOSIT  500 A ", Ok (Command (Deposit 500 (plain 49 ∷ plain 0 ∷ [])))) ∷
     (codes "DEPOSIT 7 ~ ", Ok (Command (Deposit 7 (marked 0 ∷ [])))) ∷ [])
 unfolding says
-all_behind_one_blank_is_text = refl
+all_beyond_one_blank_is_text = refl
 
 forty_cells_are_the_most : AllSay (
     (codes "DEPOSIT 0 " ++ replicate 40 65, Ok (Command (Deposit 0 (replicate 40 (plain 49))))) ∷
@@ -146,12 +146,12 @@ a_tilde_without_a_graphic : AllSay (
 unfolding says
 a_tilde_without_a_graphic = refl
 
-behind_the_fortieth_cell_any_byte_is_too_many : AllSay (
+beyond_the_fortieth_cell_any_byte_is_too_many : AllSay (
     (codes "DEPOSIT 0 " ++ replicate 40 65 ++ codes "a", Err Length) ∷
     (codes "DEPOSIT 0 " ++ replicate 40 65 ++ codes "~", Err Length) ∷
     (codes "DEPOSIT 0 " ++ replicate 40 65 ++ codes " ", Err Length) ∷ [])
 unfolding says
-behind_the_fortieth_cell_any_byte_is_too_many = refl
+beyond_the_fortieth_cell_any_byte_is_too_many = refl
 
 up_to_the_fortieth_cell_a_graphic_is_missed_first : AllSay (
     (codes "DEPOSIT 0 " ++ replicate 39 65 ++ codes "aA", Err Graphic) ∷
@@ -163,12 +163,12 @@ up_to_the_fortieth_cell_a_graphic_is_missed_first = refl
 abbrev fed : List ℕ → Said
 fed chars = Ok (Command (Feed (record { 0 = chars })))
 
-the_columns_behind_a_text_are_blank : AllSay (
+the_columns_beyond_a_text_are_blank : AllSay (
     (codes "FEED A", fed (49 ∷ replicate 79 0)) ∷
     (codes " FEED A ", fed (49 ∷ replicate 79 0)) ∷
     (codes "FEED  A", fed (0 ∷ 49 ∷ replicate 78 0)) ∷ [])
 unfolding says
-the_columns_behind_a_text_are_blank = refl
+the_columns_beyond_a_text_are_blank = refl
 
 feed_alone_is_a_blank_card : AllSay (
     (codes "FEED", fed (replicate 80 0)) ∷

@@ -10,7 +10,7 @@ use Rattle.machine_commands.specs.declared.command.Command.TheVariants.{Deposit,
 use Rattle.console_text.specs.declared.line.Line.TheVariants.{Empty, Command}
 use Rattle.machine_notation.specs.Characters.{graphics_of}
 use Rattle.console_text.specs.CardText.{card_with}
-use Rattle.console_text.specs.LineText.{IsLineOf, IsExamineOf, IsTypedBehind}
+use Rattle.console_text.specs.LineText.{IsLineOf, IsExamineOf, IsTypedBeyond}
 use Rattle.console_text.specs.LineText.Text.{Columns}
 use Rattle.machine_notation.specs.Cells.{cells_text}
 
@@ -64,10 +64,10 @@ abbrev IsCharacter : Cell → Type 0
 IsCharacter cell = cell.char < 64
 
 -- after the address and one blank all is text: a blank, and 0 with a word mark
-a_text_begins_behind_one_blank :
+a_text_begins_beyond_one_blank :
     IsLineOf (Command (Deposit 7 (blank_cell ∷ marked_zero ∷ []))) (codes "DEPOSIT 7  ~0")
 unfolding digits cells_text graphics
-a_text_begins_behind_one_blank = record {
+a_text_begins_beyond_one_blank = record {
   can_be = (
     omega arith,
     omega arith,
@@ -92,11 +92,11 @@ a_and_b = 0 ∷ 49 ∷ 0 ∷ 50 ∷ []
 
 -- after FEED and one blank all is the card, and blanks after it may be typed or not
 a_card_is_typed_as_it_is :
-    (line : List ℕ) → (drop 1 line ≡ codes " A B" → IsTypedBehind (Columns (card_with a_and_b)) line)
+    (line : List ℕ) → (drop 1 line ≡ codes " A B" → IsTypedBeyond (Columns (card_with a_and_b)) line)
 unfolding graphics_of graphics
 a_card_is_typed_as_it_is line is = (a_and_b, is, refl)
 
-no_column_needs_no_blank : IsTypedBehind (Columns (card_with [])) []
+no_column_needs_no_blank : IsTypedBeyond (Columns (card_with [])) []
 unfolding graphics_of
 no_column_needs_no_blank = ([], refl, refl)
 

@@ -25,17 +25,17 @@ use Rattle.console_text.specs.ConsoleLine.{said_in_words, said_with, ended, depo
 use Rattle.machine_notation.specs.Cells.{spelled, cells_of}
 use Rattle.console_text.specs.ConsoleLine.{start_of, switch_said, feed_of, run_of, glance_of}
 use Rattle.console_text.specs.Words.{most_digits}
-use Rattle.console_text.specs.LineText.{Part, Text, IsTyped, IsTypedBehind, IsParted, CanBeSaid, text_of}
+use Rattle.console_text.specs.LineText.{Part, Text, IsTyped, IsTypedBeyond, IsParted, CanBeSaid, text_of}
 use Rattle.console_text.specs.LineText.{setting_text, one_cell}
 use Rattle.console_text.specs.LineText.Part.{Name, Numeral}
 use Rattle.console_text.specs.LineText.Text.{Blanks, Cells, Columns}
 use Rattle.machine_notation.specs.Cells.{cell_text, cells_text}
-use Rattle.console_text.specs.Words.{word_in, behind_word, name_of, keyword_of, number_of, address_of, count_of}
+use Rattle.console_text.specs.Words.{word_in, beyond_word, name_of, keyword_of, number_of, address_of, count_of}
 use Rattle.console_text.specs.Words.{letter_of, switch_named, switch_of, setting_of}
 use Rattle.console_text.proofs.CardTextLemmas.{card_of-all, graphics_again}
 use Rattle.machine_notation.proofs.SpelledLemmas.{cell_again, spelled-append, cells_of-some}
-use Rattle.console_text.proofs.WordLemmas.{Stands, IsNumeral, in_word, numeral, word_in-typed, behind_word-typed}
-use Rattle.console_text.proofs.WordLemmas.{word_in-blanks, behind_word-blanks}
+use Rattle.console_text.proofs.WordLemmas.{Stands, IsNumeral, in_word, numeral, word_in-typed, beyond_word-typed}
+use Rattle.console_text.proofs.WordLemmas.{word_in-blanks, beyond_word-blanks}
 
 -- A word is one of a line's.
 pub record IsWord (word : List ℕ) : Type 0 where
@@ -102,7 +102,7 @@ setting_is_known false = refl
 -- One word of a line, and what follows it.
 pub record Split (word rest line : List ℕ) : Type 0 where
   pub word_is : word_in line ≡ word
-  pub rest_is : behind_word line ≡ rest
+  pub rest_is : beyond_word line ≡ rest
 
 split_by : (blanks : ℕ) (word rest line : List ℕ) → line ≡ replicate blanks blank ++ (word ++ rest) → IsWord word
     → IsParted rest → Split word rest line
@@ -111,7 +111,7 @@ split_by blanks word rest line is w parted =
     record { some = w.some; whole = w.whole; line_is = is; rest_parted = parted } in
     record {
       word_is = word_in-typed blanks word rest line stands;
-      rest_is = behind_word-typed blanks word rest line stands;
+      rest_is = beyond_word-typed blanks word rest line stands;
     }
 
 -- a name that comes first
@@ -246,7 +246,7 @@ all_again (cell ∷ cells) all =
     spelled-append (cell_text cell) (flat_map cell_text cells) there ∙ rw (one, more) refl
 
 text_says : (cells : List Cell) (rest : List ℕ) → 1 ≤ length cells → length cells ≤ most_cells
-    → All (λ cell. cell.char < 64) cells → IsTypedBehind (Cells cells) rest
+    → All (λ cell. cell.char < 64) cells → IsTypedBeyond (Cells cells) rest
     → cells_of (spelled (drop 1 rest)) ≡ Ok cells
 text_says cells rest some few all t = rw (t, all_again cells all) (cells_of-some cells some few)
 
@@ -274,7 +274,7 @@ All-front P (x ∷ xs) ys all =
     All-cons P x xs (All-head P x (xs ++ ys) all) (All-front P xs ys (All-tail P x (xs ++ ys) all))
 
 feed_says : (card : Card) (rest : List ℕ) → CanBeSaid (Command (command.Feed card))
-    → IsTypedBehind (Columns card) rest
+    → IsTypedBeyond (Columns card) rest
     → feed_of rest ≡ Ok (Command (command.Feed card))
 unfolding feed_of
 feed_says card rest can t =
@@ -288,14 +288,14 @@ feed_says card rest can t =
     (ap (λ (card : Card). Ok (Command (command.Feed card))) (sym t.2))
 
 -- by its first word
-by_keyword : (k : Keyword) (behind : Text) (parts : List Part) (line : List ℕ) (said : Line)
-    → (t : IsTyped (Name (name_of k) ∷ parts) behind line)
+by_keyword : (k : Keyword) (beyond : Text) (parts : List Part) (line : List ℕ) (said : Line)
+    → (t : IsTyped (Name (name_of k) ∷ parts) beyond line)
     → said_with (Some k) t.2 ≡ Ok said → said_in_words line ≡ Ok said
-by_keyword k behind parts line said t says =
+by_keyword k beyond parts line said t says =
     said_by_keyword k t.2 line (split_name (name_of k) t.0 t.1 t.2 line (keyword_is_word k) t.3 t.4 t.5) ∙ says
 
 -- what is typed for a line is what its words say
-pub in_words : (said : Line) (line : List ℕ) → CanBeSaid said → IsTyped (text_of said).parts (text_of said).behind line
+pub in_words : (said : Line) (line : List ℕ) → CanBeSaid said → IsTyped (text_of said).parts (text_of said).beyond line
     → said_in_words line ≡ Ok said
 unfolding said_in_words said_with
 in_words Empty line can t = rw (word_in-blanks t.0 line t.1) refl
@@ -333,8 +333,8 @@ one_says address line in_range t =
     let n = numeral address t.1 (omega arith) t.4 in
     let s = split_number address t.0 t.1 t.2 line n t.3 t.5 in
     let word = word_in-blanks t.6.0 t.2 t.6.1 in
-    let behind = behind_word-blanks t.6.0 t.2 t.6.1 in
-    rw (s.word_is, s.rest_is, address_is address t.1 in_range n.says, word, behind) (ended_by_blanks _ 0 [] refl)
+    let beyond = beyond_word-blanks t.6.0 t.2 t.6.1 in
+    rw (s.word_is, s.rest_is, address_is address t.1 in_range n.says, word, beyond) (ended_by_blanks _ 0 [] refl)
 
 -- EXAMINE and an address are what its words say
 pub in_words-one : (address : ℕ) (line : List ℕ) → address < addresses

@@ -34,7 +34,7 @@ use Rattle.console_text.specs.ConsoleLine.{Said, said_in_words, said_with, ended
 use Rattle.console_text.specs.ConsoleLine.{examine_of}
 use Rattle.console_text.specs.ConsoleLine.{start_of, switch_said, feed_of, run_of, glance_of}
 use Rattle.console_text.specs.LineText.{CanBeSaid}
-use Rattle.console_text.specs.Words.{◌>>=◌, word_in, behind_word, keyword_of, number_of, address_of, count_of}
+use Rattle.console_text.specs.Words.{◌>>=◌, word_in, beyond_word, keyword_of, number_of, address_of, count_of}
 use Rattle.console_text.specs.Words.{most_digits}
 use Rattle.console_text.specs.Words.{switch_of, setting_of}
 
@@ -255,16 +255,16 @@ deposit_can : (operands : List ℕ) → IfOk (deposit_of operands) CanBeSaid
 unfolding deposit_of
 deposit_can operands =
     then_said (address_of (word_in operands)) _ (λ address at.
-    then_said (if_cells (cells_of (spelled (drop 1 (behind_word operands))))) _ (λ cells are.
-    let few = few_cells (drop 1 (behind_word operands)) cells (cells_read _ cells are) in
+    then_said (if_cells (cells_of (spelled (drop 1 (beyond_word operands))))) _ (λ cells are.
+    let few = few_cells (drop 1 (beyond_word operands)) cells (cells_read _ cells are) in
     (address_below (word_in operands) address at, few.some, few.few, few.all)))
 
 examine_can : (operands : List ℕ) → IfOk (examine_of operands) CanBeSaid
 unfolding examine_of
 examine_can operands =
     then_said (address_of (word_in operands)) _ (λ address at.
-    then_said (count_of (word_in (behind_word operands))) _ (λ count is.
-    ended_said _ _ (address_below (word_in operands) address at, count_below (word_in (behind_word operands)) count is)))
+    then_said (count_of (word_in (beyond_word operands))) _ (λ count is.
+    ended_said _ _ (address_below (word_in operands) address at, count_below (word_in (beyond_word operands)) count is)))
 
 start_can : (operands : List ℕ) → IfOk (start_of operands) CanBeSaid
 unfolding start_of
@@ -276,8 +276,8 @@ switch_can : (operands : List ℕ) → IfOk (switch_said operands) CanBeSaid
 unfolding switch_said
 switch_can operands =
     then_said (switch_of (word_in operands)) _ (λ switch named.
-    then_said (setting_of (word_in (behind_word operands))) _ (λ on is.
-    ended_said (behind_word (behind_word operands)) (Command (command.Switch switch on)) tt))
+    then_said (setting_of (word_in (beyond_word operands))) _ (λ on is.
+    ended_said (beyond_word (beyond_word operands)) (Command (command.Switch switch on)) tt))
 
 feed_can : (operands : List ℕ) → IfOk (feed_of operands) CanBeSaid
 unfolding feed_of
@@ -315,5 +315,5 @@ with_can (Some keyword.Quit) operands = ended_said operands Quit tt
 pub words_can : (line : List ℕ) → IfOk (said_in_words line) CanBeSaid
 unfolding said_in_words
 words_can line =
-    either (length (word_in line) == 0) (Ok Empty) (said_with (keyword_of (word_in line)) (behind_word line)) tt
-    (with_can (keyword_of (word_in line)) (behind_word line))
+    either (length (word_in line) == 0) (Ok Empty) (said_with (keyword_of (word_in line)) (beyond_word line)) tt
+    (with_can (keyword_of (word_in line)) (beyond_word line))

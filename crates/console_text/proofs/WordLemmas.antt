@@ -18,7 +18,7 @@ use Rattle.console_text.specs.Words.{blank}
 use Rattle.console_text.specs.LineText.{IsParted, IsTypedAs}
 use Rattle.console_text.specs.LineText.Part.{Numeral}
 use Rattle.console_text.specs.Words.{most_digits}
-use Rattle.console_text.specs.Words.{is_blank, without_blanks, word_in, behind_word, number_of}
+use Rattle.console_text.specs.Words.{is_blank, without_blanks, word_in, beyond_word, number_of}
 use Rattle.bcd_1401.specs.Digits.{is_digit, value_of}
 
 -- whether a byte is a part of a word
@@ -76,9 +76,9 @@ word_in-typed blanks word rest line s =
     let end = passing in_word word rest s.whole (parted rest s.rest_parted) in
     rw (s.line_is, all, end) (take_at word rest (length word) refl)
 
-pub behind_word-typed : (blanks : ℕ) (word rest line : List ℕ) → Stands blanks word rest line → behind_word line ≡ rest
-unfolding behind_word
-behind_word-typed blanks word rest line s =
+pub beyond_word-typed : (blanks : ℕ) (word rest line : List ℕ) → Stands blanks word rest line → beyond_word line ≡ rest
+unfolding beyond_word
+beyond_word-typed blanks word rest line s =
     let all = in_front_of blanks word rest s.some s.whole in
     let end = passing in_word word rest s.whole (parted rest s.rest_parted) in
     rw (s.line_is, all, end, drop-append_seam)
@@ -93,9 +93,9 @@ unfolding word_in
 word_in-blanks blanks line is =
     rw (is, prefix_len-replicate is_blank blanks blank refl, none_left blanks) refl
 
-pub behind_word-blanks : (blanks : ℕ) (line : List ℕ) → line ≡ replicate blanks blank → behind_word line ≡ []
-unfolding behind_word
-behind_word-blanks blanks line is =
+pub beyond_word-blanks : (blanks : ℕ) (line : List ℕ) → line ≡ replicate blanks blank → beyond_word line ≡ []
+unfolding beyond_word
+beyond_word-blanks blanks line is =
     rw (is, prefix_len-replicate is_blank blanks blank refl, none_left blanks) refl
 
 -- zeros in front don't count

@@ -11,7 +11,7 @@ use Rattle.console_text.specs.declared.line.LineFault.{LineFault}
 use Rattle.console_text.specs.declared.line.LineFault.TheVariants.{Word, Graphic, Length, Extra}
 use Rattle.console_text.specs.declared.words.Keyword.{Keyword}
 use Rattle.console_text.specs.declared.words.Keyword.TheVariants as keyword
-use Rattle.console_text.specs.Words.{◌>>=◌, word_in, behind_word, keyword_of, number_of, address_of, count_of}
+use Rattle.console_text.specs.Words.{◌>>=◌, word_in, beyond_word, keyword_of, number_of, address_of, count_of}
 use Rattle.console_text.specs.Words.{switch_of, setting_of}
 use Rattle.machine_notation.specs.Characters.{chars_of}
 use Rattle.console_text.specs.CardText.{card_of}
@@ -38,28 +38,28 @@ ended rest line = if length (word_in rest) == 0 then Ok line else Err Extra
 unfoldable pub deposit_of : List ℕ → Said
 deposit_of operands = do
   address ← address_of (word_in operands)
-  cells ← if_cells (cells_of (spelled (drop 1 (behind_word operands))))
+  cells ← if_cells (cells_of (spelled (drop 1 (beyond_word operands))))
   Ok (Command (command.Deposit address cells))
 
 -- EXAMINE a, or EXAMINE a n
 unfoldable pub examine_of : List ℕ → Said
 examine_of operands = do
   address ← address_of (word_in operands)
-  count ← count_of (word_in (behind_word operands))
-  ended (behind_word (behind_word operands)) (Command (command.Examine address count))
+  count ← count_of (word_in (beyond_word operands))
+  ended (beyond_word (beyond_word operands)) (Command (command.Examine address count))
 
 -- START a
 unfoldable pub start_of : List ℕ → Said
 start_of operands = do
   address ← address_of (word_in operands)
-  ended (behind_word operands) (Command (command.SetI address))
+  ended (beyond_word operands) (Command (command.SetI address))
 
 -- SWITCH x ON, or SWITCH x OFF
 unfoldable pub switch_said : List ℕ → Said
 switch_said operands = do
   switch ← switch_of (word_in operands)
-  on ← setting_of (word_in (behind_word operands))
-  ended (behind_word (behind_word operands)) (Command (command.Switch switch on))
+  on ← setting_of (word_in (beyond_word operands))
+  ended (beyond_word (beyond_word operands)) (Command (command.Switch switch on))
 
 -- FEED a text: all bytes after one blank are the text, and a card without a text is blank
 unfoldable pub feed_of : List ℕ → Said
@@ -71,13 +71,13 @@ feed_of operands = do
 unfoldable pub run_of : List ℕ → Said
 run_of operands = do
   limit ← number_of (word_in operands)
-  ended (behind_word operands) (Command (command.Run limit))
+  ended (beyond_word operands) (Command (command.Run limit))
 
 -- GLANCE a
 unfoldable pub glance_of : List ℕ → Said
 glance_of operands = do
   address ← address_of (word_in operands)
-  ended (behind_word operands) (Glance address)
+  ended (beyond_word operands) (Glance address)
 
 -- what a line says by its first word and what follows that
 unfoldable pub said_with : Option Keyword → List ℕ → Said
@@ -98,7 +98,7 @@ said_with (Some keyword.Quit) operands = ended operands Quit
 -- a line of blanks alone is empty
 unfoldable pub said_in_words : List ℕ → Said
 said_in_words line =
-    if length (word_in line) == 0 then Ok Empty else said_with (keyword_of (word_in line)) (behind_word line)
+    if length (word_in line) == 0 then Ok Empty else said_with (keyword_of (word_in line)) (beyond_word line)
 
 -- the most bytes that a line has
 abbrev pub most_line_bytes : ℕ

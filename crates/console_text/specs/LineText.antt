@@ -32,10 +32,10 @@ pub data Text : Type 0 where
 -- what is typed: its parts, and what follows them
 pub record LineText : Type 0 where
   pub parts : List Part
-  pub behind : Text
+  pub beyond : Text
 
 abbrev pub words_alone : List Part → LineText
-words_alone parts = record { parts = parts; behind = Blanks }
+words_alone parts = record { parts = parts; beyond = Blanks }
 
 -- ON, or OFF
 abbrev pub setting_text : Bool → List ℕ
@@ -46,14 +46,14 @@ setting_text false = codes "OFF"
 abbrev pub text_of : Line → LineText
 text_of line.Empty = words_alone []
 text_of (line.Command (command.Deposit address cells)) =
-    record { parts = Name (codes "DEPOSIT") ∷ Numeral address ∷ []; behind = Cells cells }
+    record { parts = Name (codes "DEPOSIT") ∷ Numeral address ∷ []; beyond = Cells cells }
 text_of (line.Command (command.Examine address count)) =
     words_alone (Name (codes "EXAMINE") ∷ Numeral address ∷ Numeral count ∷ [])
 text_of (line.Command command.Registers) = words_alone (Name (codes "REGS") ∷ [])
 text_of (line.Command (command.SetI address)) = words_alone (Name (codes "START") ∷ Numeral address ∷ [])
 text_of (line.Command (command.Switch n on)) =
     words_alone (Name (codes "SWITCH") ∷ Name (letter_of n) ∷ Name (setting_text on) ∷ [])
-text_of (line.Command (command.Feed card)) = record { parts = Name (codes "FEED") ∷ []; behind = Columns card }
+text_of (line.Command (command.Feed card)) = record { parts = Name (codes "FEED") ∷ []; beyond = Columns card }
 text_of (line.Command command.LoadKey) = words_alone (Name (codes "LOAD") ∷ [])
 text_of (line.Command (command.Run limit)) = words_alone (Name (codes "RUN") ∷ Numeral limit ∷ [])
 text_of (line.Command command.TakeLine) = words_alone (Name (codes "LINE") ∷ [])
@@ -74,18 +74,18 @@ IsParted (byte ∷ bytes) = byte ≡ blank
 
 -- after its parts a line has blanks alone, or one blank and cells by their graphics, or one blank and as many columns
 -- of a card as one likes, if the others are blank; if no column is typed the blank may be missing
-abbrev pub IsTypedBehind : Text → List ℕ → Type 0
-IsTypedBehind Blanks line = (blanks : ℕ) × (line ≡ replicate blanks blank)
-IsTypedBehind (Cells cells) line = line ≡ blank ∷ cells_text cells
-IsTypedBehind (Columns card) line =
+abbrev pub IsTypedBeyond : Text → List ℕ → Type 0
+IsTypedBeyond Blanks line = (blanks : ℕ) × (line ≡ replicate blanks blank)
+IsTypedBeyond (Cells cells) line = line ≡ blank ∷ cells_text cells
+IsTypedBeyond (Columns card) line =
     (columns : List ℕ) × (drop 1 line ≡ graphics_of columns) × (card ≡ card_with columns)
 
 -- these parts are typed, each after blanks, and separated from what follows; then comes what follows them
 abbrev pub IsTyped : List Part → Text → List ℕ → Type 0
-IsTyped [] behind line = IsTypedBehind behind line
-IsTyped (part ∷ parts) behind line =
+IsTyped [] beyond line = IsTypedBeyond beyond line
+IsTyped (part ∷ parts) beyond line =
     (blanks : ℕ) × (word : List ℕ) × (rest : List ℕ) × (line ≡ replicate blanks blank ++ (word ++ rest))
-    × IsTypedAs part word × IsParted rest × IsTyped parts behind rest
+    × IsTypedAs part word × IsParted rest × IsTyped parts beyond rest
 
 -- what a line can say: an address below 16,000, 1 to 40 cells and a card of the 64 characters, a number of up to seven
 -- digits
@@ -110,7 +110,7 @@ CanBeSaid line.Quit = Unit {0}
 pub record IsLineOf (said : Line) (line : List ℕ) : Type 0 where
   pub can_be : CanBeSaid said
   pub short : length line ≤ most_line_bytes
-  pub typed : IsTyped (text_of said).parts (text_of said).behind line
+  pub typed : IsTyped (text_of said).parts (text_of said).beyond line
 
 -- what EXAMINE says if no number says how many cells
 abbrev pub one_cell : ℕ → Line

@@ -17,8 +17,8 @@ use Rattle.console_text.specs.declared.words.Keyword.TheVariants.{Run, Line, Car
 infixl 10 ◌>>=◌
 -- what is on the left, and if it has no fault, what follows it
 abbrev pub ◌>>=◌ : {A B : Type 0} → Result A LineFault → (A → Result B LineFault) → Result B LineFault
-Ok value >>= behind = behind value
-Err fault >>= behind = Err fault
+Ok value >>= beyond = beyond value
+Err fault >>= beyond = Err fault
 
 -- it parts words
 abbrev pub blank : ℕ
@@ -37,8 +37,8 @@ unfoldable pub word_in : List ℕ → List ℕ
 word_in text = before_first is_blank (without_blanks text)
 
 -- what follows the first word: nothing, or a blank and what follows it
-unfoldable pub behind_word : List ℕ → List ℕ
-behind_word text = drop (position_or_len is_blank (without_blanks text)) (without_blanks text)
+unfoldable pub beyond_word : List ℕ → List ℕ
+beyond_word text = drop (position_or_len is_blank (without_blanks text)) (without_blanks text)
 
 -- the words that a line may begin with
 abbrev pub name_of : Keyword → List ℕ

@@ -152,9 +152,9 @@ fn end(rest: &[u8], line: Line) -> Result<Line, LineFault>
 fn deposit(operands: &[u8]) -> Result<Line, LineFault>
     ensures { result ≡ deposit_of operands.now }
 {
-    let (word, behind) = split_word(operands);
+    let (word, beyond) = split_word(operands);
     let address = address(word)?;
-    let cells = cells(behind.get(1..).unwrap_or(&[]))?;
+    let cells = cells(beyond.get(1..).unwrap_or(&[]))?;
     Ok(Line::Command(Command::Deposit { address, cells }))
 }
 
@@ -163,11 +163,11 @@ fn deposit(operands: &[u8]) -> Result<Line, LineFault>
 fn examine(operands: &[u8]) -> Result<Line, LineFault>
     ensures { result ≡ examine_of operands.now }
 {
-    let (word, behind) = split_word(operands);
+    let (word, beyond) = split_word(operands);
     let address = address(word)?;
-    let (word, behind) = split_word(behind);
+    let (word, beyond) = split_word(beyond);
     let count = count(word)?;
-    end(behind, Line::Command(Command::Examine { address, count }))
+    end(beyond, Line::Command(Command::Examine { address, count }))
 }
 
 /// START a.
@@ -175,9 +175,9 @@ fn examine(operands: &[u8]) -> Result<Line, LineFault>
 fn start(operands: &[u8]) -> Result<Line, LineFault>
     ensures { result ≡ start_of operands.now }
 {
-    let (word, behind) = split_word(operands);
+    let (word, beyond) = split_word(operands);
     let address = address(word)?;
-    end(behind, Line::Command(Command::SetI { address }))
+    end(beyond, Line::Command(Command::SetI { address }))
 }
 
 /// SWITCH x ON, or SWITCH x OFF.
@@ -185,11 +185,11 @@ fn start(operands: &[u8]) -> Result<Line, LineFault>
 fn switch_line(operands: &[u8]) -> Result<Line, LineFault>
     ensures { result ≡ switch_said operands.now }
 {
-    let (word, behind) = split_word(operands);
+    let (word, beyond) = split_word(operands);
     let n = switch(word)?;
-    let (word, behind) = split_word(behind);
+    let (word, beyond) = split_word(beyond);
     let on = setting(word)?;
-    end(behind, Line::Command(Command::Switch { n, on }))
+    end(beyond, Line::Command(Command::Switch { n, on }))
 }
 
 /// FEED a text: all bytes after one blank are the text, and a card without a text is blank.
@@ -206,9 +206,9 @@ fn feed(operands: &[u8]) -> Result<Line, LineFault>
 fn run(operands: &[u8]) -> Result<Line, LineFault>
     ensures { result ≡ run_of operands.now }
 {
-    let (word, behind) = split_word(operands);
+    let (word, beyond) = split_word(operands);
     let limit = number(word)?;
-    end(behind, Line::Command(Command::Run { limit }))
+    end(beyond, Line::Command(Command::Run { limit }))
 }
 
 /// GLANCE a.
@@ -216,9 +216,9 @@ fn run(operands: &[u8]) -> Result<Line, LineFault>
 fn glance(operands: &[u8]) -> Result<Line, LineFault>
     ensures { result ≡ glance_of operands.now }
 {
-    let (word, behind) = split_word(operands);
+    let (word, beyond) = split_word(operands);
     let address = address(word)?;
-    end(behind, Line::Glance(address))
+    end(beyond, Line::Glance(address))
 }
 
 /// The cells that a text spells.

@@ -1,7 +1,7 @@
 //! The words of a line, and the numbers among them.
 ghost use Rattle.std.specs.Prelude.{◌≡◌, ◌≤◌, length};
 ghost use Rattle.std.specs.List.{prefix_len, position_or_len};
-ghost use Rattle.console_text.specs.Words.{is_blank, word_in, behind_word, name_of, keyword_of, number_of};
+ghost use Rattle.console_text.specs.Words.{is_blank, word_in, beyond_word, name_of, keyword_of, number_of};
 ghost use Rattle.console_text.specs.Words.{address_of, count_of, letter_of, switch_named, switch_of, setting_of};
 
 use crate::line::LineFault;
@@ -107,10 +107,10 @@ fn bytes_before_blank(text: &[u8]) -> usize
 }
 
 /// The first word of a text, empty if there are only blanks, and what follows it.
-#[tactic(auto, unfolding(crate::specs::Words::word_in, crate::specs::Words::behind_word))]
+#[tactic(auto, unfolding(crate::specs::Words::word_in, crate::specs::Words::beyond_word))]
 pub(crate) fn split_word(text: &[u8]) -> (&[u8], &[u8])
     ensures word { result.0.now ≡ word_in text.now }
-    ensures behind { result.1.now ≡ behind_word text.now }
+    ensures beyond { result.1.now ≡ beyond_word text.now }
 {
     let text = &text[blanks_in_front(text)..];
     text.split_at(bytes_before_blank(text))

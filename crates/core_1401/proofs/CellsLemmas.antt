@@ -10,7 +10,7 @@ pub in_front : (cells front : List Cell) → front ≡ cells → 0 < length cell
     → IsHeld (record { cells = front ++ drop (length cells) (replicate most_cells blank); len = length cells })
 in_front cells front e some most =
     let len : length front ≡ length cells = ap length e in
-    let behind : drop (length cells) (replicate most_cells blank) ≡ replicate (most_cells - length cells) blank =
+    let after : drop (length cells) (replicate most_cells blank) ≡ replicate (most_cells - length cells) blank =
     drop-replicate (length cells) most_cells blank in
     record {
       some = some;
@@ -18,9 +18,9 @@ in_front cells front e some most =
       room = omega (
         arith,
         length-append front (drop (length cells) (replicate most_cells blank)),
-        ap length behind,
+        ap length after,
         length-replicate (most_cells - length cells) blank,
         len,
       );
-      blanks = drop_at front (drop (length cells) (replicate most_cells blank)) (length cells) len ∙ behind;
+      blanks = drop_at front (drop (length cells) (replicate most_cells blank)) (length cells) len ∙ after;
     }

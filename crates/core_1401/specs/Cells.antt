@@ -28,7 +28,7 @@ holding cells = record { cells = cells ++ replicate (most_cells - length cells) 
 pub holding_again : (c : Inside) → IsHeld c → holding (held_cells c) ≡ c
 holding_again c h =
     let len : length (take c.len c.cells) ≡ c.len = omega (arith, length-take c.len c.cells, h.most, h.room) in
-    let behind : take c.len c.cells ++ replicate (most_cells - c.len) blank ≡ c.cells =
+    let after : take c.len c.cells ++ replicate (most_cells - c.len) blank ≡ c.cells =
     ap (λ (more : List Cell). take c.len c.cells ++ more) (sym h.blanks) ∙ take-append-drop c.len c.cells in
     let first : Inside = record { cells = take c.len c.cells ++ replicate (most_cells - c.len) blank; len = c.len } in
     ap (λ (n : ℕ). let made : Inside = record {
@@ -36,4 +36,4 @@ holding_again c h =
           (most_cells - n) blank;
       len = n;
     } in made) len
-    ∙ ap (λ (cells : List Cell). let made : Inside = record { cells = cells; len = c.len } in made) behind
+    ∙ ap (λ (cells : List Cell). let made : Inside = record { cells = cells; len = c.len } in made) after

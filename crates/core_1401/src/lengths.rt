@@ -16,9 +16,9 @@ impl Core {
         ensures value { result ≡ field_len_of self.now at }
         ensures bounds { IfSome result (λ n. (0 < n) × (n ≤ at + 1)) }
     {
-        let behind = first_mark(&self.words, usize::from(at));
-        if behind <= usize::from(at) {
-            Some((behind + 1) as u16)
+        let distance = first_mark(&self.words, usize::from(at));
+        if distance <= usize::from(at) {
+            Some((distance + 1) as u16)
         } else {
             None
         }
@@ -39,9 +39,9 @@ impl Core {
             ((cell_at self.now (a + 1 - n)).mark || (cell_at self.now (b + 1 - n)).mark) ≡ true) }
     {
         let (a, b) = (usize::from(a), usize::from(b));
-        let behind = first_pair(&self.words, a, b);
-        if behind <= a && behind <= b {
-            Some((behind + 1) as u16)
+        let distance = first_pair(&self.words, a, b);
+        if distance <= a && distance <= b {
+            Some((distance + 1) as u16)
         } else {
             None
         }

@@ -17,13 +17,13 @@ impl Core {
     pub fn mark_words(&self) -> &[u64]
         ensures { AreMarkWords self.now result.now }
     {
-        behind_first(&self.words, (self.chars.len() + 63) / 64)
+        beyond_first(&self.words, (self.chars.len() + 63) / 64)
     }
 }
 
 /// This many words after the first.
 #[inline(always)]
-fn behind_first(words: &[u64], count: usize) -> &[u64]
+fn beyond_first(words: &[u64], count: usize) -> &[u64]
     requires { count < length words.now }
     ensures lent { result.now ≡ take count (drop 1 words.now) }
     ensures within { count < length words.now }

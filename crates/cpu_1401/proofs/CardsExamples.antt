@@ -51,10 +51,10 @@ b_after char =
       devices = record no_cards { hopper = a_card ∷ [] };
     })).state.b
 
-b_is_the_place_behind_the_last_area : (b_after 1 ≡ 81) × (b_after 2 ≡ 333) × (b_after 3 ≡ 81) × (b_after 4 ≡ 181)
+b_is_the_place_beyond_the_last_area : (b_after 1 ≡ 81) × (b_after 2 ≡ 333) × (b_after 3 ≡ 81) × (b_after 4 ≡ 181)
     × (b_after 5 ≡ 181) × (b_after 6 ≡ 181) × (b_after 7 ≡ 181)
 unfolding step graphics
-b_is_the_place_behind_the_last_area = (refl, refl, refl, refl, refl, refl, refl)
+b_is_the_place_beyond_the_last_area = (refl, refl, refl, refl, refl, refl, refl)
 
 marks_stay_under_a_card : with_chars_from (plain 33 ∷ marked 33 ∷ plain 33 ∷ []) 1 (49 ∷ 50 ∷ []) ≡ plain 33 ∷ marked 49
     ∷ plain 50 ∷ []

@@ -24,10 +24,10 @@ one_address_goes_into_both_registers : step (with_program set_mark 0) ≡ record
 unfolding step graphics
 one_address_goes_into_both_registers = refl
 
-a_halt_goes_on_behind_it : step (with_program set_mark 4)
+a_halt_goes_on_beyond_it : step (with_program set_mark 4)
     ≡ record { state = with_program set_mark 5; stop = Some stop.Halt }
 unfolding step graphics
-a_halt_goes_on_behind_it = refl
+a_halt_goes_on_beyond_it = refl
 
 no_mark_no_instruction : step (with_program set_mark 1)
     ≡ record { state = with_program set_mark 1; stop = Some stop.NoMark }

@@ -46,14 +46,14 @@ abbrev pub print_positions : ℕ
 print_positions = 132
 
 -- the places after the areas, one of which an operation leaves in the B register
-abbrev pub behind_read_area : ℕ
-behind_read_area = read_area + card_columns
+abbrev pub beyond_read_area : ℕ
+beyond_read_area = read_area + card_columns
 
-abbrev pub behind_punch_area : ℕ
-behind_punch_area = punch_area + card_columns
+abbrev pub beyond_punch_area : ℕ
+beyond_punch_area = punch_area + card_columns
 
-abbrev pub behind_print_area : ℕ
-behind_print_area = print_area + print_positions
+abbrev pub beyond_print_area : ℕ
+beyond_print_area = print_area + print_positions
 
 -- what is printed: the characters of the print area
 abbrev pub characters_line : Storage → List ℕ
@@ -153,13 +153,13 @@ asks work storage =
     }
 
 -- the place after the area of the last that is done
-abbrev pub behind_last : CardWork → ℕ
-behind_last work =
-    if work.punches then behind_punch_area else (if work.reads then behind_read_area else behind_print_area)
+abbrev pub beyond_last : CardWork → ℕ
+beyond_last work =
+    if work.punches then beyond_punch_area else (if work.reads then beyond_read_area else beyond_print_area)
 
 -- an operation that does such work
 abbrev pub after_work : CardWork → Instruction → State → Stepped
-after_work work this s = after_cards (asks work s.storage) (behind_last work) this s
+after_work work this s = after_cards (asks work s.storage) (beyond_last work) this s
 
 -- whether an instruction of the printer with this length has a d-character
 abbrev pub has_d : ℕ → Bool
@@ -183,7 +183,7 @@ lozenge = 60
 abbrev pub after_write : Instruction → State → Stepped
 after_write this s =
     if has_d this.len && not (this.d == lozenge) then stopped stop.DChar s
-    else after_cards (line_alone (has_d this.len) s.storage) behind_print_area this s
+    else after_cards (line_alone (has_d this.len) s.storage) beyond_print_area this s
 
 -- the stop of a carriage that can't be controlled: the one of the same name
 abbrev pub control_stop : ControlFault → Stop

@@ -6,7 +6,7 @@ ghost use Rattle.devices_1401.specs.Carriage.{controlled};
 ghost use Rattle.devices_1401.specs.Devices.{is_full};
 ghost use Rattle.cpu_1401.specs.CardsAndPrinter.{after_cards, after_control, after_write, after_work, has_d};
 ghost use Rattle.cpu_1401.specs.CardsAndPrinter.{first_io_stop};
-ghost use Rattle.cpu_1401.specs.CardsAndPrinter.{behind_print_area, line_alone};
+ghost use Rattle.cpu_1401.specs.CardsAndPrinter.{beyond_print_area, line_alone};
 ghost use Rattle.fields_1401.specs.Places.{marks_of};
 ghost use Rattle.cpu_1401.specs.CardsAndPrinter.{with_chars_from, with_line, with_punch, with_read};
 
@@ -33,7 +33,7 @@ impl Machine {
         ensures size { length self.new.storage ≡ length self.old.storage }
     {
         let request = IoRequest::of(&self.core, work);
-        self.carry_cards(this, &request, work.behind_last())
+        self.carry_cards(this, &request, work.beyond_last())
     }
 
     /// Writes a line: the characters of the print area, or its word marks if the d-character is the lozenge.
@@ -59,9 +59,9 @@ impl Machine {
         requires a { this.a < addresses }
         requires next { this.next < addresses }
         ensures stop { let request = line_alone marks self.old.storage in
-            result ≡ (after_cards request behind_print_area this self.old).stop }
+            result ≡ (after_cards request beyond_print_area this self.old).stop }
         ensures state { let request = line_alone marks self.old.storage in
-            self.new ≡ (after_cards request behind_print_area this self.old).state }
+            self.new ≡ (after_cards request beyond_print_area this self.old).state }
         ensures size { length self.new.storage ≡ length self.old.storage }
     {
         let request = IoRequest::to_write(&self.core, marks);

@@ -1,7 +1,7 @@
 //! What an operation asks of the card reader, the punch and the printer.
 ghost use Rattle.std.specs.Prelude.{◌≡◌, ◌<◌};
 ghost use Rattle.core_1401.specs.Address.{addresses};
-ghost use Rattle.cpu_1401.specs.CardsAndPrinter.{asks, behind_last, card_of, characters_line, line_alone, mark_char};
+ghost use Rattle.cpu_1401.specs.CardsAndPrinter.{asks, beyond_last, card_of, characters_line, line_alone, mark_char};
 ghost use Rattle.cpu_1401.specs.CardsAndPrinter.{marks_line};
 
 use crate::areas::{
@@ -66,8 +66,8 @@ impl CardWork {
     };
 
     /// The place after the area of the last that is done, which the B register is left with.
-    pub fn behind_last(self) -> u16
-        ensures value { result ≡ behind_last self }
+    pub fn beyond_last(self) -> u16
+        ensures value { result ≡ beyond_last self }
         ensures range { result < addresses }
     {
         if self.punches {

@@ -113,11 +113,11 @@ impl Machine {
         ensures same { self.new ≡ self.old }
     {
         let said = self.decode_anew()?;
-        let behind = self.i + said.len;
-        let next = if behind < ADDRESSES {
-            behind
+        let beyond = self.i + said.len;
+        let next = if beyond < ADDRESSES {
+            beyond
         } else {
-            behind - ADDRESSES
+            beyond - ADDRESSES
         };
         self.with_places(said.operation, self.instruction(&said, next))
     }

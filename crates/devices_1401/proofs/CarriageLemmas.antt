@@ -31,7 +31,7 @@ lines_to-below position line further most =
 -- to another line, on the next form
 pub lines_to-next_form : (position line : ℕ) → line ≤ position % 66 + 1 → 1 ≤ line → lines_to position line
     ≡ line + 66 - (position % 66 + 1)
-lines_to-next_form position line behind least =
+lines_to-next_form position line beyond least =
     lines_to_is position line (line + 66 - (position % 66 + 1)) (omega arith) (omega arith)
     (λ k some lt. ne_eqb ((position + k) % 66 + 1) line (λ e. omega arith))
     (eq-eqb ((position + (line + 66 - (position % 66 + 1))) % 66 + 1) line (omega arith))

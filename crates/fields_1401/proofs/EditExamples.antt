@@ -113,10 +113,10 @@ unfolding edited before_significant limit_of chars_of_graphics graphics
 a_comma_from_a = refl
 
 -- the second comma is to the right of the limit
-a_comma_behind_the_last_zero : edited (chars_of_graphics (codes " ,0, ")) (chars_of_graphics (codes "000")) Plus
+a_comma_beyond_the_last_zero : edited (chars_of_graphics (codes " ,0, ")) (chars_of_graphics (codes "000")) Plus
     ≡ chars_of_graphics (codes "   ,0")
 unfolding edited before_significant limit_of chars_of_graphics graphics
-a_comma_behind_the_last_zero = refl
+a_comma_beyond_the_last_zero = refl
 
 -- the first comma is to the left of the 1
 the_first_significant_place_ends_it : edited (chars_of_graphics (codes " ,0, ")) (chars_of_graphics (codes "012")) Plus
@@ -155,10 +155,10 @@ unfolding edited before_significant limit_of chars_of_graphics graphics
 a_blank_from_a_is_not_significant = refl
 
 -- also if A is minus
-a_comma_behind_all_goes : edited (chars_of_graphics (codes "  ,")) (chars_of_graphics (codes "12")) Minus
+a_comma_beyond_all_goes : edited (chars_of_graphics (codes "  ,")) (chars_of_graphics (codes "12")) Minus
     ≡ chars_of_graphics (codes "12 ")
 unfolding edited before_significant limit_of chars_of_graphics graphics
-a_comma_behind_all_goes = refl
+a_comma_beyond_all_goes = refl
 
 -- without a zero in the control word
 other_characters_stay : edited (chars_of_graphics (codes "$  .  *")) (chars_of_graphics (codes "0123")) Plus

@@ -12,7 +12,7 @@ use Rattle.std.proofs.lemmas.List.Sums.{sum_by-drop_more, position_or_len_is, su
 use Rattle.bcd_1401.specs.declared.cell.Cell.{Cell}
 use Rattle.core_1401.specs.Storage.{Storage, cell_at, with_char}
 use Rattle.fields_1401.specs.Across.{chars_across, units_unzoned, char_to, with_across, IsSameOutside, IsUnmarked}
-use Rattle.fields_1401.specs.Edit.{is_replaceable, taken_from, taken_by, replaceable_behind}
+use Rattle.fields_1401.specs.Edit.{is_replaceable, taken_from, taken_by, replaceable_beyond}
 use Rattle.fields_1401.specs.Edit.{is_significant, before_significant, limit_of, is_suppressed, is_shared, shown}
 use Rattle.fields_1401.specs.Edit.{shown_at, edited, taken_down, unsuppressed_at, unsuppressed, without_zero}
 use Rattle.fields_1401.specs.Edit.{replaceable_in, rules_of, sign_at, suppressed_to, unsuppressed_place}
@@ -33,32 +33,32 @@ replaceable_here word i within e =
     sum_by-drop_more (λ x. cond (is_replaceable x) 1 0) word i 0 within
     ∙ ap (λ b. cond b 1 0 + count_by is_replaceable (drop (i + 1) word)) e ∙ omega arith
 
-pub replaceable_beyond : (word : List ℕ) (i : ℕ) → i < length word → is_replaceable (get_or word i 0) ≡ false
+pub replaceable_outside : (word : List ℕ) (i : ℕ) → i < length word → is_replaceable (get_or word i 0) ≡ false
     → count_by is_replaceable (drop i word) ≡ count_by is_replaceable (drop (i + 1) word)
-replaceable_beyond word i within e =
+replaceable_outside word i within e =
     sum_by-drop_more (λ x. cond (is_replaceable x) 1 0) word i 0 within
     ∙ ap (λ b. cond b 1 0 + count_by is_replaceable (drop (i + 1) word)) e ∙ omega arith
 
 -- a replaceable place with fewer than t after it takes one of t characters
-pub takes_one : (digits : List ℕ) (own behind t : ℕ) → length digits ≡ t → is_replaceable own ≡ true → behind < t
-    → Some (get_or digits (t - 1 - behind) 0) ≡ taken_from digits own behind
-takes_one digits own behind t size replaceable lt =
-    ap (λ n. Some (get_or digits (n - 1 - behind) 0)) (sym size)
+pub takes_one : (digits : List ℕ) (own beyond t : ℕ) → length digits ≡ t → is_replaceable own ≡ true → beyond < t
+    → Some (get_or digits (t - 1 - beyond) 0) ≡ taken_from digits own beyond
+takes_one digits own beyond t size replaceable lt =
+    ap (λ n. Some (get_or digits (n - 1 - beyond) 0)) (sym size)
     ∙ sym (cond-true (is_replaceable own
-    && nat_lt behind (length digits)) _ _
-    (and_from (is_replaceable own) (nat_lt behind (length digits)) replaceable
-    (lt-ltb behind (length digits) (omega arith))))
+    && nat_lt beyond (length digits)) _ _
+    (and_from (is_replaceable own) (nat_lt beyond (length digits)) replaceable
+    (lt-ltb beyond (length digits) (omega arith))))
 
 -- another place takes none
-pub takes_none : (digits : List ℕ) (own behind t : ℕ) → length digits ≡ t → (is_replaceable own ≡ false) ⊎ (t ≤ behind)
-    → None ≡ taken_from digits own behind
-takes_none digits own behind t size (inl fails) =
+pub takes_none : (digits : List ℕ) (own beyond t : ℕ) → length digits ≡ t → (is_replaceable own ≡ false) ⊎ (t ≤ beyond)
+    → None ≡ taken_from digits own beyond
+takes_none digits own beyond t size (inl fails) =
     sym (cond-false (is_replaceable own
-    && nat_lt behind (length digits)) _ _ (and_left (is_replaceable own) (nat_lt behind (length digits)) fails))
-takes_none digits own behind t size (inr le) =
+    && nat_lt beyond (length digits)) _ _ (and_left (is_replaceable own) (nat_lt beyond (length digits)) fails))
+takes_none digits own beyond t size (inr le) =
     sym (cond-false (is_replaceable own
-    && nat_lt behind (length digits)) _ _
-    (and_right (is_replaceable own) (nat_lt behind (length digits)) (le-ltb behind (length digits) (omega arith))))
+    && nat_lt beyond (length digits)) _ _
+    (and_right (is_replaceable own) (nat_lt beyond (length digits)) (le-ltb beyond (length digits) (omega arith))))
 
 -- how many places are to the left of the first significant one
 pub before_significant_is : (word digits : List ℕ) (i : ℕ) → i ≤ length word
@@ -81,7 +81,7 @@ pub limit_is : (word : List ℕ) (n : ℕ) → n ≤ length word
     → (0 < n → not (get_or word (n - 1) 0 == zero_char) ≡ false) → limit_of word ≡ n
 unfolding limit_of
 limit_is word n le none here =
-    let behind = suffix_len_is (λ char. not (char == zero_char)) word n 0 le none here in
+    let beyond = suffix_len_is (λ char. not (char == zero_char)) word n 0 le none here in
     omega arith
 
 -- left of both is left of the lesser
@@ -119,17 +119,17 @@ edited_put s t a b taken n put b_in above =
     }
 
 -- what a place shows before anything is suppressed, by what the rules go by
-pub shown_place : (word digits : List ℕ) (sign : Sign) (j : ℕ) (rules : Rules) (behind : ℕ) (taken : Option ℕ) (own : ℕ)
-    → j < length word → rules ≡ rules_of word digits sign → behind ≡ replaceable_behind word j
+pub shown_place : (word digits : List ℕ) (sign : Sign) (j : ℕ) (rules : Rules) (beyond : ℕ) (taken : Option ℕ) (own : ℕ)
+    → j < length word → rules ≡ rules_of word digits sign → beyond ≡ replaceable_beyond word j
     → taken ≡ taken_by word digits j → own ≡ get_or word j 0
-    → shown rules (unsuppressed_place own behind) taken ≡ get_or (unsuppressed word digits sign) j 0
+    → shown rules (unsuppressed_place own beyond) taken ≡ get_or (unsuppressed word digits sign) j 0
 unfolding unsuppressed
-shown_place word digits sign j rules behind taken own within e_rules e_behind e_taken e_own =
+shown_place word digits sign j rules beyond taken own within e_rules e_beyond e_taken e_own =
     let full : Rules = rules_of word digits sign in
-    ap (λ (each : Rules). shown each (unsuppressed_place own behind) taken) e_rules
-    ∙ ap (λ k. shown full (unsuppressed_place own k) taken) e_behind
-    ∙ ap (λ (o : Option ℕ). shown full (unsuppressed_place own (replaceable_behind word j)) o) e_taken
-    ∙ ap (λ k. shown full (unsuppressed_place k (replaceable_behind word j)) (taken_by word digits j)) e_own
+    ap (λ (each : Rules). shown each (unsuppressed_place own beyond) taken) e_rules
+    ∙ ap (λ k. shown full (unsuppressed_place own k) taken) e_beyond
+    ∙ ap (λ (o : Option ℕ). shown full (unsuppressed_place own (replaceable_beyond word j)) o) e_taken
+    ∙ ap (λ k. shown full (unsuppressed_place k (replaceable_beyond word j)) (taken_by word digits j)) e_own
     ∙ sym (get_or-map-range_with_len (unsuppressed_at word digits sign) 0 (length word) j j 0 within (omega arith))
 
 -- what the rules go by
@@ -149,10 +149,10 @@ unfolding unsuppressed
 length-unsuppressed word digits sign = length-map-range_with_len (unsuppressed_at word digits sign) 0 (length word)
 
 -- what a place takes, by its own character and by those right of it
-pub takes_here : (word digits : List ℕ) (j own behind : ℕ) (taken : Option ℕ) → own ≡ get_or word j 0
-    → behind ≡ replaceable_behind word j → taken ≡ taken_from digits own behind → taken ≡ taken_by word digits j
-takes_here word digits j own behind taken e_own e_behind e_taken =
-    e_taken ∙ ap (λ k. taken_from digits k behind) e_own ∙ ap (taken_from digits (get_or word j 0)) e_behind
+pub takes_here : (word digits : List ℕ) (j own beyond : ℕ) (taken : Option ℕ) → own ≡ get_or word j 0
+    → beyond ≡ replaceable_beyond word j → taken ≡ taken_from digits own beyond → taken ≡ taken_by word digits j
+takes_here word digits j own beyond taken e_own e_beyond e_taken =
+    e_taken ∙ ap (λ k. taken_from digits k beyond) e_own ∙ ap (taken_from digits (get_or word j 0)) e_beyond
 
 -- what is suppressed of a character that was taken and isn't significant, and of one of the control word
 taken_suppressed : (char : ℕ) → is_significant (Some char) ≡ false
@@ -160,11 +160,11 @@ taken_suppressed : (char : ℕ) → is_significant (Some char) ≡ false
 taken_suppressed char none = grind (arith, nat_tests)
 
 abbrev kept_by : Bool → Bool → Bool → Bool → ℕ → ℕ
-kept_by left behind part suppressed own =
-    if is_replaceable own || (own == 48 || ((own == 27 && (left || (behind || suppressed))) || part)) then 0 else own
+kept_by left beyond part suppressed own =
+    if is_replaceable own || (own == 48 || ((own == 27 && (left || (beyond || suppressed))) || part)) then 0 else own
 
-kept_suppressed : (left behind part : Bool) (own : ℕ) → kept_by left behind part true own
-    ≡ without_zero (kept_by left behind part false own)
+kept_suppressed : (left beyond part : Bool) (own : ℕ) → kept_by left beyond part true own
+    ≡ without_zero (kept_by left beyond part false own)
 kept_suppressed true true true own = grind (arith, nat_tests)
 kept_suppressed true true false own = grind (arith, nat_tests)
 kept_suppressed true false true own = grind (arith, nat_tests)
@@ -174,13 +174,13 @@ kept_suppressed false true false own = grind (arith, nat_tests)
 kept_suppressed false false true own = grind (arith, nat_tests)
 kept_suppressed false false false own = grind (arith, nat_tests)
 
-pub suppressed_shown : (rules : Rules) (own behind : ℕ) (taken : Option ℕ) → is_significant taken ≡ false
-    → shown rules (record { char = own; behind = behind; suppressed = true }) taken
-    ≡ without_zero (shown rules (unsuppressed_place own behind) taken)
-suppressed_shown rules own behind (Some char) none = taken_suppressed char none
-suppressed_shown rules own behind None none =
-    kept_suppressed (is_left_over rules behind) (behind == 0)
-    (is_sign_char own && is_sign_blanked rules.sign behind) own
+pub suppressed_shown : (rules : Rules) (own beyond : ℕ) (taken : Option ℕ) → is_significant taken ≡ false
+    → shown rules (record { char = own; beyond = beyond; suppressed = true }) taken
+    ≡ without_zero (shown rules (unsuppressed_place own beyond) taken)
+suppressed_shown rules own beyond (Some char) none = taken_suppressed char none
+suppressed_shown rules own beyond None none =
+    kept_suppressed (is_left_over rules beyond) (beyond == 0)
+    (is_sign_char own && is_sign_blanked rules.sign beyond) own
 
 -- no place left of the first significant one is significant
 pub none_significant : (word digits : List ℕ) (j : ℕ) → j < length word → j < before_significant word digits
@@ -200,7 +200,7 @@ unfolding edited unsuppressed
 shown_again word digits sign j count within e =
     let taken = taken_by word digits j in
     let place : Bool → ℕ = λ test. shown (rules_of word digits sign)
-    (record { char = get_or word j 0; behind = replaceable_behind word j; suppressed = test }) taken in
+    (record { char = get_or word j 0; beyond = replaceable_beyond word j; suppressed = test }) taken in
     let before = get_or (unsuppressed word digits sign) j 0 in
     let plain : before ≡ place false =
     get_or-map-range_with_len (unsuppressed_at word digits sign) 0 (length word) j j 0 within (omega arith) in
@@ -213,7 +213,7 @@ shown_again word digits sign j count within e =
           let on : nat_lt j count ≡ true = lt-ltb j count lt in
           let none = none_significant word digits j within (omega arith) in
           ap (λ b. if b then without_zero before else before) on ∙ ap without_zero plain
-          ∙ sym (suppressed_shown (rules_of word digits sign) (get_or word j 0) (replaceable_behind word j) taken none)
+          ∙ sym (suppressed_shown (rules_of word digits sign) (get_or word j 0) (replaceable_beyond word j) taken none)
           ∙ ap place (sym on ∙ test) ∙ sym full
       | inr le ↦
           let off : nat_lt j count ≡ false = le-ltb j count le in
@@ -221,41 +221,41 @@ shown_again word digits sign j count within e =
     ]
 
 -- those from a place on, if it is one of them or it isn't
-pub replaceable_more : (word : List ℕ) (j own behind from : ℕ) → j < length word → own ≡ get_or word j 0 → behind
-    ≡ replaceable_behind word j
-    → ((is_replaceable own ≡ true) × (from ≡ behind + 1)) ⊎ ((is_replaceable own ≡ false) × (from ≡ behind)) → from
+pub replaceable_more : (word : List ℕ) (j own beyond from : ℕ) → j < length word → own ≡ get_or word j 0 → beyond
+    ≡ replaceable_beyond word j
+    → ((is_replaceable own ≡ true) × (from ≡ beyond + 1)) ⊎ ((is_replaceable own ≡ false) × (from ≡ beyond)) → from
     ≡ count_by is_replaceable (drop j word)
-replaceable_more word j own behind from within e so_far (inl is) =
+replaceable_more word j own beyond from within e so_far (inl is) =
     let here = replaceable_here word j within (sym (ap is_replaceable e) ∙ is.0) in
     let more = is.1 in
     omega arith
-replaceable_more word j own behind from within e so_far (inr is) =
-    let here = replaceable_beyond word j within (sym (ap is_replaceable e) ∙ is.0) in
+replaceable_more word j own beyond from within e so_far (inr is) =
+    let here = replaceable_outside word j within (sym (ap is_replaceable e) ∙ is.0) in
     let same = is.1 in
     omega arith
 
 -- what a place takes of the characters by address, if those of A are as they were
-pub taken_down_is : (s : Storage) (chars : List ℕ) (a t own behind : ℕ) → a < length s → t ≤ a + 1
+pub taken_down_is : (s : Storage) (chars : List ℕ) (a t own beyond : ℕ) → a < length s → t ≤ a + 1
     → ((k : ℕ) → k < t → get_or chars (a - k) 0 ≡ (cell_at s (a - k)).char)
-    → taken_down chars a t own behind ≡ taken_from (units_unzoned (chars_across s a t)) own behind
-taken_down_is s chars a t own behind in_core above same =
+    → taken_down chars a t own beyond ≡ taken_from (units_unzoned (chars_across s a t)) own beyond
+taken_down_is s chars a t own beyond in_core above same =
     let digits = units_unzoned (chars_across s a t) in
     let size : length digits ≡ t = length-unzoned_across s a t in_core above in
     elim (cases_Bool (is_replaceable own)) [
-      | inl is ↦ elim (cases_lt behind t) [
+      | inl is ↦ elim (cases_lt beyond t) [
         | inl lt ↦
-            cond-true (is_replaceable own && nat_lt behind t) _ _
-            (and_from (is_replaceable own) (nat_lt behind t) is (lt-ltb behind t lt))
+            cond-true (is_replaceable own && nat_lt beyond t) _ _
+            (and_from (is_replaceable own) (nat_lt beyond t) is (lt-ltb beyond t lt))
             ∙ ap (λ (k : ℕ). let taken : Option ℕ = Some k in taken)
-            (unzoned_down_is s chars a t behind in_core above lt (same behind lt))
-            ∙ takes_one digits own behind t size is lt
-        | inr le ↦ cond-false (is_replaceable own && nat_lt behind t) _ _
-            (and_right (is_replaceable own) (nat_lt behind t) (le-ltb behind t le))
-            ∙ takes_none digits own behind t size (inr le)
+            (unzoned_down_is s chars a t beyond in_core above lt (same beyond lt))
+            ∙ takes_one digits own beyond t size is lt
+        | inr le ↦ cond-false (is_replaceable own && nat_lt beyond t) _ _
+            (and_right (is_replaceable own) (nat_lt beyond t) (le-ltb beyond t le))
+            ∙ takes_none digits own beyond t size (inr le)
       ]
-      | inr fails ↦ cond-false (is_replaceable own && nat_lt behind t) _ _
-          (and_left (is_replaceable own) (nat_lt behind t) fails)
-          ∙ takes_none digits own behind t size (inl fails)
+      | inr fails ↦ cond-false (is_replaceable own && nat_lt beyond t) _ _
+          (and_left (is_replaceable own) (nat_lt beyond t) fails)
+          ∙ takes_none digits own beyond t size (inl fails)
     ]
 
 -- a place that isn't the next one is on the same side of it

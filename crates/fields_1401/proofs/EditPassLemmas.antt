@@ -9,7 +9,7 @@ use Rattle.std.proofs.lemmas.List.{length-set, drop_all}
 use Rattle.core_1401.specs.Storage.{Storage, cell_at, with_char}
 use Rattle.fields_1401.specs.declared.editing.Rules.{Rules}
 use Rattle.fields_1401.specs.Across.{chars_across, units_unzoned, char_to, unzoned_down}
-use Rattle.fields_1401.specs.Edit.{is_replaceable, is_significant, replaceable_in, replaceable_behind, taken_by}
+use Rattle.fields_1401.specs.Edit.{is_replaceable, is_significant, replaceable_in, replaceable_beyond, taken_by}
 use Rattle.fields_1401.specs.Edit.{kept_char, taken_char, taken_down, unsuppressed, sign_at, shown, is_shared}
 use Rattle.fields_1401.specs.Edit.{rules_of, unsuppressed_place}
 use Rattle.fields_1401.specs.Places.{is_within, with_chars, with_all_chars, chars_of}
@@ -22,12 +22,12 @@ use Rattle.fields_1401.proofs.PlacesLemmas.{is_within-below, with_chars_none, wi
 
 -- The i places put so far, from the right, show what they are to show before anything is suppressed. So many of them
 -- were replaceable, and significant is the first significant one, counted from the left.
-pub record ArePut (s : Storage) (chars : List ℕ) (a t b m i behind significant : ℕ) : Type 0 where
+pub record ArePut (s : Storage) (chars : List ℕ) (a t b m i beyond significant : ℕ) : Type 0 where
   pub put : with_all_chars s chars
       ≡ with_chars s b i
       (char_to (unsuppressed (chars_across s b m) (units_unzoned (chars_across s a t)) (sign_at s a)))
-  pub counted : behind ≡ count_by is_replaceable (drop (m - i) (chars_across s b m))
-  pub bound : behind ≤ i
+  pub counted : beyond ≡ count_by is_replaceable (drop (m - i) (chars_across s b m))
+  pub bound : beyond ≤ i
   pub size : length chars ≡ length s
   pub most : significant ≤ m
   pub none : (k : ℕ) → m - i ≤ k → k < significant
@@ -52,24 +52,24 @@ put_none s chars a t b m b_in above lent =
     }
 
 -- a replaceable place takes a character of A while one is left
-pub one_taken : (chars : List ℕ) (a t own behind : ℕ) → is_replaceable own ≡ true → behind < t
-    → Some (unzoned_down chars a behind) ≡ taken_down chars a t own behind
-one_taken chars a t own behind is left = rw (is, lt-ltb behind t left) refl
+pub one_taken : (chars : List ℕ) (a t own beyond : ℕ) → is_replaceable own ≡ true → beyond < t
+    → Some (unzoned_down chars a beyond) ≡ taken_down chars a t own beyond
+one_taken chars a t own beyond is left = rw (is, lt-ltb beyond t left) refl
 
 -- else none
-pub none_left : (chars : List ℕ) (a t own behind : ℕ) → is_replaceable own ≡ true → t ≤ behind
-    → None ≡ taken_down chars a t own behind
-none_left chars a t own behind is past = rw (is, le-ltb behind t past) refl
+pub none_left : (chars : List ℕ) (a t own beyond : ℕ) → is_replaceable own ≡ true → t ≤ beyond
+    → None ≡ taken_down chars a t own beyond
+none_left chars a t own beyond is past = rw (is, le-ltb beyond t past) refl
 
 -- nor does another place
-pub none_taken : (chars : List ℕ) (a t own behind : ℕ) → is_replaceable own ≡ false
-    → None ≡ taken_down chars a t own behind
-none_taken chars a t own behind isnt = rw isnt refl
+pub none_taken : (chars : List ℕ) (a t own beyond : ℕ) → is_replaceable own ≡ false
+    → None ≡ taken_down chars a t own beyond
+none_taken chars a t own beyond isnt = rw isnt refl
 
 -- a replaceable place that took none shows a blank
-pub blank_left : (rules : Rules) (own behind : ℕ) → is_replaceable own ≡ true
-    → blank_char ≡ kept_char rules (unsuppressed_place own behind)
-blank_left rules own behind is = rw is refl
+pub blank_left : (rules : Rules) (own beyond : ℕ) → is_replaceable own ≡ true
+    → blank_char ≡ kept_char rules (unsuppressed_place own beyond)
+blank_left rules own beyond is = rw is refl
 
 -- a character that is neither zero nor blank is significant
 pub significant_is : (char : ℕ) → is_significant (Some char) ≡ not (is_replaceable char)
@@ -80,26 +80,26 @@ pub taken_plain : (char : ℕ) → taken_char false char ≡ char
 taken_plain char = grind (arith, nat_tests)
 
 -- the units of A, of which some are taken, are as they were
-pub units_kept : (s : Storage) (chars : List ℕ) (a t b m i behind significant : ℕ) → a < length s → t ≤ a + 1
-    → is_shared a t b m ≡ false → i ≤ m → behind < t → ArePut s chars a t b m i behind significant
+pub units_kept : (s : Storage) (chars : List ℕ) (a t b m i beyond significant : ℕ) → a < length s → t ≤ a + 1
+    → is_shared a t b m ≡ false → i ≤ m → beyond < t → ArePut s chars a t b m i beyond significant
     → (cell_at s a).char ≡ slice_index chars a
-units_kept s chars a t b m i behind significant a_in a_above apart le some before =
+units_kept s chars a t b m i beyond significant a_in a_above apart le some before =
     let kept : ℕ → ℕ = char_to (unsuppressed (chars_across s b m) (units_unzoned (chars_across s a t)) (sign_at s a)) in
     let here : a - 0 ≡ a = omega arith in
     sym (still_lent s chars b i a kept before.size before.put a_in
     (ap (λ (q : ℕ). is_within b i q) (sym here) ∙ not_shared a t b m i 0 apart a_above (omega (arith, some)) le))
 
 -- one more
-pub put_more : (s : Storage) (chars after : List ℕ) (a t b m i place behind from significant next own char : ℕ)
+pub put_more : (s : Storage) (chars after : List ℕ) (a t b m i place beyond from significant next own char : ℕ)
     (rules : Rules) (taken : Option ℕ) → a < length s → t ≤ a + 1 → b < length s → m ≤ b + 1
     → is_shared a t b m ≡ false → i < m → place ≡ b - i → rules.taken ≡ t
     → rules.sign ≡ sign_at s a → rules.replaceable ≡ replaceable_in (chars_across s b m) → own ≡ get_or chars place 0
-    → taken ≡ taken_down chars a t own behind → char ≡ shown rules (unsuppressed_place own behind) taken
+    → taken ≡ taken_down chars a t own beyond → char ≡ shown rules (unsuppressed_place own beyond) taken
     → after ≡ set chars place char
-    → ((is_replaceable own ≡ true) × (from ≡ behind + 1)) ⊎ ((is_replaceable own ≡ false) × (from ≡ behind))
+    → ((is_replaceable own ≡ true) × (from ≡ beyond + 1)) ⊎ ((is_replaceable own ≡ false) × (from ≡ beyond))
     → ((is_significant taken ≡ true) × (next ≡ m - 1 - i)) ⊎ ((is_significant taken ≡ false) × (next ≡ significant))
-    → ArePut s chars a t b m i behind significant → ArePut s after a t b m (i + 1) from next
-put_more s chars after a t b m i place behind from significant next own char rules taken
+    → ArePut s chars a t b m i beyond significant → ArePut s after a t b m (i + 1) from next
+put_more s chars after a t b m i place beyond from significant next own char rules taken
     a_in a_above b_in b_above apart lt here e_taken e_sign e_replaceable read takes shows made counts tells before =
     let j : ℕ = m - 1 - i in
     let control : List ℕ = chars_across s b m in
@@ -115,21 +115,21 @@ put_more s chars after a t b m i place behind from significant next own char rul
     (is_within-below b i (b - i) (omega (arith, lt, b_above)))
     ∙ ap (λ (q : ℕ). (cell_at s q).char) (omega (arith, lt, b_above))
     ∙ sym (char_across s b m j b_in b_above (omega (arith, lt))) in
-    let right : behind ≡ replaceable_behind control j =
+    let right : beyond ≡ replaceable_beyond control j =
     before.counted ∙ ap (λ (k : ℕ). count_by is_replaceable (drop k control)) (omega (arith, lt)) in
     let of_taken : taken ≡ taken_by control digits j =
-    takes_here control digits j own behind taken of_own right
-    (takes ∙ taken_down_is s chars a t own behind a_in a_above
+    takes_here control digits j own beyond taken of_own right
+    (takes ∙ taken_down_is s chars a t own beyond a_in a_above
     (λ k less. still_lent s chars b i (a - k) kept before.size before.put (omega (arith, a_in))
     (not_shared a t b m i k apart a_above less (omega (arith, lt))))) in
     let go_by : rules ≡ rules_of control digits (sign_at s a) =
     rules_are s a b t m rules a_in a_above e_taken e_replaceable e_sign in
     let shown_here : char ≡ get_or full (length full - 1 - i) 0 =
-    shows ∙ shown_place control digits (sign_at s a) j rules behind taken own (omega (arith, lt, size)) go_by
+    shows ∙ shown_place control digits (sign_at s a) j rules beyond taken own (omega (arith, lt, size)) go_by
     right of_taken of_own
     ∙ ap (λ (k : ℕ). get_or full k 0) (omega (arith, size, full_size)) in
     let more : from ≡ count_by is_replaceable (drop j control) =
-    replaceable_more control j own behind from (omega (arith, lt, size)) of_own right counts in
+    replaceable_more control j own beyond from (omega (arith, lt, size)) of_own right counts in
     record {
       put = ap (with_all_chars s) made ∙ ap (λ (q : ℕ). with_all_chars s (set chars q char)) here
           ∙ lent-set s chars (b - i) char (omega (arith, b_in)) before.size

@@ -10,7 +10,7 @@ use Rattle.std.proofs.lemmas.List.{get_or_append_left, get_or-append_right, get_
 use Rattle.std.proofs.lemmas.List.FromFn.{get_or-map-range_with_len, length-map-range_with_len}
 use Rattle.std.proofs.lemmas.List.Sums.{fails_before_first, prefix_len-le-length}
 use Rattle.fields_1401.specs.declared.sign.Sign.{Sign}
-use Rattle.fields_1401.specs.Edit.{is_replaceable, replaceable_behind, taken_by, is_significant, before_significant}
+use Rattle.fields_1401.specs.Edit.{is_replaceable, replaceable_beyond, taken_by, is_significant, before_significant}
 use Rattle.fields_1401.specs.Edit.{limit_of, is_suppressed, taken_char, shown_at, edited, IsPlain, ShowsWithBlanks}
 use Rattle.fields_1401.proofs.EditLemmas.{replaceable_here, takes_one, takes_none, left_of_both, length-edited}
 
@@ -27,15 +27,15 @@ plain_count word plain (suc n) i e =
 plain_left : (word digits : List ℕ) (j : ℕ) → IsPlain word → j < length word → j + length digits < length word
     → taken_by word digits j ≡ None
 plain_left word digits j plain within left =
-    let behind = plain_count word plain (length word - 1 - j) (j + 1) (omega arith) in
-    sym (takes_none digits (get_or word j 0) (replaceable_behind word j) (length digits) refl (inr (omega arith)))
+    let beyond = plain_count word plain (length word - 1 - j) (j + 1) (omega arith) in
+    sym (takes_none digits (get_or word j 0) (replaceable_beyond word j) (length digits) refl (inr (omega arith)))
 
 plain_right : (word digits : List ℕ) (j : ℕ) → IsPlain word → j < length word → length digits ≤ length word
     → length word ≤ j + length digits
     → taken_by word digits j ≡ Some (get_or digits (j - (length word - length digits)) 0)
 plain_right word digits j plain within fewer right =
-    let behind = plain_count word plain (length word - 1 - j) (j + 1) (omega arith) in
-    sym (takes_one digits (get_or word j 0) (replaceable_behind word j) (length digits) refl (plain j within)
+    let beyond = plain_count word plain (length word - 1 - j) (j + 1) (omega arith) in
+    sym (takes_one digits (get_or word j 0) (replaceable_beyond word j) (length digits) refl (plain j within)
     (omega arith))
     ∙ ap (λ k. let taken : Option ℕ = Some (get_or digits k 0) in taken) (omega arith)
 

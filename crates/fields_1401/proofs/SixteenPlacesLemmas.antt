@@ -25,7 +25,7 @@ use Rattle.fields_1401.specs.declared.editing.Rules.{Rules}
 use Rattle.fields_1401.specs.declared.sign.Sign.{Sign}
 use Rattle.fields_1401.specs.declared.sign.Sign.TheVariants.{Plus, Minus}
 use Rattle.fields_1401.specs.Edit.{is_left_over, is_replaceable, is_sign_blanked, is_sign_char, is_significant, kept_char}
-use Rattle.fields_1401.specs.Edit.{before_significant, replaceable_behind, rules_of, shown, sign_at}
+use Rattle.fields_1401.specs.Edit.{before_significant, replaceable_beyond, rules_of, shown, sign_at}
 use Rattle.fields_1401.specs.Edit.{taken_by, taken_down}
 use Rattle.fields_1401.specs.Edit.{unsuppressed, unsuppressed_place}
 use Rattle.fields_1401.specs.Suppress.{blank_char}
@@ -166,7 +166,7 @@ right_twice xs counts after w size count few ones are sums i within =
 -- all that are right of a lane are as many as there are replaceable places
 pub right_all : (word flags : List ℕ) (w i : ℕ) → length word ≡ 16 → length flags ≡ 16
     → ((k : ℕ) → k < 16 → get_or flags k 0 ≡ (if is_replaceable (get_or word k 0) then 1 else 0)) → 15 ≤ i + w
-    → right_sum flags w i ≡ replaceable_behind word i
+    → right_sum flags w i ≡ replaceable_beyond word i
 right_all word flags zero i long size are past =
     sym (ap (count_by is_replaceable) (drop_all (i + 1) word (omega (arith, long, past))))
 right_all word flags (suc w) i long size are past =
@@ -236,8 +236,8 @@ any_sign char =
 
 -- what a place shows that isn't replaceable: right of all replaceable ones, and elsewhere
 abbrev kept_by : Bool → Bool → Bool → ℕ → ℕ
-kept_by left behind part own =
-    if is_replaceable own || (own == 48 || ((own == 27 && (left || (behind || false))) || (is_sign_char own && part)))
+kept_by left beyond part own =
+    if is_replaceable own || (own == 48 || ((own == 27 && (left || (beyond || false))) || (is_sign_char own && part)))
     then blank_char else own
 
 kept_first : (left part : Bool) (own : ℕ) → is_replaceable own ≡ false
@@ -254,23 +254,23 @@ kept_later true own isnt = grind (arith, nat_tests)
 kept_later false own isnt = grind (arith, nat_tests)
 
 -- a part of a sign is blanked right of all replaceable places alone
-sign_later : (sign : Sign) (behind : ℕ) → (behind == 0) ≡ false → is_sign_blanked sign behind ≡ false
-sign_later Plus behind later = later
-sign_later Minus behind later = refl
+sign_later : (sign : Sign) (beyond : ℕ) → (beyond == 0) ≡ false → is_sign_blanked sign beyond ≡ false
+sign_later Plus beyond later = later
+sign_later Minus beyond later = refl
 
-pub kept_lane : (rules : Rules) (own behind : ℕ) → is_replaceable own ≡ false
-    → (if nat_lt behind 1
+pub kept_lane : (rules : Rules) (own beyond : ℕ) → is_replaceable own ≡ false
+    → (if nat_lt beyond 1
     then (if is_sign_char (blank_if 27 (blank_if 48 own)) && is_sign_blanked rules.sign 0 then blank_char
     else blank_if 27 (blank_if 48 own))
-    else (if is_left_over rules behind then blank_if 27 (blank_if 48 own) else blank_if 48 own))
-    ≡ kept_char rules (unsuppressed_place own behind)
-kept_lane rules own behind isnt =
-    elim (cases_eq behind 0) [
+    else (if is_left_over rules beyond then blank_if 27 (blank_if 48 own) else blank_if 48 own))
+    ≡ kept_char rules (unsuppressed_place own beyond)
+kept_lane rules own beyond isnt =
+    elim (cases_eq beyond 0) [
       | inl none ↦ rw none (kept_first (is_left_over rules 0) (is_sign_blanked rules.sign 0) own isnt)
       | inr some ↦
-          let later : (behind == 0) ≡ false = ne_eqb behind 0 some in
-          let more : nat_lt behind 1 ≡ false = le-ltb behind 1 (omega (arith, some)) in
-          rw more (rw later (rw (sign_later rules.sign behind later) (kept_later (is_left_over rules behind) own isnt)))
+          let later : (beyond == 0) ≡ false = ne_eqb beyond 0 some in
+          let more : nat_lt beyond 1 ≡ false = le-ltb beyond 1 (omega (arith, some)) in
+          rw more (rw later (rw (sign_later rules.sign beyond later) (kept_later (is_left_over rules beyond) own isnt)))
     ]
 
 is_other : (char : ℕ) → not (blank_if 10 char == 0) ≡ is_significant (Some char)
@@ -325,26 +325,26 @@ first_significant taken bits n found size few are is =
           omega (arith, is, ap (λ (m : ℕ). min (count_trailing_zeros 64 m) n) are, here, most, long)
     ]
 
-past_le : (behind taken : ℕ) → behind < taken → nat_le taken behind ≡ false
-past_le behind taken lt = grind (arith, nat_tests)
+past_le : (beyond taken : ℕ) → beyond < taken → nat_le taken beyond ≡ false
+past_le beyond taken lt = grind (arith, nat_tests)
 
-le_le : (behind taken : ℕ) → taken ≤ behind → nat_le taken behind ≡ true
-le_le behind taken le = grind (arith, nat_tests)
+le_le : (beyond taken : ℕ) → taken ≤ beyond → nat_le taken beyond ≡ true
+le_le beyond taken le = grind (arith, nat_tests)
 
 -- a place right of which there are as many as were taken is left over, if there were too few
-pub left_over_lane : (rules : Rules) (behind this other : ℕ) → rules.taken < rules.replaceable
-    → (if nat_lt behind rules.taken then this else other) ≡ (if is_left_over rules behind then other else this)
-left_over_lane rules behind this other few =
-    elim (cases_lt behind rules.taken) [
-      | inl lt ↦ rw (lt-ltb behind rules.taken lt) (rw (lt-ltb rules.taken rules.replaceable few)
-          (rw (past_le behind rules.taken lt) refl))
-      | inr le ↦ rw (le-ltb behind rules.taken le) (rw (lt-ltb rules.taken rules.replaceable few)
-          (rw (le_le behind rules.taken le) refl))
+pub left_over_lane : (rules : Rules) (beyond this other : ℕ) → rules.taken < rules.replaceable
+    → (if nat_lt beyond rules.taken then this else other) ≡ (if is_left_over rules beyond then other else this)
+left_over_lane rules beyond this other few =
+    elim (cases_lt beyond rules.taken) [
+      | inl lt ↦ rw (lt-ltb beyond rules.taken lt) (rw (lt-ltb rules.taken rules.replaceable few)
+          (rw (past_le beyond rules.taken lt) refl))
+      | inr le ↦ rw (le-ltb beyond rules.taken le) (rw (lt-ltb rules.taken rules.replaceable few)
+          (rw (le_le beyond rules.taken le) refl))
     ]
 
-pub none_left_over : (rules : Rules) (behind this other : ℕ) → rules.replaceable ≤ rules.taken
-    → this ≡ (if is_left_over rules behind then other else this)
-none_left_over rules behind this other all = rw (le-ltb rules.taken rules.replaceable all) refl
+pub none_left_over : (rules : Rules) (beyond this other : ℕ) → rules.replaceable ≤ rules.taken
+    → this ≡ (if is_left_over rules beyond then other else this)
+none_left_over rules beyond this other all = rw (le-ltb rules.taken rules.replaceable all) refl
 
 not_true : (b : Bool) → not b ≡ true → b ≡ false
 not_true false e = refl
@@ -355,7 +355,7 @@ not_false true e = refl
 not_false false e = sym e
 
 -- The lanes of sixteen places, of a control word and of A.
-pub record AreLanes (s : Storage) (chars control of_a behind taken kept shown : List ℕ) (word : ControlWord)
+pub record AreLanes (s : Storage) (chars control of_a beyond taken kept shown : List ℕ) (word : ControlWord)
     (rules : Rules) : Type 0 where
   pub lent : chars ≡ chars_of s
   pub read : control ≡ chunk (word.b - 15) 16 (chars_of s)
@@ -366,13 +366,13 @@ pub record AreLanes (s : Storage) (chars control of_a behind taken kept shown : 
   pub go_by : rules
       ≡ rules_of (chars_across s word.b word.len) (units_unzoned (chars_across s word.a word.taken)) (sign_at s word.a)
   pub of_a_is : (k : ℕ) → k ≤ 15 → get_or of_a (15 - k) 0 ≡ unzoned_down chars word.a k
-  pub behind_is : (i : ℕ) → i < 16 → get_or behind i 0 ≡ replaceable_behind control i
-  pub behind_few : (i : ℕ) → i < 16 → get_or behind i 0 ≤ 15
+  pub beyond_is : (i : ℕ) → i < 16 → get_or beyond i 0 ≡ replaceable_beyond control i
+  pub beyond_few : (i : ℕ) → i < 16 → get_or beyond i 0 ≤ 15
   pub taken_is : (i : ℕ) → i < 16 → get_or taken i 0 ≡ (if is_replaceable (get_or control i 0)
-      then (if nat_lt (get_or behind i 0) word.taken then get_or of_a (15 - get_or behind i 0) 0 else blank_char)
+      then (if nat_lt (get_or beyond i 0) word.taken then get_or of_a (15 - get_or beyond i 0) 0 else blank_char)
       else blank_char)
   pub kept_is : (i : ℕ) → i < 16 → is_replaceable (get_or control i 0) ≡ false → get_or kept i 0
-      ≡ kept_char rules (unsuppressed_place (get_or control i 0) (get_or behind i 0))
+      ≡ kept_char rules (unsuppressed_place (get_or control i 0) (get_or beyond i 0))
   pub shown_is : (i : ℕ) → i < 16 → get_or shown i 0
       ≡ (if is_replaceable (get_or control i 0) then get_or taken i 0 else get_or kept i 0)
 
@@ -386,11 +386,11 @@ own_is s control b m j read least few in_core above within =
 
 right_is : (s : Storage) (control : List ℕ) (b m j : ℕ) → control ≡ chunk (b - 15) 16 (chars_of s) → 15 ≤ b → m ≤ 16
     → b < length s → m ≤ b + 1 → j < m
-    → replaceable_behind control (16 - m + j) ≡ replaceable_behind (chars_across s b m) j
+    → replaceable_beyond control (16 - m + j) ≡ replaceable_beyond (chars_across s b m) j
 right_is s control b m j read least few in_core above within =
     let lanes : List ℕ = chunk (b - 15) 16 (chars_of s) in
     let next : 16 - m + j + 1 ≡ 16 - m + (j + 1) = omega arith in
-    ap (λ (l : List ℕ). replaceable_behind l (16 - m + j)) read
+    ap (λ (l : List ℕ). replaceable_beyond l (16 - m + j)) read
     ∙ ap (λ (k : ℕ). count_by is_replaceable (drop k lanes)) next
     ∙ ap (count_by is_replaceable) (sym (drop-drop (j + 1) (16 - m) lanes))
     ∙ ap (λ (l : List ℕ). count_by is_replaceable (drop (j + 1) l)) (lanes_across s b m least few in_core above)
@@ -436,49 +436,49 @@ shown_lane chars of_a rules a t own n taken kept lane few down is_taken is_kept 
     ]
 
 -- what place j takes
-took : (s : Storage) (chars control of_a behind taken kept shown : List ℕ) (word : ControlWord) (rules : Rules) (j : ℕ)
-    → AreLanes s chars control of_a behind taken kept shown word rules → j < word.len
-    → taken_down chars word.a word.taken (get_or control (16 - word.len + j) 0) (get_or behind (16 - word.len + j) 0)
+took : (s : Storage) (chars control of_a beyond taken kept shown : List ℕ) (word : ControlWord) (rules : Rules) (j : ℕ)
+    → AreLanes s chars control of_a beyond taken kept shown word rules → j < word.len
+    → taken_down chars word.a word.taken (get_or control (16 - word.len + j) 0) (get_or beyond (16 - word.len + j) 0)
     ≡ taken_by (chars_across s word.b word.len) (units_unzoned (chars_across s word.a word.taken)) j
-took s chars control of_a behind taken kept shown word rules j are within =
+took s chars control of_a beyond taken kept shown word rules j are within =
     let i : ℕ = 16 - word.len + j in
     let lt : i < 16 = omega (arith, within, are.few) in
     takes_here (chars_across s word.b word.len) (units_unzoned (chars_across s word.a word.taken)) j
-    (get_or control i 0) (get_or behind i 0)
-    (taken_down chars word.a word.taken (get_or control i 0) (get_or behind i 0))
+    (get_or control i 0) (get_or beyond i 0)
+    (taken_down chars word.a word.taken (get_or control i 0) (get_or beyond i 0))
     (own_is s control word.b word.len j are.read are.b_least are.few are.b_in word.b_above within)
-    (are.behind_is i lt ∙ right_is s control word.b word.len j are.read are.b_least are.few are.b_in word.b_above within)
-    (taken_down_is s chars word.a word.taken (get_or control i 0) (get_or behind i 0) are.a_in word.a_above
+    (are.beyond_is i lt ∙ right_is s control word.b word.len j are.read are.b_least are.few are.b_in word.b_above within)
+    (taken_down_is s chars word.a word.taken (get_or control i 0) (get_or beyond i 0) are.a_in word.a_above
     (λ k less. ap (λ (l : List ℕ). get_or l (word.a - k) 0) are.lent
     ∙ char_of_cell s (word.a - k) 0 (omega (arith, are.a_in))))
 
 -- what place j shows
-pub shows_at_once : (s : Storage) (chars control of_a behind taken kept shown : List ℕ) (word : ControlWord)
-    (rules : Rules) (j : ℕ) → AreLanes s chars control of_a behind taken kept shown word rules → j < word.len
+pub shows_at_once : (s : Storage) (chars control of_a beyond taken kept shown : List ℕ) (word : ControlWord)
+    (rules : Rules) (j : ℕ) → AreLanes s chars control of_a beyond taken kept shown word rules → j < word.len
     → get_or shown (16 - word.len + j) 0
     ≡ get_or (unsuppressed (chars_across s word.b word.len) (units_unzoned (chars_across s word.a word.taken))
     (sign_at s word.a)) j 0
-shows_at_once s chars control of_a behind taken kept shown word rules j are within =
+shows_at_once s chars control of_a beyond taken kept shown word rules j are within =
     let i : ℕ = 16 - word.len + j in
     let lt : i < 16 = omega (arith, within, are.few) in
     let control_size = length-across s word.b word.len are.b_in word.b_above in
-    shown_lane chars of_a rules word.a word.taken (get_or control i 0) (get_or behind i 0) (get_or taken i 0)
-    (get_or kept i 0) (get_or shown i 0) (are.behind_few i lt) are.of_a_is (are.taken_is i lt) (are.kept_is i lt)
+    shown_lane chars of_a rules word.a word.taken (get_or control i 0) (get_or beyond i 0) (get_or taken i 0)
+    (get_or kept i 0) (get_or shown i 0) (are.beyond_few i lt) are.of_a_is (are.taken_is i lt) (are.kept_is i lt)
     (are.shown_is i lt)
     ∙ shown_place (chars_across s word.b word.len) (units_unzoned (chars_across s word.a word.taken)) (sign_at s word.a) j
-    rules (get_or behind i 0)
-    (taken_down chars word.a word.taken (get_or control i 0) (get_or behind i 0)) (get_or control i 0)
+    rules (get_or beyond i 0)
+    (taken_down chars word.a word.taken (get_or control i 0) (get_or beyond i 0)) (get_or control i 0)
     (omega (arith, control_size, within)) are.go_by
-    (are.behind_is i lt ∙ right_is s control word.b word.len j are.read are.b_least are.few are.b_in word.b_above within)
-    (took s chars control of_a behind taken kept shown word rules j are within)
+    (are.beyond_is i lt ∙ right_is s control word.b word.len j are.read are.b_least are.few are.b_in word.b_above within)
+    (took s chars control of_a beyond taken kept shown word rules j are within)
     (own_is s control word.b word.len j are.read are.b_least are.few are.b_in word.b_above within)
 
 -- the first significant lane is the first significant place
-pub significant_at_once : (s : Storage) (chars control of_a behind taken kept shown : List ℕ) (word : ControlWord)
-    (rules : Rules) (count : ℕ) → AreLanes s chars control of_a behind taken kept shown word rules → length taken ≡ 16
+pub significant_at_once : (s : Storage) (chars control of_a beyond taken kept shown : List ℕ) (word : ControlWord)
+    (rules : Rules) (count : ℕ) → AreLanes s chars control of_a beyond taken kept shown word rules → length taken ≡ 16
     → count ≡ prefix_len (λ code. not (is_significant (Some code))) (drop (16 - word.len) taken)
     → before_significant (chars_across s word.b word.len) (units_unzoned (chars_across s word.a word.taken)) ≡ count
-significant_at_once s chars control of_a behind taken kept shown word rules count are size is =
+significant_at_once s chars control of_a beyond taken kept shown word rules count are size is =
     let insignificant : ℕ → Bool = λ code. not (is_significant (Some code)) in
     let m : ℕ = word.len in
     let lanes : List ℕ = drop (16 - m) taken in
@@ -488,10 +488,10 @@ significant_at_once s chars control of_a behind taken kept shown word rules coun
     let lane : (k : ℕ) → k < m → is_significant (Some (get_or lanes k 0))
     ≡ is_significant (taken_by (chars_across s word.b m) (units_unzoned (chars_across s word.a word.taken)) k) =
     λ k lt. ap (λ (char : ℕ). is_significant (Some char)) (get_or-drop (16 - m) taken k 0)
-    ∙ taken_lane chars of_a word.a word.taken (get_or control (16 - m + k) 0) (get_or behind (16 - m + k) 0)
-    (get_or taken (16 - m + k) 0) (are.behind_few (16 - m + k) (omega (arith, lt, are.few))) are.of_a_is
+    ∙ taken_lane chars of_a word.a word.taken (get_or control (16 - m + k) 0) (get_or beyond (16 - m + k) 0)
+    (get_or taken (16 - m + k) 0) (are.beyond_few (16 - m + k) (omega (arith, lt, are.few))) are.of_a_is
     (are.taken_is (16 - m + k) (omega (arith, lt, are.few)))
-    ∙ ap is_significant (took s chars control of_a behind taken kept shown word rules k are lt) in
+    ∙ ap is_significant (took s chars control of_a beyond taken kept shown word rules k are lt) in
     before_significant_is (chars_across s word.b m) (units_unzoned (chars_across s word.a word.taken)) count
     (omega (arith, most, control_size))
     (λ k lt. sym (lane k (omega (arith, lt, most)))

@@ -34,9 +34,9 @@ commas_go_with_the_zeros : suppressed (chars_of_graphics (codes "0,012")) ≡ ch
 unfolding suppressed chars_of_graphics graphics
 commas_go_with_the_zeros = refl
 
-commas_behind_a_figure_stay : suppressed (chars_of_graphics (codes "01,0,0")) ≡ chars_of_graphics (codes " 1,0,0")
+commas_beyond_a_figure_stay : suppressed (chars_of_graphics (codes "01,0,0")) ≡ chars_of_graphics (codes " 1,0,0")
 unfolding suppressed chars_of_graphics graphics
-commas_behind_a_figure_stay = refl
+commas_beyond_a_figure_stay = refl
 
 a_field_of_commas_and_blanks_is_blank : suppressed (chars_of_graphics (codes ", ,0")) ≡ chars_of_graphics (codes "    ")
 unfolding suppressed chars_of_graphics graphics

@@ -46,25 +46,25 @@ abbrev pub replaceable_in : List ℕ → ℕ
 replaceable_in word = count_by is_replaceable word
 
 -- how many of them are to the right of place i
-abbrev pub replaceable_behind : List ℕ → ℕ → ℕ
-replaceable_behind word i = count_by is_replaceable (drop (i + 1) word)
+abbrev pub replaceable_beyond : List ℕ → ℕ → ℕ
+replaceable_beyond word i = count_by is_replaceable (drop (i + 1) word)
 
 -- What a place of the control word takes of A, by how many replaceable places are to its right: of the replaceable
 -- places the last takes the last character, the one before it the one before that, and so on; none takes one that isn't
 -- there.
 abbrev pub taken_from : List ℕ → ℕ → ℕ → Option ℕ
-taken_from digits char behind =
-    if is_replaceable char && nat_lt behind (length digits) then Some (slice_index digits (length digits - 1 - behind))
+taken_from digits char beyond =
+    if is_replaceable char && nat_lt beyond (length digits) then Some (slice_index digits (length digits - 1 - beyond))
     else None
 
 -- the same of a list of characters by address, where those of t places from an address down are taken
 abbrev pub taken_down : List ℕ → ℕ → ℕ → ℕ → ℕ → Option ℕ
-taken_down chars a t char behind =
-    if is_replaceable char && nat_lt behind t then Some (unzoned_down chars a behind) else None
+taken_down chars a t char beyond =
+    if is_replaceable char && nat_lt beyond t then Some (unzoned_down chars a beyond) else None
 
 -- what place i takes
 abbrev pub taken_by : List ℕ → List ℕ → ℕ → Option ℕ
-taken_by word digits i = taken_from digits (slice_index word i) (replaceable_behind word i)
+taken_by word digits i = taken_from digits (slice_index word i) (replaceable_beyond word i)
 
 -- whether a place is significant: it took a character other than zero and blank
 abbrev pub is_significant : Option ℕ → Bool
@@ -93,19 +93,19 @@ taken_char suppressed char = if char == zero_char && suppressed then blank_char 
 -- commas are suppressed there
 pub record Place : Type 0 where
   pub char : ℕ
-  pub behind : ℕ
+  pub beyond : ℕ
   pub suppressed : Bool
 
 -- place i, and the same before zeros and commas are suppressed
 abbrev pub place_at : List ℕ → List ℕ → ℕ → Place
 place_at word digits i = record {
   char = slice_index word i;
-  behind = replaceable_behind word i;
+  beyond = replaceable_beyond word i;
   suppressed = is_suppressed word digits i;
 }
 
 abbrev pub unsuppressed_place : ℕ → ℕ → Place
-unsuppressed_place char behind = record { char = char; behind = behind; suppressed = false }
+unsuppressed_place char beyond = record { char = char; beyond = beyond; suppressed = false }
 
 -- what the rules go by at each place: how many characters of A are taken and A's sign, and how many places of the
 -- control word are replaceable
@@ -115,21 +115,21 @@ rules_of word digits sign = record { taken = length digits; replaceable = replac
 -- whether a place is left over: the characters of A were too few for the replaceable places, and as many of these as
 -- took one, or more, are to the right of it
 abbrev pub is_left_over : Rules → ℕ → Bool
-is_left_over rules behind = nat_lt rules.taken rules.replaceable && nat_le rules.taken behind
+is_left_over rules beyond = nat_lt rules.taken rules.replaceable && nat_le rules.taken beyond
 
 -- whether no replaceable place is to the right of a place
-abbrev pub is_behind_all : ℕ → Bool
-is_behind_all behind = behind == 0
+abbrev pub is_beyond_all : ℕ → Bool
+is_beyond_all beyond = beyond == 0
 
 -- a comma goes with what is left over, after all replaceable places, and if zeros are suppressed
 abbrev pub is_comma_blanked : Rules → Place → Bool
 is_comma_blanked rules place =
-    is_left_over rules place.behind || (is_behind_all place.behind || place.suppressed)
+    is_left_over rules place.beyond || (is_beyond_all place.beyond || place.suppressed)
 
 -- a part of a sign goes after all replaceable places, unless A is minus
 abbrev pub is_sign_blanked : Sign → ℕ → Bool
-is_sign_blanked Plus behind = is_behind_all behind
-is_sign_blanked Minus behind = false
+is_sign_blanked Plus beyond = is_beyond_all beyond
+is_sign_blanked Minus beyond = false
 
 -- whether a character of the control word becomes blank: what took none though it is replaceable, each ampersand, some
 -- commas and some parts of a sign
@@ -137,7 +137,7 @@ abbrev pub is_blanked : Rules → Place → Bool
 is_blanked rules place =
     is_replaceable place.char || (place.char == ampersand_char
     || ((place.char == comma_char && is_comma_blanked rules place)
-    || (is_sign_char place.char && is_sign_blanked rules.sign place.behind)))
+    || (is_sign_char place.char && is_sign_blanked rules.sign place.beyond)))
 
 -- a character of the control word that took none of A
 abbrev pub kept_char : Rules → Place → ℕ
@@ -155,7 +155,7 @@ shown_at word digits sign i = shown (rules_of word digits sign) (place_at word d
 -- what place i shows before zeros and commas are suppressed, and all places from left to right
 abbrev pub unsuppressed_at : List ℕ → List ℕ → Sign → ℕ → ℕ
 unsuppressed_at word digits sign i =
-    shown (rules_of word digits sign) (unsuppressed_place (slice_index word i) (replaceable_behind word i))
+    shown (rules_of word digits sign) (unsuppressed_place (slice_index word i) (replaceable_beyond word i))
     (taken_by word digits i)
 
 unfoldable pub unsuppressed : List ℕ → List ℕ → Sign → List ℕ

@@ -152,8 +152,8 @@ fn highest_of_few(core: &Core, a: u16, b: u16, n: u16) -> Option<u16>
 {
     let chars = core.chars();
     let (a, b, n) = (usize::from(a), usize::from(b), usize::from(n));
-    for behind in 0..n {
-        let i = n - 1 - behind;
+    for beyond in 0..n {
+        let i = n - 1 - beyond;
         let of_a = chars[a - i];
         let of_b = chars[b - i];
         if of_a != of_b {

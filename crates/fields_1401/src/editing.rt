@@ -146,22 +146,22 @@ fn put_by_places(core: &mut Core, word: ControlWord, rules: Rules) -> usize
     let (units, len) = (usize::from(word.b), usize::from(word.len));
     let units_of_a = core.get(word.a).char.with_zone(0);
     let chars = core.chars_mut();
-    let mut behind = 0;
+    let mut beyond = 0;
     let mut significant = len;
     for i in 0..len {
         let own = chars[units - i];
         if !is_replaceable(own) {
-            chars[units - i] = rules.kept_char(behind, own);
-        } else if behind < rules.taken {
-            let char = char_of_a(chars, usize::from(word.a), behind, units_of_a);
+            chars[units - i] = rules.kept_char(beyond, own);
+        } else if beyond < rules.taken {
+            let char = char_of_a(chars, usize::from(word.a), beyond, units_of_a);
             if !is_replaceable(char) {
                 significant = len - 1 - i;
             }
             chars[units - i] = char;
-            behind += 1;
+            beyond += 1;
         } else {
             chars[units - i] = Char::BLANK;
-            behind += 1;
+            beyond += 1;
         }
     }
     significant
@@ -170,14 +170,14 @@ fn put_by_places(core: &mut Core, word: ControlWord, rules: Rules) -> usize
 /// The character of A that is taken after this many to its right: the first is the units, which are given without
 /// their zone, so that none is removed for each.
 #[inline(always)]
-fn char_of_a(chars: &[Char], a: usize, behind: usize, units: Char) -> Char
+fn char_of_a(chars: &[Char], a: usize, beyond: usize, units: Char) -> Char
     requires a { a < length chars.now }
-    requires behind { behind ≤ a }
+    requires beyond { beyond ≤ a }
     requires units { units ≡ with_zone_of (slice_index chars.now a) 0 }
-    ensures { result ≡ unzoned_down chars.now a behind }
+    ensures { result ≡ unzoned_down chars.now a beyond }
 {
-    let char = chars[a - behind];
-    if behind == 0 { units } else { char }
+    let char = chars[a - beyond];
+    if beyond == 0 { units } else { char }
 }
 
 /// Suppresses the zeros and commas of this many places of the control word, from the left.
@@ -210,10 +210,10 @@ fn without_zero(char: Char) -> Char
 
 impl Rules {
     /// A character of the control word that took none of A.
-    fn kept_char(self, behind: usize, own: Char) -> Char
-        ensures { result ≡ kept_char self (unsuppressed_place own behind) }
+    fn kept_char(self, beyond: usize, own: Char) -> Char
+        ensures { result ≡ kept_char self (unsuppressed_place own beyond) }
     {
-        if self.is_blanked(behind, own) {
+        if self.is_blanked(beyond, own) {
             Char::BLANK
         } else {
             own
@@ -221,38 +221,38 @@ impl Rules {
     }
 
     /// Whether a character of the control word becomes blank though nothing is suppressed.
-    fn is_blanked(self, behind: usize, own: Char) -> bool
-        ensures { result ≡ is_blanked self (unsuppressed_place own behind) }
+    fn is_blanked(self, beyond: usize, own: Char) -> bool
+        ensures { result ≡ is_blanked self (unsuppressed_place own beyond) }
     {
         is_replaceable(own)
             || own.code() == AMPERSAND
-            || (own.code() == COMMA && self.is_comma_blanked(behind))
-            || (is_sign_char(own) && self.is_sign_blanked(behind))
+            || (own.code() == COMMA && self.is_comma_blanked(beyond))
+            || (is_sign_char(own) && self.is_sign_blanked(beyond))
     }
 
     /// Whether a comma becomes blank: with what is left over, and after all replaceable places.
-    fn is_comma_blanked(self, behind: usize) -> bool
-        ensures { result ≡ is_comma_blanked self (unsuppressed_place comma_char behind) }
+    fn is_comma_blanked(self, beyond: usize) -> bool
+        ensures { result ≡ is_comma_blanked self (unsuppressed_place comma_char beyond) }
     {
-        self.is_left_over(behind) || behind == 0
+        self.is_left_over(beyond) || beyond == 0
     }
 
     /// Whether a part of a sign becomes blank: after all replaceable places, unless A is minus.
-    fn is_sign_blanked(self, behind: usize) -> bool
-        ensures { result ≡ is_sign_blanked self.sign behind }
+    fn is_sign_blanked(self, beyond: usize) -> bool
+        ensures { result ≡ is_sign_blanked self.sign beyond }
     {
         match self.sign {
-            Sign::Plus => behind == 0,
+            Sign::Plus => beyond == 0,
             Sign::Minus => false,
         }
     }
 
     /// Whether the characters of A were too few for the replaceable places, and all places that took one stand right
     /// of a place with this many replaceable ones right of it.
-    fn is_left_over(self, behind: usize) -> bool
-        ensures { result ≡ is_left_over self behind }
+    fn is_left_over(self, beyond: usize) -> bool
+        ensures { result ≡ is_left_over self beyond }
     {
-        self.taken < self.replaceable && self.taken <= behind
+        self.taken < self.replaceable && self.taken <= beyond
     }
 }
 

@@ -6,7 +6,7 @@ ghost use Rattle.std.specs.Simd.Lanes.{Each1};
 ghost use Rattle.bcd_1401.specs.Character.{with_zone_of};
 ghost use Rattle.fields_1401.specs.Across.{chars_across, units_unzoned, char_to};
 ghost use Rattle.fields_1401.specs.Columns.{later_lanes};
-ghost use Rattle.fields_1401.specs.Edit.{is_replaceable, replaceable_behind, replaceable_in, before_significant};
+ghost use Rattle.fields_1401.specs.Edit.{is_replaceable, replaceable_beyond, replaceable_in, before_significant};
 ghost use Rattle.fields_1401.specs.Edit.{is_significant, is_sign_char, is_sign_blanked, is_left_over, kept_char};
 ghost use Rattle.fields_1401.specs.Edit.{unsuppressed, unsuppressed_place, sign_at};
 ghost use Rattle.fields_1401.specs.Places.{with_chars};
@@ -111,10 +111,10 @@ fn with_right(counts: u8x16, n: usize) -> u8x16
 /// How many replaceable places are to the right of each: counted one place further right, and then each time as many
 /// places more as are counted.
 #[inline(always)]
-fn count_behind(control: u8x16) -> u8x16
+fn count_beyond(control: u8x16) -> u8x16
     requires { length control ≡ 16 }
     ensures count { length result ≡ 16 }
-    ensures behind { (i : ℕ) → i < 16 → slice_index_or result i 0 ≡ replaceable_behind control i }
+    ensures beyond { (i : ℕ) → i < 16 → slice_index_or result i 0 ≡ replaceable_beyond control i }
 {
     let here = where_replaceable(control, u8x16::splat(1), u8x16::splat(0));
     let one = from_right(here, 1);
@@ -138,20 +138,20 @@ fn unzoned(codes: u8x16) -> u8x16
 
 /// What each place takes of A, by how many replaceable places are to its right; a blank if it takes none.
 #[inline(always)]
-fn taken_codes(control: u8x16, behind: u8x16, of_a: u8x16, taken: u8) -> u8x16
+fn taken_codes(control: u8x16, beyond: u8x16, of_a: u8x16, taken: u8) -> u8x16
     requires control { length control ≡ 16 }
-    requires behind { length behind ≡ 16 }
+    requires beyond { length beyond ≡ 16 }
     requires of_a { length of_a ≡ 16 }
-    requires few { (i : ℕ) → i < 16 → slice_index_or behind i 0 ≤ 15 }
+    requires few { (i : ℕ) → i < 16 → slice_index_or beyond i 0 ≤ 15 }
     ensures count { length result ≡ 16 }
     ensures lanes { (i : ℕ) → i < 16 → slice_index_or result i 0 ≡
         (if is_replaceable (slice_index_or control i 0)
-        then (if nat_lt (slice_index_or behind i 0) taken then slice_index_or of_a (15 - slice_index_or behind i 0) 0
+        then (if nat_lt (slice_index_or beyond i 0) taken then slice_index_or of_a (15 - slice_index_or beyond i 0) 0
         else blank_char) else blank_char) }
 {
     let none = u8x16::splat(BLANK);
-    let from_a = of_a.swizzle_dyn(u8x16::splat(15) - behind);
-    where_replaceable(control, where_below(behind, taken, from_a, none), none)
+    let from_a = of_a.swizzle_dyn(u8x16::splat(15) - beyond);
+    where_replaceable(control, where_below(beyond, taken, from_a, none), none)
 }
 
 /// What the places right of all replaceable ones show: no part of a sign, unless A is minus.
@@ -171,18 +171,18 @@ fn without_sign(codes: u8x16, sign: Sign) -> u8x16
 
 /// The others where a place is left over, and these elsewhere.
 #[inline(always)]
-fn where_left_over(rules: Rules, behind: u8x16, these: u8x16, others: u8x16) -> u8x16
-    requires behind { length behind ≡ 16 }
+fn where_left_over(rules: Rules, beyond: u8x16, these: u8x16, others: u8x16) -> u8x16
+    requires beyond { length beyond ≡ 16 }
     requires these { length these ≡ 16 }
     requires others { length others ≡ 16 }
     requires few { rules.taken ≤ 16 }
     ensures count { length result ≡ 16 }
     ensures lanes { (i : ℕ) → i < 16 → slice_index_or result i 0 ≡
-        (if is_left_over rules (slice_index_or behind i 0) then slice_index_or others i 0
+        (if is_left_over rules (slice_index_or beyond i 0) then slice_index_or others i 0
         else slice_index_or these i 0) }
 {
     if rules.taken < rules.replaceable {
-        where_below(behind, rules.taken as u8, these, others)
+        where_below(beyond, rules.taken as u8, these, others)
     } else {
         these
     }
@@ -190,19 +190,19 @@ fn where_left_over(rules: Rules, behind: u8x16, these: u8x16, others: u8x16) -> 
 
 /// What each place shows that isn't replaceable.
 #[inline(always)]
-fn kept_codes(rules: Rules, control: u8x16, behind: u8x16) -> u8x16
+fn kept_codes(rules: Rules, control: u8x16, beyond: u8x16) -> u8x16
     requires control { length control ≡ 16 }
-    requires behind { length behind ≡ 16 }
+    requires beyond { length beyond ≡ 16 }
     requires few { rules.taken ≤ 16 }
     ensures count { length result ≡ 16 }
     ensures kept { (i : ℕ) → i < 16 → is_replaceable (slice_index_or control i 0) ≡ false → slice_index_or result i 0
-        ≡ kept_char rules (unsuppressed_place (slice_index_or control i 0) (slice_index_or behind i 0)) }
+        ≡ kept_char rules (unsuppressed_place (slice_index_or control i 0) (slice_index_or beyond i 0)) }
 {
     let shown = without(control, AMPERSAND);
     let no_comma = without(shown, COMMA);
     let after_all = without_sign(no_comma, rules.sign);
-    let elsewhere = where_left_over(rules, behind, shown, no_comma);
-    where_below(behind, 1, after_all, elsewhere)
+    let elsewhere = where_left_over(rules, beyond, shown, no_comma);
+    where_below(beyond, 1, after_all, elsewhere)
 }
 
 /// How many of the last n lanes are to the left of the first that took a significant character: all, if none did.
@@ -244,9 +244,9 @@ pub(crate) fn put_at_once(core: &mut Core, word: ControlWord, rules: Rules) -> u
     let chars = core.chars_mut();
     let control = codes_up(chars, b_low);
     let of_a = unzoned(codes_up(chars, a_low));
-    let behind = count_behind(control);
-    let taken = taken_codes(control, behind, of_a, word.taken as u8);
-    let kept = kept_codes(rules, control, behind);
+    let beyond = count_beyond(control);
+    let taken = taken_codes(control, beyond, of_a, word.taken as u8);
+    let kept = kept_codes(rules, control, beyond);
     put_last(chars, b_low, len, where_replaceable(control, taken, kept));
     count_insignificant(taken, len)
 }

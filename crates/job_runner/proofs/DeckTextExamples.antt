@@ -31,9 +31,9 @@ a_byte_in_the_last_column : card_of_line 1 (replicate 79 65 ++ codes "~A") ≡ E
 unfolding card_of_line graphics
 a_byte_in_the_last_column = refl
 
-a_byte_behind_the_last_column : card_of_line 1 (replicate 80 65 ++ codes "~") ≡ Err (Length 1)
+a_byte_beyond_the_last_column : card_of_line 1 (replicate 80 65 ++ codes "~") ≡ Err (Length 1)
 unfolding card_of_line graphics
-a_byte_behind_the_last_column = refl
+a_byte_beyond_the_last_column = refl
 
 -- a deck of three cards, of which the second is blank; a carriage return is no column
 abbrev three : List Card

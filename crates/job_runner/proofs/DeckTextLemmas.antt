@@ -10,7 +10,7 @@ use Rattle.devices_1401.specs.declared.card.Card.{Card}
 use Rattle.job_runner.specs.declared.deck_text.DeckTextFault.{DeckTextFault}
 use Rattle.job_runner.specs.declared.deck_text.DeckTextFault.TheVariants.{Graphic, Length}
 use Rattle.job_runner.specs.CardList.{AreOfCards, card_of_chars, cards_in}
-use Rattle.job_runner.specs.DeckText.{card_before, card_of_line, card_with, code_of, columns_filled, fault_behind}
+use Rattle.job_runner.specs.DeckText.{card_before, card_of_line, card_with, code_of, columns_filled, fault_beyond}
 use Rattle.job_runner.specs.DeckText.{has_char}
 use Rattle.job_runner.proofs.CardListLemmas.{are_of_cards_append, cards_in_append}
 
@@ -24,11 +24,11 @@ card_of-full number line few all =
 
 -- some don't
 card_of-less : (number n : ℕ) (line : List ℕ) → columns_filled line ≡ n → n < length line
-    → card_of_line number line ≡ Err (fault_behind number n)
+    → card_of_line number line ≡ Err (fault_beyond number n)
 unfolding card_of_line
 card_of-less number n line filled more =
     let less : (columns_filled line == length line) ≡ false = grind (arith, nat_tests) in
-    rw less (ap (λ (k : ℕ). let result : Result Card DeckTextFault = Err (fault_behind number k) in result) filled)
+    rw less (ap (λ (k : ℕ). let result : Result Card DeckTextFault = Err (fault_beyond number k) in result) filled)
 
 pub card_of-missed : (number i : ℕ) (line : List ℕ) → prefix_len has_char line ≡ i → i < length line → i < 80
     → card_of_line number line ≡ Err (Graphic number (i + 1))
@@ -48,9 +48,9 @@ pub no_char : (char : Option ℕ) → char ≡ None → is_some char ≡ false
 no_char char is = rw is refl
 
 -- cards after those so far
-abbrev pub behind : List Card → Result (List Card) DeckTextFault → Result (List Card) DeckTextFault
-behind so_far (Ok cards) = Ok (so_far ++ cards)
-behind so_far (Err fault) = Err fault
+abbrev pub beyond : List Card → Result (List Card) DeckTextFault → Result (List Card) DeckTextFault
+beyond so_far (Ok cards) = Ok (so_far ++ cards)
+beyond so_far (Err fault) = Err fault
 
 -- a line that is a card has at most 80 bytes, and is that card
 pub card_fits : (number : ℕ) (line : List ℕ) (card : Card) → card_of_line number line ≡ Ok card
@@ -59,7 +59,7 @@ unfolding card_of_line
 card_fits number line card is = by (columns_filled line == length line) refl is
   where
     read : Bool → Result Card DeckTextFault
-    read b = if b then Ok (card_with line) else Err (fault_behind number (columns_filled line))
+    read b = if b then Ok (card_with line) else Err (fault_beyond number (columns_filled line))
 
     by : (b : Bool) → (columns_filled line == length line) ≡ b → read b ≡ Ok card
         → (length line ≤ 80) × (card_with line ≡ card)
@@ -106,9 +106,9 @@ one_more number lens chars lens' chars' line card held is lens_are chars_are =
     (sym (chars_are ∙ ap (λ (cs : List ℕ). chars ++ cs) front)) added)
 
 -- a card after those so far, and then the others
-pub card_behind : (so_far : List Card) (card : Card) (others : Result (List Card) DeckTextFault)
-    → behind so_far (card_before (Ok card) others) ≡ behind (so_far ++ card ∷ []) others
-card_behind so_far card (Ok cards) =
+pub card_beyond : (so_far : List Card) (card : Card) (others : Result (List Card) DeckTextFault)
+    → beyond so_far (card_before (Ok card) others) ≡ beyond (so_far ++ card ∷ []) others
+card_beyond so_far card (Ok cards) =
     ap (λ (all : List Card). let read : Result (List Card) DeckTextFault = Ok all in read)
     (sym (append_assoc so_far (card ∷ []) cards))
-card_behind so_far card (Err fault) = refl
+card_beyond so_far card (Err fault) = refl

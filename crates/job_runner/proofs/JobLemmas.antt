@@ -86,7 +86,7 @@ unfolding unattended
 next law limit n deck s room =
     let whole = with_deck deck s in
     let bare = step (emptied whole) in
-    let behind_unseen : IsUnseen (deck_alone deck) s =
+    let beyond_unseen : IsUnseen (deck_alone deck) s =
     record { hopper = same_emptiness n s.devices.hopper deck room.hopper; stacker = refl; paper = refl } in
     let front_unseen : IsUnseen (outputs_of whole) (emptied whole) = record {
       hopper = ap (λ (hopper : List Card). length hopper == 0) (append-nil (s.devices.hopper ++ deck));
@@ -94,7 +94,7 @@ next law limit n deck s room =
       paper = not_full s.devices.paper n room.paper;
     } in
     let both : around (deck_alone deck) (step s) ≡ around (outputs_of whole) bare =
-    sym (law.in_frame (deck_alone deck) s behind_unseen)
+    sym (law.in_frame (deck_alone deck) s beyond_unseen)
     ∙ ap step (sym (put_back whole) ∙ sym (outputs_in_front whole (emptied whole)))
     ∙ law.in_frame (outputs_of whole) (emptied whole) front_unseen in
     let same_stop : (step s).stop ≡ bare.stop = ap (λ (t : Stepped). t.stop) both in
@@ -121,16 +121,16 @@ room_left law n deck s room =
     }
 
 -- a run from a step on that left this machine, and stopped it or not
-abbrev run_behind : ℕ → Option Stop → State → Finished
-run_behind n why t = run_on (record { state = t; stop = why }) (run_for n t)
+abbrev run_beyond : ℕ → Option Stop → State → Finished
+run_beyond n why t = run_on (record { state = t; stop = why }) (run_for n t)
 
 -- a run that goes on after its first step, and the job with it
 limit_after : (n m : ℕ) (deck : List Card) (why : Option Stop) (t : State)
     → ((run_for n t).stop ≡ stop.Limit → (run_for n t).steps ≡ n
     → unattended (n + m) (with_deck deck t) ≡ after_steps n (unattended m (with_deck deck (run_for n t).state)))
-    → (run_behind n why t).stop ≡ stop.Limit → (run_behind n why t).steps ≡ suc n
+    → (run_beyond n why t).stop ≡ stop.Limit → (run_beyond n why t).steps ≡ suc n
     → go_on why (with_deck deck t) (unattended (n + m))
-    ≡ after_steps (suc n) (unattended m (with_deck deck (run_behind n why t).state))
+    ≡ after_steps (suc n) (unattended m (with_deck deck (run_beyond n why t).state))
 limit_after n m deck None t more is_limit all =
     let rest = unattended m (with_deck deck (run_for n t).state) in
     ap (λ (job : Job). after_steps 1 job) (more is_limit (omega arith))
@@ -158,10 +158,10 @@ end_after : (n m : ℕ) (deck : List Card) (why : Option Stop) (t : State)
     → ((run_for n t).stop ≢ stop.Limit
     → unattended (n + m) (with_deck deck t)
     ≡ ended (run_for n t).steps (run_for n t).stop (with_deck deck (run_for n t).state))
-    → (run_behind n why t).stop ≢ stop.Limit
+    → (run_beyond n why t).stop ≢ stop.Limit
     → go_on why (with_deck deck t) (unattended (n + m))
-    ≡ ended (run_behind n why t).steps (run_behind n why t).stop
-    (with_deck deck (run_behind n why t).state)
+    ≡ ended (run_beyond n why t).steps (run_beyond n why t).stop
+    (with_deck deck (run_beyond n why t).state)
 end_after n m deck None t more no_limit =
     let rest = ended (run_for n t).steps (run_for n t).stop (with_deck deck (run_for n t).state) in
     ap (λ (job : Job). after_steps 1 job) (more no_limit)
@@ -303,7 +303,7 @@ room_for n deck m few full no_cards no_lines = record {
 -- what a run has printed and punched is a beginning of all that the job does
 begins_after : (n m : ℕ) (deck : List Card) (why : Option Stop) (t : State)
     → IsPartOf (run_for n t).state.devices.paper (run_for n t).state.devices.stacker (unattended (n + m) (with_deck deck t))
-    → IsPartOf (run_behind n why t).state.devices.paper (run_behind n why t).state.devices.stacker
+    → IsPartOf (run_beyond n why t).state.devices.paper (run_beyond n why t).state.devices.stacker
     (go_on why (with_deck deck t) (unattended (n + m)))
 begins_after n m deck None t more = record { lines = more.lines; cards = more.cards }
 begins_after n m deck (Some why) t more = record {
@@ -330,9 +330,9 @@ run_begins law (suc n) m deck s room =
     (run_begins law n m deck (step s).state (room_left law n deck s room)))
 
 -- a beginning after what was written before
-begins_behind : {X : Type 0} (before part some all : List X) → IsBeginning part (before ++ some) → IsBeginning some all
+begins_beyond : {X : Type 0} (before part some all : List X) → IsBeginning part (before ++ some) → IsBeginning some all
     → IsBeginning part (before ++ all)
-begins_behind before part some all first then_all = record {
+begins_beyond before part some all first then_all = record {
   rest = first.rest ++ then_all.rest;
   joined =
       sym (append_assoc part first.rest then_all.rest)
@@ -341,12 +341,12 @@ begins_behind before part some all first then_all = record {
       ∙ ap (λ xs. before ++ xs) then_all.joined;
 }
 
-pub part_behind : (lines part_lines some_lines : List PrintLine) (cards part_cards some_cards : List Card) (steps : ℕ)
+pub part_beyond : (lines part_lines some_lines : List PrintLine) (cards part_cards some_cards : List Card) (steps : ℕ)
     (job : Job) → IsBeginning part_lines (lines ++ some_lines) → IsBeginning part_cards (cards ++ some_cards)
     → IsPartOf some_lines some_cards job → IsPartOf part_lines part_cards (after_output lines cards steps job)
-part_behind lines part_lines some_lines cards part_cards some_cards steps job of_lines of_cards some = record {
-  lines = begins_behind lines part_lines some_lines job.lines of_lines some.lines;
-  cards = begins_behind cards part_cards some_cards job.cards of_cards some.cards;
+part_beyond lines part_lines some_lines cards part_cards some_cards steps job of_lines of_cards some = record {
+  lines = begins_beyond lines part_lines some_lines job.lines of_lines some.lines;
+  cards = begins_beyond cards part_cards some_cards job.cards of_cards some.cards;
 }
 
 -- a write that failed after a stretch
@@ -366,7 +366,7 @@ stretch_begins law limit steps n ran why lines part_lines cards part_cards deck 
     (run_begins law n q left filled room) in
     let here =
     subst (λ (t : State). IsPartOf after.devices.paper after.devices.stacker (unattended (n + q) t)) same began in
-    part_behind lines part_lines after.devices.paper cards part_cards after.devices.stacker steps
+    part_beyond lines part_lines after.devices.paper cards part_cards after.devices.stacker steps
     (unattended (limit - steps) (with_deck deck m)) of_lines of_cards
     (subst (λ (k : ℕ). IsPartOf after.devices.paper after.devices.stacker (unattended k (with_deck deck m))) parts here)
 

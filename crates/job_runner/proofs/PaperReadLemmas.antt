@@ -127,7 +127,7 @@ line_read place line rest old_is on =
     let text = graphics_of (trimmed line.text) in
     let forms_of : List ℕ = replicate n form_feed in
     let lines_of : List ℕ = replicate k line_feed in
-    let behind : List ℕ = text ++ line_feed ∷ rest in
+    let beyond : List ℕ = text ++ line_feed ∷ rest in
     let same = forms_on place line == 0 in
     let above = nat_lt line.line place.line in
     let form : (if n == 0 then place.form else (place.form + n) % forms) ≡ line.form =
@@ -136,12 +136,12 @@ line_read place line rest old_is on =
     let first : begun_at place line ≤ line.line =
     not_above (forms_on place line) place.line line.line same above refl refl on.first in
     let down : begun_at place line + k ≡ line.line = omega (arith, first) in
-    let parts : line_text place line ++ rest ≡ forms_of ++ (lines_of ++ behind) = simp append_assoc in
+    let parts : line_text place line ++ rest ≡ forms_of ++ (lines_of ++ beyond) = simp append_assoc in
     ap (λ (bytes : List ℕ). read_on place [] bytes) parts
-    ∙ forms_read n place (lines_of ++ behind)
-    ∙ lines_read k (if n == 0 then place.form else (place.form + n) % forms) (begun_at place line) behind
-    ∙ ap (λ (at : ℕ). read_on (record { form = at; line = begun_at place line + k }) [] behind) form
-    ∙ ap (λ (at : ℕ). read_on (record { form = line.form; line = at }) [] behind) down
+    ∙ forms_read n place (lines_of ++ beyond)
+    ∙ lines_read k (if n == 0 then place.form else (place.form + n) % forms) (begun_at place line) beyond
+    ∙ ap (λ (at : ℕ). read_on (record { form = at; line = begun_at place line + k }) [] beyond) form
+    ∙ ap (λ (at : ℕ). read_on (record { form = line.form; line = at }) [] beyond) down
     ∙ graphics_read (record { form = line.form; line = line.line }) [] text (line_feed ∷ rest) (still (trimmed line.text))
 
 lines_read_back : (place : PaperPlace) (lines : List PrintLine) → place.form < forms → AllByRecursion IsOnForm lines

@@ -36,13 +36,13 @@ abbrev pub card_with : List ℕ → Card
 card_with line = record { 0 = map code_of line ++ replicate (card_columns - length line) blank_code }
 
 -- what is wrong after this many columns: no card has the next byte, or a card has no further column
-abbrev pub fault_behind : ℕ → ℕ → DeckTextFault
-fault_behind number columns = if nat_lt columns card_columns then Graphic number (columns + 1) else Length number
+abbrev pub fault_beyond : ℕ → ℕ → DeckTextFault
+fault_beyond number columns = if nat_lt columns card_columns then Graphic number (columns + 1) else Length number
 
 -- the card of a line with this number, or its fault if it has a byte that fills no column
 unfoldable pub card_of_line : ℕ → List ℕ → Result Card DeckTextFault
 card_of_line number line =
-    if columns_filled line == length line then Ok (card_with line) else Err (fault_behind number (columns_filled line))
+    if columns_filled line == length line then Ok (card_with line) else Err (fault_beyond number (columns_filled line))
 
 -- a card before the others of a deck; the first fault counts
 abbrev pub card_before : Result Card DeckTextFault → Result (List Card) DeckTextFault → Result (List Card) DeckTextFault

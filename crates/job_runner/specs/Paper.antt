@@ -39,6 +39,6 @@ paper_text place [] = []
 paper_text place (line ∷ lines) = line_text place line ++ paper_text (place_after line) lines
 
 -- the place that it reaches then
-abbrev pub place_behind : PaperPlace → List PrintLine → PaperPlace
-place_behind place [] = place
-place_behind place (line ∷ lines) = place_behind (place_after line) lines
+abbrev pub place_beyond : PaperPlace → List PrintLine → PaperPlace
+place_beyond place [] = place
+place_beyond place (line ∷ lines) = place_beyond (place_after line) lines

@@ -55,15 +55,15 @@ impl CardList {
     ///
     /// If the memory for them is refused.
     #[tactic(auto, using(crate::proofs::CardListLemmas::cards_in_append, crate::proofs::CardListLemmas::are_of_cards_append))]
-    pub fn followed_by(self, behind: &CardList) -> Result<CardList, AllocError>
-        ensures { IfOk result (λ cards. cards ≡ self ++ behind.now) }
+    pub fn followed_by(self, beyond: &CardList) -> Result<CardList, AllocError>
+        ensures { IfOk result (λ cards. cards ≡ self ++ beyond.now) }
     {
         let Self {
             mut lens,
             mut chars,
         } = self;
-        lens.extend_from_slice(behind.lens.as_slice())?;
-        chars.extend_from_slice(behind.chars.as_slice())?;
+        lens.extend_from_slice(beyond.lens.as_slice())?;
+        chars.extend_from_slice(beyond.chars.as_slice())?;
         Ok(CardList { lens, chars })
     }
 }

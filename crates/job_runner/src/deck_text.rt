@@ -87,13 +87,13 @@ pub fn read_deck(alloc: Global, text: &[u8]) -> Result<ReadDeck, DeckTextFault>
     let mut lens = Vec::new(alloc);
     let mut chars = Vec::new(alloc);
     let mut rest = text;
-    while let Some((line, behind)) = split_line(rest) {
+    while let Some((line, beyond)) = split_line(rest) {
         let number = (lens.len() as u64).saturating_add(1);
         let card = card_of(number, line)?;
         let Ok(()) = put_card(&mut lens, &mut chars, &card, line.len()) else {
             return Err(DeckTextFault::Memory);
         };
-        rest = behind;
+        rest = beyond;
     }
     Ok(ReadDeck {
         cards: CardList { lens, chars },

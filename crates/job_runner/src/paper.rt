@@ -1,6 +1,6 @@
 //! The paper as a text: each line at its place on the form, and a form feed for each new form.
 ghost use Rattle.std.specs.Prelude.{◌≡◌, ◌++◌, replicate, IfOk, OnOk};
-ghost use Rattle.job_runner.specs.Paper.{line_text, new_forms, paper_text, place_after, place_behind};
+ghost use Rattle.job_runner.specs.Paper.{line_text, new_forms, paper_text, place_after, place_beyond};
 ghost use Rattle.job_runner.specs.PaperRead.{IsOnlyPaper, IsReadBack};
 
 use devices_1401::PrintLine;
@@ -83,7 +83,7 @@ pub fn put_paper(
     lines: &[PrintLine],
 ) -> Result<PaperPlace, AllocError>
     ensures text { OnOk result (text.new.items ≡ text.old.items ++ paper_text place lines.now) }
-    ensures place { IfOk result (λ next. next ≡ place_behind place lines.now) }
+    ensures place { IfOk result (λ next. next ≡ place_beyond place lines.now) }
 
     // The text shows the form, the line and the graphics of each line, and no paper that differs in them has this text.
     ensures again { OnOk result (IsReadBack place lines.now) }

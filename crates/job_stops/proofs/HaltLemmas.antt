@@ -35,8 +35,8 @@ use Rattle.machine_operations.specs.declared.operation.Operation.TheVariants as 
 use Rattle.machine_panel.specs.declared.stop.Stop.{Stop}
 use Rattle.machine_panel.specs.declared.stop.Stop.TheVariants as stop
 use Rattle.cpu_1401.specs.Branch.{after_branch, branch_on_cell, go_on, has_char, passes}
-use Rattle.cpu_1401.specs.CardsAndPrinter.{after_cards, after_control, after_write, all_three, asks, behind_last}
-use Rattle.cpu_1401.specs.CardsAndPrinter.{behind_print_area, has_d, line_alone}
+use Rattle.cpu_1401.specs.CardsAndPrinter.{after_cards, after_control, after_write, all_three, asks, beyond_last}
+use Rattle.cpu_1401.specs.CardsAndPrinter.{beyond_print_area, has_d, line_alone}
 use Rattle.cpu_1401.specs.CardsAndPrinter.{lozenge}
 use Rattle.cpu_1401.specs.CardsAndPrinter.{first_io_stop, move_on, punching, reading, reading_and_punching, with_all}
 use Rattle.cpu_1401.specs.CardsAndPrinter.{writing_and_punching, writing_and_reading}
@@ -127,7 +127,7 @@ cards_go request b this s =
 
 line_goes : (this : Instruction) (s : State) → GoesOn (after_write this s)
 line_goes this s =
-    either (has_d this.len && not (this.d == lozenge)) (stopped stop.DChar s) _ (record { no = refl }) (cards_go (line_alone (has_d this.len) s.storage) behind_print_area this s)
+    either (has_d this.len && not (this.d == lozenge)) (stopped stop.DChar s) _ (record { no = refl }) (cards_go (line_alone (has_d this.len) s.storage) beyond_print_area this s)
 
 control_goes : (this : Instruction) (s : State) (outcome : Result Carriage ControlFault)
     → GoesOn (after_control this s outcome)
@@ -158,16 +158,16 @@ perform_goes op.StoreB this s = inl (store_goes s.b this s)
 perform_goes op.NoOperation this s = inl (record { no = refl })
 perform_goes op.Halt this s = inr refl
 perform_goes op.SelectStacker this s = inl (record { no = refl })
-perform_goes op.ReadCard this s = inl (cards_go (asks reading s.storage) (behind_last reading) this s)
+perform_goes op.ReadCard this s = inl (cards_go (asks reading s.storage) (beyond_last reading) this s)
 perform_goes op.WriteLine this s = inl (line_goes this s)
 perform_goes op.WriteAndRead this s =
-    inl (cards_go (asks writing_and_reading s.storage) (behind_last writing_and_reading) this s)
-perform_goes op.PunchCard this s = inl (cards_go (asks punching s.storage) (behind_last punching) this s)
+    inl (cards_go (asks writing_and_reading s.storage) (beyond_last writing_and_reading) this s)
+perform_goes op.PunchCard this s = inl (cards_go (asks punching s.storage) (beyond_last punching) this s)
 perform_goes op.ReadAndPunch this s =
-    inl (cards_go (asks reading_and_punching s.storage) (behind_last reading_and_punching) this s)
+    inl (cards_go (asks reading_and_punching s.storage) (beyond_last reading_and_punching) this s)
 perform_goes op.WriteAndPunch this s =
-    inl (cards_go (asks writing_and_punching s.storage) (behind_last writing_and_punching) this s)
-perform_goes op.WriteReadAndPunch this s = inl (cards_go (asks all_three s.storage) (behind_last all_three) this s)
+    inl (cards_go (asks writing_and_punching s.storage) (beyond_last writing_and_punching) this s)
+perform_goes op.WriteReadAndPunch this s = inl (cards_go (asks all_three s.storage) (beyond_last all_three) this s)
 perform_goes op.ControlCarriage this s = inl (control_goes this s (controlled s.devices.carriage this.d))
 
 -- a check that ends with a halt was passed

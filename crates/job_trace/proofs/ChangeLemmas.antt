@@ -139,13 +139,13 @@ changed_places zero before after at same within changed other =
     let x = cell_at before at in
     let y = cell_at after at in
     let more = changes_on (at + 1) before after in
-    let behind : IsFrom (at + 1 + 1) more =
+    let beyond : IsFrom (at + 1 + 1) more =
     ends before after (at + 1) same (omega (arith, within))
     (λ lt. subst (λ (k : ℕ). is_changed (cell_at before k) (cell_at after k) ≡ false) (sym e)
     (other (omega (arith, lt, e)))) in
     changed_place before after at (omega (arith, within, same)) (omega (arith, within))
     (changed at (omega arith) (omega arith))
-    ∙ apart at x y more behind
+    ∙ apart at x y more beyond
     ∙ ap (λ (xs : List Cell). change at xs (y ∷ []) ∷ more) (sym (one_more before at zero (omega (arith, within, same))))
     ∙ ap (λ (ys : List Cell). change at (take (suc zero) (drop at before)) ys ∷ more)
     (sym (one_more after at zero (omega (arith, within))))

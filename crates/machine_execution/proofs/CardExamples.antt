@@ -33,14 +33,14 @@ machine_with devices = record (power_on 3) { devices = devices }
 abbrev is_refused : Refusal → State → Carried
 is_refused why s = record { state = s; answer = answer.Refused why }
 
-a_card_goes_behind_those_in_the_hopper :
+a_card_goes_beyond_those_in_the_hopper :
     carry_out (machine_with (record no_cards { hopper = card (49 ∷ []) ∷ [] })) (Feed (card (50 ∷ [])))
     ≡ record {
       state = machine_with (record no_cards { hopper = card (49 ∷ []) ∷ card (50 ∷ []) ∷ [] });
       answer = answer.Done;
     }
 unfolding carry_out
-a_card_goes_behind_those_in_the_hopper = refl
+a_card_goes_beyond_those_in_the_hopper = refl
 
 -- the hopper with this number of cards
 abbrev hopper_of : ℕ → State

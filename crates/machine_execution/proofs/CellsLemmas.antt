@@ -19,11 +19,11 @@ deposited-more storage address cells i h inside =
     let count : length so_far ≡ i = omega (arith, length-take i cells) in
     let before : length (front ++ so_far) ≡ address + i =
     omega (arith, length-append front so_far, length-take address storage, count) in
-    let behind : drop there storage ≡ get_or storage there blank ∷ drop (there + 1) storage =
+    let beyond : drop there storage ≡ get_or storage there blank ∷ drop (there + 1) storage =
     drop_more storage there blank (omega (arith, count)) in
     let next : there + 1 ≡ address + length (take (i + 1) cells) = omega (arith, count, length-take (i + 1) cells) in
     let rest : Storage = drop (there + 1) storage in
-    ap (λ (last : Storage). slice_set (front ++ so_far ++ last) (address + i) cell) behind
+    ap (λ (last : Storage). slice_set (front ++ so_far ++ last) (address + i) cell) beyond
     ∙ set_at (front ++ so_far) (get_or storage there blank) rest cell (address + i) before
     ∙ sym (append_assoc (front ++ so_far) (cell ∷ []) rest)
     ∙ ap (λ (more : Storage). more ++ rest) (append_assoc front so_far (cell ∷ []))

@@ -19,12 +19,12 @@ unfolding contents_in
 contents_in-more version size line first more parts e = rw e refl
 
 -- by the first line, if a line feed ends it
-pub contents_in-line : (version : Version) (size : ℕ) (line behind : List ℕ)
-    → contents_in version size (line ∷ parts_of behind)
-    ≡ contents_by size (segment_in version line) (contents_in version size (parts_of behind))
-    (entry_by size (end_in version line) (parts_of behind))
-contents_in-line version size line behind =
-    let some = parts_of-some behind in contents_in-more version size line some.0 some.1 (parts_of behind) some.2
+pub contents_in-line : (version : Version) (size : ℕ) (line beyond : List ℕ)
+    → contents_in version size (line ∷ parts_of beyond)
+    ≡ contents_by size (segment_in version line) (contents_in version size (parts_of beyond))
+    (entry_by size (end_in version line) (parts_of beyond))
+contents_in-line version size line beyond =
+    let some = parts_of-some beyond in contents_in-more version size line some.0 some.1 (parts_of beyond) some.2
 
 -- whether a segment lies in core storage, from what is answered for it
 pub inside_from : (inside : Bool) (segment found : Segment)
@@ -56,6 +56,6 @@ unfolding image_in
 image_in-more line first more parts e = rw e refl
 
 -- by the header, if a line feed ends it
-pub image_in-line : (line behind : List ℕ) → image_in (line ∷ parts_of behind)
-    ≡ image_by (header_in line) (parts_of behind)
-image_in-line line behind = let some = parts_of-some behind in image_in-more line some.0 some.1 (parts_of behind) some.2
+pub image_in-line : (line beyond : List ℕ) → image_in (line ∷ parts_of beyond)
+    ≡ image_by (header_in line) (parts_of beyond)
+image_in-line line beyond = let some = parts_of-some beyond in image_in-more line some.0 some.1 (parts_of beyond) some.2

@@ -21,27 +21,27 @@ read-alone (Ok start) = refl
 read-alone (Err fault) = refl
 
 -- after a segment
-pub read_at_segment : (version : Version) (size : ℕ) (segment : Segment) (line behind : List ℕ)
-    (parts : List (List ℕ)) → parts ≡ line ∷ parts_of behind → segment_in version line ≡ Some segment
+pub read_at_segment : (version : Version) (size : ℕ) (segment : Segment) (line beyond : List ℕ)
+    (parts : List (List ℕ)) → parts ≡ line ∷ parts_of beyond → segment_in version line ≡ Some segment
     → is_inside size segment ≡ true
-    → entry_read (contents_in version size parts) ≡ entry_read (contents_in version size (parts_of behind))
-read_at_segment version size segment line behind parts e found inside =
+    → entry_read (contents_in version size parts) ≡ entry_read (contents_in version size (parts_of beyond))
+read_at_segment version size segment line beyond parts e found inside =
     rw (e, contents_in-line, found, inside)
-    (read-with_segments (segment ∷ []) (contents_in version size (parts_of behind)))
+    (read-with_segments (segment ∷ []) (contents_in version size (parts_of beyond)))
 
 -- a segment doesn't lie in core storage
-pub read_at_outside : (version : Version) (size : ℕ) (segment : Segment) (line behind : List ℕ)
-    (parts : List (List ℕ)) → parts ≡ line ∷ parts_of behind → segment_in version line ≡ Some segment
+pub read_at_outside : (version : Version) (size : ℕ) (segment : Segment) (line beyond : List ℕ)
+    (parts : List (List ℕ)) → parts ≡ line ∷ parts_of beyond → segment_in version line ≡ Some segment
     → is_inside size segment ≡ false → entry_read (contents_in version size parts) ≡ Err Range
-read_at_outside version size segment line behind parts e found outside =
+read_at_outside version size segment line beyond parts e found outside =
     rw (e, contents_in-line, found, outside) refl
 
 -- the last line
-pub read_at_last : (version : Version) (size : ℕ) (line behind : List ℕ) (parts : List (List ℕ))
-    → parts ≡ line ∷ parts_of behind → segment_in version line ≡ None
-    → entry_read (contents_in version size parts) ≡ entry_by size (end_in version line) (parts_of behind)
-read_at_last version size line behind parts e none =
-    rw (e, contents_in-line, none) (read-alone (entry_by size (end_in version line) (parts_of behind)))
+pub read_at_last : (version : Version) (size : ℕ) (line beyond : List ℕ) (parts : List (List ℕ))
+    → parts ≡ line ∷ parts_of beyond → segment_in version line ≡ None
+    → entry_read (contents_in version size parts) ≡ entry_by size (end_in version line) (parts_of beyond)
+read_at_last version size line beyond parts e none =
+    rw (e, contents_in-line, none) (read-alone (entry_by size (end_in version line) (parts_of beyond)))
 
 -- no line feed follows
 pub read_at_rest : (version : Version) (size : ℕ) (rest : List ℕ) (parts : List (List ℕ)) → parts ≡ rest ∷ []
@@ -78,17 +78,17 @@ alone (Ok start) = refl
 alone (Err fault) = refl
 
 -- nor has the last line
-pub left_at_last : (version : Version) (size : ℕ) (line behind : List ℕ) (parts : List (List ℕ))
-    → parts ≡ line ∷ parts_of behind → segment_in version line ≡ None
+pub left_at_last : (version : Version) (size : ℕ) (line beyond : List ℕ) (parts : List (List ℕ))
+    → parts ≡ line ∷ parts_of beyond → segment_in version line ≡ None
     → (contents_or_none (contents_in version size parts)).0 ≡ []
-left_at_last version size line behind parts e none =
-    rw (e, contents_in-line, none) (alone (entry_by size (end_in version line) (parts_of behind)))
+left_at_last version size line beyond parts e none =
+    rw (e, contents_in-line, none) (alone (entry_by size (end_in version line) (parts_of beyond)))
 
 -- nor what isn't in core storage
-pub left_at_outside : (version : Version) (size : ℕ) (segment : Segment) (line behind : List ℕ)
-    (parts : List (List ℕ)) → parts ≡ line ∷ parts_of behind → segment_in version line ≡ Some segment
+pub left_at_outside : (version : Version) (size : ℕ) (segment : Segment) (line beyond : List ℕ)
+    (parts : List (List ℕ)) → parts ≡ line ∷ parts_of beyond → segment_in version line ≡ Some segment
     → is_inside size segment ≡ false → (contents_or_none (contents_in version size parts)).0 ≡ []
-left_at_outside version size segment line behind parts e found outside =
+left_at_outside version size segment line beyond parts e found outside =
     rw (e, contents_in-line, found, outside) refl
 
 -- what is left of good contents after their first segment
@@ -110,11 +110,11 @@ left_by segment start (Err fault) (Ok more) e good = absurd cc
 left_by segment start (Ok all) (Err fault) e good = absurd cc
 left_by segment start (Err why) (Err fault) e good = absurd cc
 
-pub left_at_segment : (version : Version) (size start : ℕ) (segment : Segment) (line behind : List ℕ)
-    (parts : List (List ℕ)) → parts ≡ line ∷ parts_of behind → segment_in version line ≡ Some segment
+pub left_at_segment : (version : Version) (size start : ℕ) (segment : Segment) (line beyond : List ℕ)
+    (parts : List (List ℕ)) → parts ≡ line ∷ parts_of beyond → segment_in version line ≡ Some segment
     → is_inside size segment ≡ true
     → contents_in version size parts ≡ Ok ((contents_or_none (contents_in version size parts)).0, start)
-    → IsLeft segment start (contents_in version size parts) (contents_in version size (parts_of behind))
-left_at_segment version size start segment line behind parts e found inside good =
-    left_by segment start (contents_in version size parts) (contents_in version size (parts_of behind))
+    → IsLeft segment start (contents_in version size parts) (contents_in version size (parts_of beyond))
+left_at_segment version size start segment line beyond parts e found inside good =
+    left_by segment start (contents_in version size parts) (contents_in version size (parts_of beyond))
     (rw (e, contents_in-line, found, inside) refl) good

@@ -177,10 +177,10 @@ unfolding read graphics number_in number_at spelled cells_of header_with header_
     image_in
 an_entry_past_the_size_is_out_of_range = refl
 
-nothing_stands_behind_the_end : read (codes "IMAGE1 1400\nEND 0000\n\n") ≡ Err BadRecord
+nothing_stands_beyond_the_end : read (codes "IMAGE1 1400\nEND 0000\n\n") ≡ Err BadRecord
 unfolding read graphics number_in number_at spelled cells_of header_with header_in segment_in end_in contents_in
     image_in
-nothing_stands_behind_the_end = refl
+nothing_stands_beyond_the_end = refl
 
 -- the first wrong line decides
 a_later_line_is_not_looked_at : read (codes "IMAGE1 1400\n1400 01 A\nX\n") ≡ Err Range

@@ -252,11 +252,11 @@ segment_again version segment good small =
     let few = (and_parts _ (list_all is_character segment.cells) good).0 in
     let own = (and_parts (nat_le 1 count && nat_le count 40) _ good).1 in
     let cells = cells_text segment.cells in
-    let behind_address : List ℕ = 32 ∷ (digits_in 2 count ++ (32 ∷ cells)) in
+    let beyond_address : List ℕ = 32 ∷ (digits_in 2 count ++ (32 ∷ cells)) in
     let line_is = regroup (digits_in digits segment.address) (digits_in 2 count) cells in
     let address : number_at digits (digits_in digits segment.address ++ codes " " ++ digits_in 2 count ++ codes " "
-    ++ cells) ≡ Some (segment.address, behind_address) =
-    ap (number_at digits) (sym line_is) ∙ number_of_again version segment.address behind_address small in
+    ++ cells) ≡ Some (segment.address, beyond_address) =
+    ap (number_at digits) (sym line_is) ∙ number_of_again version segment.address beyond_address small in
     rw (
       address,
       number_again 2 count (32 ∷ cells) (omega arith) (omega arith) (few_bound segment.cells few),

@@ -15,8 +15,8 @@ use Rattle.machine_image.specs.Reading.{segment_in, end_in, header_in, parts_of,
 use Rattle.machine_image.specs.Reading.{entry_alone, entry_by, contents_by, contents_in, image_of, image_by, image_in}
 use Rattle.machine_image.specs.Reading.{Gives}
 use Rattle.machine_image.specs.Refusal.{IsNoRecord, HasFault, unfinished, no_record, segment_outside, entry_outside}
-use Rattle.machine_image.specs.Refusal.{behind_the_end, further_on, HasTextFault, no_header_yet, no_header}
-use Rattle.machine_image.specs.Refusal.{behind_the_header, IsRefused}
+use Rattle.machine_image.specs.Refusal.{beyond_the_end, further_on, HasTextFault, no_header_yet, no_header}
+use Rattle.machine_image.specs.Refusal.{beyond_the_header, IsRefused}
 use Rattle.machine_image.proofs.LineLemmas.{parts_of-some}
 use Rattle.machine_image.proofs.RecordLemmas.{header_takes, header_again, segment_takes, segment_again, end_takes}
 use Rattle.machine_image.proofs.RecordLemmas.{end_small, end_again}
@@ -49,7 +49,7 @@ by_rest version size line next parts start true fault e inside d h = absurd cc
 by_rest version size line next parts start false fault e inside d h =
     subst (HasFault version size (line ∷ next
     ∷ parts)) (same_fault BadRecord fault h)
-    (behind_the_end version size line next parts start (end_takes version line start e) inside d)
+    (beyond_the_end version size line next parts start (end_takes version line start e) inside d)
 
 by_bound : (version : Version) (size : ℕ) (line next : List ℕ) (parts : List (List ℕ)) (start : ℕ) (inside : Bool)
     (fault : ImageFault) → end_in version line ≡ Some start
@@ -130,7 +130,7 @@ by_header line next parts None fault e h =
     ∙ header_again version size good)))
 by_header line next parts (Some header) fault e h =
     let first = header_takes line header.0 header.1 e in
-    behind_the_header line next parts header.0 header.1 fault first.0 first.1
+    beyond_the_header line next parts header.0 header.1 fault first.0 first.1
     (contents_fault header.0 header.1 parts next fault (size_fault header.1 _ fault h))
 
 parts_fault : (parts : List (List ℕ)) (line : List ℕ) (fault : ImageFault) → image_in (line ∷ parts) ≡ Err fault

@@ -101,12 +101,12 @@ unfolding cells_text
 one_front front found text more [] is h others = absurd cc
 one_front front found text more (cell ∷ cells) is h others =
     let one = is cell cc in
-    let behind = others cells cc in
+    let beyond = others cells cc in
     record {
       text_is =
-          ap (λ (rest : List ℕ). front ++ rest) behind.text_is
+          ap (λ (rest : List ℕ). front ++ rest) beyond.text_is
           ∙ ap (λ (first : List ℕ). first ++ flat_map cell_text cells) one.0;
-      own = and_from _ _ one.1 behind.own;
+      own = and_from _ _ one.1 beyond.own;
     }
 
 plain_front : (byte : ℕ) (text : List ℕ) (more : List (Option Cell)) (cells : List Cell)

@@ -210,17 +210,17 @@ contents_again version size (segment ∷ segments) start h good inside entry =
     let one = (and_parts _ _ good).0 in
     let lies = (and_parts _ _ inside).0 in
     let small = address_bound version size segment h one lies in
-    let behind : List ℕ = contents_text version (segments, start) in
+    let beyond : List ℕ = contents_text version (segments, start) in
     let whole : contents_text version (segment ∷ segments, start) ≡ line_of line
-    ++ behind =
+    ++ beyond =
     append_assoc (line_of line) (flat_map (λ each. line_of (segment_text version each)) segments)
     (line_of (end_text version start)) in
     let parts : parts_of (contents_text version (segment ∷ segments, start)) ≡ line
-    ∷ parts_of behind = ap parts_of whole ∙ parts_of-line line behind (segment_goes_on version segment one small) in
+    ∷ parts_of beyond = ap parts_of whole ∙ parts_of-line line beyond (segment_goes_on version segment one small) in
     let more =
     contents_again version size segments start h (and_parts (is_segment segment) _ good).1
     (and_parts (is_inside size segment) _ inside).1 entry in
-    let first = contents_in-line version size line behind in
+    let first = contents_in-line version size line beyond in
     let found = segment_again version segment one small in
     ap (contents_in version size) parts ∙ first ∙ rw (found, lies, more)
 
@@ -230,15 +230,15 @@ pub image_again : (version : Version) (image : Image) → HasText version image
 unfolding image_text
 image_again version image has =
     let header = header_text version image.size in
-    let behind : List ℕ = contents_text version (image.segments, image.start) in
+    let beyond : List ℕ = contents_text version (image.segments, image.start) in
     let whole : image_text version image ≡ line_of header
-    ++ behind =
+    ++ beyond =
     append_assoc (line_of header) (segments_text version image.segments) (line_of (end_text version image.start)) in
-    let parts : parts_of (image_text version image) ≡ header ∷ parts_of behind = ap parts_of whole
-    ∙ parts_of-line header behind (header_goes_on version image.size (size_bound version image.size has.size)) in
+    let parts : parts_of (image_text version image) ≡ header ∷ parts_of beyond = ap parts_of whole
+    ∙ parts_of-line header beyond (header_goes_on version image.size (size_bound version image.size has.size)) in
     let contents =
     contents_again version image.size image.segments image.start has.size has.cells has.segments has.start in
-    ap image_in parts ∙ image_in-line header behind ∙ rw (header_again version image.size has.size, contents)
+    ap image_in parts ∙ image_in-line header beyond ∙ rw (header_again version image.size has.size, contents)
 
 -- ---- what is read is written so
 
@@ -283,11 +283,11 @@ alone (Ok start) contents h =
 alone (Err fault) contents h = absurd cc
 
 -- segments after a first one
-behind_first : (segment : Segment) (more : Result Contents ImageFault) (contents : Contents)
+beyond_first : (segment : Segment) (more : Result Contents ImageFault) (contents : Contents)
     → with_segments (segment ∷ []) more ≡ Ok contents
     → (rest : Contents) × (more ≡ Ok rest) × (contents ≡ (segment ∷ rest.0, rest.1))
-behind_first segment (Ok rest) contents h = (rest, refl, sym (same_Ok_contents (segment ∷ rest.0, rest.1) contents h))
-behind_first segment (Err fault) contents h = absurd cc
+beyond_first segment (Ok rest) contents h = (rest, refl, sym (same_Ok_contents (segment ∷ rest.0, rest.1) contents h))
+beyond_first segment (Err fault) contents h = absurd cc
 
 -- by the segment that a line is
 by_segment : (version : Version) (size : ℕ) (line next : List ℕ) (parts : List (List ℕ)) (segment : Option Segment)
@@ -308,7 +308,7 @@ by_segment version size line next parts None more contents e h others =
     })
 by_segment version size line next parts (Some segment) more contents e h others =
     let lies = chosen (is_inside size segment) (with_segments (segment ∷ []) more) Range contents h in
-    let front = behind_first segment more contents lies.1 in
+    let front = beyond_first segment more contents lies.1 in
     let rest = others front.0 front.1 in
     let one = segment_takes version line segment e in
     let regrouped : line ++ (10 ∷ contents_text version front.0)
@@ -325,7 +325,7 @@ by_segment version size line next parts (Some segment) more contents e h others 
             start =
                 rest.good.start;
           };
-      text_is = ap (λ (behind : List ℕ). line ++ (10 ∷ behind)) rest.text_is ∙ regrouped;
+      text_is = ap (λ (beyond : List ℕ). line ++ (10 ∷ beyond)) rest.text_is ∙ regrouped;
     })
 
 contents_takes : (version : Version) (size : ℕ) (parts : List (List ℕ)) (contents : Contents)
@@ -355,8 +355,8 @@ by_header line next parts None image e h = absurd cc
 by_header line next parts (Some header) image e h =
     let found = read_size header.1 (contents_in header.0 header.1 (next ∷ parts)) image h in
     let first = header_takes line header.0 header.1 e in
-    let behind = contents_takes header.0 header.1 (next ∷ parts) (image.segments, image.start) found.0 in
-    let good = behind.good in
+    let beyond = contents_takes header.0 header.1 (next ∷ parts) (image.segments, image.start) found.0 in
+    let good = beyond.good in
     record {
       version = header.0;
       has_text = record {
@@ -365,7 +365,7 @@ by_header line next parts (Some header) image e h =
         segments = subst (λ n. list_all (is_inside n) image.segments ≡ true) found.1 good.segments;
         start = subst (λ n. nat_lt image.start n ≡ true) found.1 good.start;
       };
-      text_is = ap (λ (rest : List ℕ). line ++ (10 ∷ rest)) behind.text_is
+      text_is = ap (λ (rest : List ℕ). line ++ (10 ∷ rest)) beyond.text_is
           ∙ (ap (λ (front : List ℕ). front ++ (10 ∷ contents_text header.0 (image.segments, image.start))) (first.0
           ∙ ap (header_text header.0) found.1)
           ∙ (sym (append_assoc (header_text header.0 image.size) (codes "\n")

@@ -34,7 +34,7 @@ pub data HasFault : Version → ℕ → List (List ℕ) → ImageFault → Type 
       → line ≡ end_text version start → start < 10 ^ address_digits version → size ≤ start
       → HasFault version size (line ∷ next ∷ parts) Range
   -- a byte follows the entry
-  behind_the_end : (version : Version) (size : ℕ) (line next : List ℕ) (parts : List (List ℕ)) (start : ℕ)
+  beyond_the_end : (version : Version) (size : ℕ) (line next : List ℕ) (parts : List (List ℕ)) (start : ℕ)
       → line ≡ end_text version start → start < size → is_done (next ∷ parts) ≡ false
       → HasFault version size (line ∷ next ∷ parts) BadRecord
   -- a segment is good, and what follows it has a fault
@@ -53,7 +53,7 @@ pub data HasTextFault : List (List ℕ) → ImageFault → Type 0 where
       → ((version : Version) (size : ℕ) → has_size version size ≡ true → line ≢ header_text version size)
       → HasTextFault (line ∷ next ∷ parts) Header
   -- what follows the header has a fault
-  behind_the_header : (line next : List ℕ) (parts : List (List ℕ)) (version : Version) (size : ℕ) (fault : ImageFault)
+  beyond_the_header : (line next : List ℕ) (parts : List (List ℕ)) (version : Version) (size : ℕ) (fault : ImageFault)
       → line ≡ header_text version size → has_size version size ≡ true → HasFault version size (next ∷ parts) fault
       → HasTextFault (line ∷ next ∷ parts) fault
 

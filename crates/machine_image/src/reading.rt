@@ -106,11 +106,11 @@ fn kept_segments(alloc: Global, lent: &LentImage<'_>) -> Result<Vec<Segment>, Im
 {
     let mut segments = Vec::new(alloc);
     let mut rest = lent.again();
-    while let Some((segment, behind)) = rest.split_first() {
+    while let Some((segment, beyond)) = rest.split_first() {
         if segments.push(segment).is_err() {
             return Err(ImageFault::Memory);
         }
-        rest = behind;
+        rest = beyond;
     }
     Ok(segments)
 }
@@ -148,7 +148,7 @@ impl<'a> LentImage<'a> {
             self.now.segments ≡ found.0 ∷ found.1.segments) }
         ensures same { IfSome result (λ found. (found.1.size ≡ self.now.size) × (found.1.start ≡ self.now.start)) }
     {
-        let Some((line, behind)) = split_line(self.rest) else {
+        let Some((line, beyond)) = split_line(self.rest) else {
             return None;
         };
         let Some(spelled) = segment(self.version, line) else {
@@ -161,7 +161,7 @@ impl<'a> LentImage<'a> {
             version: self.version,
             size: self.size,
             start: self.start,
-            rest: behind,
+            rest: beyond,
         };
         Some((segment, rest))
     }
@@ -180,13 +180,13 @@ fn image(text: &[u8]) -> Result<LentImage<'_>, ImageFault>
     ensures whole { Gives result (image_in (parts_of text.now)) }
     ensures own { IfErr result IsOfText }
 {
-    let Some((line, behind)) = split_line(text) else {
+    let Some((line, beyond)) = split_line(text) else {
         return Err(ImageFault::Truncated);
     };
     let Some((version, size)) = header(line) else {
         return Err(ImageFault::Header);
     };
-    contents(version, size, behind)
+    contents(version, size, beyond)
 }
 
 /// The image of a size whose segments and entry a text spells.
@@ -194,7 +194,7 @@ fn contents(version: Version, size: u16, rest: &[u8]) -> Result<LentImage<'_>, I
     ensures whole { Gives result (image_of size (contents_in version size (parts_of rest.now))) }
     ensures own { IfErr result IsOfText }
 {
-    let start = entry_behind(version, size, rest)?;
+    let start = entry_beyond(version, size, rest)?;
     Ok(LentImage {
         version,
         size,
@@ -204,19 +204,19 @@ fn contents(version: Version, size: u16, rest: &[u8]) -> Result<LentImage<'_>, I
 }
 
 /// The entry that a text spells after good segments of an image of this size.
-fn entry_behind(version: Version, size: u16, text: &[u8]) -> Result<u16, ImageFault>
+fn entry_beyond(version: Version, size: u16, text: &[u8]) -> Result<u16, ImageFault>
     ensures value { result ≡ entry_read (contents_in version size (parts_of text.now)) }
     ensures own { IfErr result IsOfText }
 {
     let mut rest = text;
-    while let Some((line, behind)) = split_line(rest) {
+    while let Some((line, beyond)) = split_line(rest) {
         let Some(spelled) = segment(version, line) else {
-            return last_entry(size, entry(version, line), behind);
+            return last_entry(size, entry(version, line), beyond);
         };
         if segment_inside(size, &spelled).is_err() {
             return Err(ImageFault::Range);
         }
-        rest = behind;
+        rest = beyond;
     }
     Err(ImageFault::Truncated)
 }
@@ -237,8 +237,8 @@ fn segment_inside(size: u16, spelled: &Spelled) -> Result<Segment, ImageFault>
 }
 
 /// The entry that a line names, if it does, it lies in core storage of this size and nothing follows the line.
-fn last_entry(size: u16, entry: Option<u32>, behind: &[u8]) -> Result<u16, ImageFault>
-    ensures value { result ≡ entry_by size entry (parts_of behind.now) }
+fn last_entry(size: u16, entry: Option<u32>, beyond: &[u8]) -> Result<u16, ImageFault>
+    ensures value { result ≡ entry_by size entry (parts_of beyond.now) }
     ensures fault { IfErr result IsOfText }
 {
     let Some(start) = entry else {
@@ -247,7 +247,7 @@ fn last_entry(size: u16, entry: Option<u32>, behind: &[u8]) -> Result<u16, Image
     if start >= u32::from(size) {
         return Err(ImageFault::Range);
     }
-    if !behind.is_empty() {
+    if !beyond.is_empty() {
         return Err(ImageFault::BadRecord);
     }
     Ok(start as u16)

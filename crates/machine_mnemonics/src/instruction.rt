@@ -73,23 +73,23 @@ fn put_operands(text: &mut Vec<u8>, cells: &[Cell]) -> Result<(), AllocError>
             text.push(x.char.graphic())?;
             Ok(text.push(y.char.graphic())?)
         }
-        [h, t, u, behind @ ..] => {
+        [h, t, u, beyond @ ..] => {
             put_address(text, h.char, t.char, u.char)?;
-            if behind.is_empty() {
+            if beyond.is_empty() {
                 return Ok(());
             }
             text.push(b',')?;
-            put_operands(text, behind)
+            put_operands(text, beyond)
         }
     }
 }
 
 /// The graphic of the d-character of an instruction, by the cells after its operation, if it has one.
-fn d_in(behind: &[Cell]) -> Option<u8>
-    ensures value { result ≡ d_in behind.now }
-    ensures own { IsOwnD behind.now }
+fn d_in(beyond: &[Cell]) -> Option<u8>
+    ensures value { result ≡ d_in beyond.now }
+    ensures own { IsOwnD beyond.now }
 {
-    match behind {
+    match beyond {
         [] | [_, _] => None,
         [d] => Some(d.char.graphic()),
         [_, _, _, more @ ..] => d_in(more),
@@ -97,13 +97,13 @@ fn d_in(behind: &[Cell]) -> Option<u8>
 }
 
 /// The cells whose operands are written: not the d-character that the mnemonic says.
-fn written(mnemonic: Mnemonic, behind: &[Cell]) -> &[Cell]
-    ensures { result.now ≡ written mnemonic behind.now }
+fn written(mnemonic: Mnemonic, beyond: &[Cell]) -> &[Cell]
+    ensures { result.now ≡ written mnemonic beyond.now }
 {
     if mnemonic.says_d {
-        &behind[..behind.len().saturating_sub(1)]
+        &beyond[..beyond.len().saturating_sub(1)]
     } else {
-        behind
+        beyond
     }
 }
 
@@ -125,11 +125,11 @@ pub fn put_instruction(text: &mut Vec<u8>, cells: &[Cell]) -> Result<(), AllocEr
     // The operation and the d-character are the characters that have their graphics.
     ensures own { IsOwnInstruction cells.now }
 {
-    let [operation, behind @ ..] = cells else {
+    let [operation, beyond @ ..] = cells else {
         return Ok(());
     };
-    let addresses = (behind.len() / 3) as u8;
-    let mnemonic = Mnemonic::of(operation.char.graphic(), addresses, d_in(behind));
+    let addresses = (beyond.len() / 3) as u8;
+    let mnemonic = Mnemonic::of(operation.char.graphic(), addresses, d_in(beyond));
     text.extend_from_slice(mnemonic.columns.as_slice())?;
-    put_operands(text, written(mnemonic, behind))
+    put_operands(text, written(mnemonic, beyond))
 }

@@ -70,7 +70,7 @@ pub fn read_cells(text: &[u8]) -> Result<Cells, CellsFault>
     let mut cells = [Cell::BLANK; MOST_CELLS];
     let mut count = 0;
     let mut rest = text;
-    while let Some((cell, behind)) = split_cell(rest) {
+    while let Some((cell, beyond)) = split_cell(rest) {
         if count == MOST_CELLS {
             return Err(CellsFault::Length);
         }
@@ -79,7 +79,7 @@ pub fn read_cells(text: &[u8]) -> Result<Cells, CellsFault>
         };
         cells[count] = cell;
         count += 1;
-        rest = behind;
+        rest = beyond;
     }
     Cells::from_slice(&cells[..count]).ok_or(CellsFault::Length)
 }

@@ -3,7 +3,7 @@ use Rattle.std.proofs.Common.{◌≡◌, ℕ, suc, true, false, List, [], ◌∷
 use Rattle.std.specs.Prelude.{Option, Result, Ok, Err}
 use Rattle.operate_orders.specs.List.{listed}
 use Rattle.operate_orders.specs.Operands.{◌>>=◌}
-use Rattle.operate_orders.specs.Parts.{operand_in, behind_operand, is_end}
+use Rattle.operate_orders.specs.Parts.{operand_in, beyond_operand, is_end}
 use Rattle.operate_orders.specs.declared.fault.OrderFault.{OrderFault}
 use Rattle.operate_orders.specs.declared.fault.OrderFault.TheVariants.{Usage}
 use Rattle.operate_orders.specs.declared.words.Keyword.{Keyword}
@@ -26,9 +26,9 @@ more_front front x (Err why) = refl
 pub one_listed : {A : Type 0} (keyword : Keyword) (one : List ℕ → Result (Option A) OrderFault) (n : ℕ) (rest : List ℕ)
     (x : Option A) (front : List (Option A)) → one (operand_in rest) ≡ Ok x
     → with_front front (listed keyword one (suc n) rest)
-    ≡ with_front (front ++ x ∷ []) (listed keyword one n (behind_operand rest))
+    ≡ with_front (front ++ x ∷ []) (listed keyword one n (beyond_operand rest))
 unfolding listed
-one_listed keyword one n rest x front read = rw read (more_front front x (listed keyword one n (behind_operand rest)))
+one_listed keyword one n rest x front read = rw read (more_front front x (listed keyword one n (beyond_operand rest)))
 
 -- an operand with a fault
 pub none_listed : {A : Type 0} (keyword : Keyword) (one : List ℕ → Result (Option A) OrderFault) (n : ℕ) (rest : List ℕ)

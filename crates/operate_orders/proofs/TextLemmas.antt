@@ -12,18 +12,18 @@ pub in_front : (bytes front : List ℕ) → front ≡ bytes → length bytes ≤
     → IsHeld (record { bytes = front ++ drop (length bytes) (replicate most_line_bytes 0); len = length bytes })
 in_front bytes front e most =
     let len : length front ≡ length bytes = ap length e in
-    let behind : drop (length bytes) (replicate {A = ℕ} most_line_bytes 0) ≡ replicate (most_line_bytes - length bytes) 0 =
+    let beyond : drop (length bytes) (replicate {A = ℕ} most_line_bytes 0) ≡ replicate (most_line_bytes - length bytes) 0 =
     drop-replicate (length bytes) most_line_bytes 0 in
     record {
       most = most;
       room = omega (
         arith,
         length-append front (drop (length bytes) (replicate most_line_bytes 0)),
-        ap length behind,
+        ap length beyond,
         length-replicate {A = ℕ} (most_line_bytes - length bytes) 0,
         len,
       );
-      zeros = drop_at front (drop (length bytes) (replicate most_line_bytes 0)) (length bytes) len ∙ behind;
+      zeros = drop_at front (drop (length bytes) (replicate most_line_bytes 0)) (length bytes) len ∙ beyond;
     }
 
 capital_zeros : (n : ℕ) → map to_ascii_uppercase (replicate n 0) ≡ replicate n 0

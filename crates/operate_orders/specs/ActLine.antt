@@ -12,7 +12,7 @@ use Rattle.machine_notation.specs.declared.fault.CellsFault.TheVariants as cells
 use Rattle.machine_panel.specs.declared.switch_name.SwitchName.{SwitchName}
 use Rattle.operate_orders.specs.LookLine.{Said}
 use Rattle.operate_orders.specs.Operands.{◌>>=◌, place_operand, lone_place, lone_count, lone_file}
-use Rattle.operate_orders.specs.Parts.{first_of, before_byte, from_byte, operand_in, behind_operand, is_end, has_graphics}
+use Rattle.operate_orders.specs.Parts.{first_of, before_byte, from_byte, operand_in, beyond_operand, is_end, has_graphics}
 use Rattle.operate_orders.specs.Text.{capitals}
 use Rattle.operate_orders.specs.Value.{equals, value_operand}
 use Rattle.operate_orders.specs.declared.fault.OrderFault.{OrderFault}
@@ -48,15 +48,15 @@ cells_in text = if length text == 0 then Err (fault.Usage keyword.Deposit) else 
 
 -- a statement after an equals sign, or else cells after one blank
 unfoldable pub deposited_in : List ℕ → Result Deposited OrderFault
-deposited_in behind =
-    if first_of (without_blanks behind) == equals then statement_in (drop 1 (without_blanks behind))
-    else cells_in (drop 1 behind)
+deposited_in beyond =
+    if first_of (without_blanks beyond) == equals then statement_in (drop 1 (without_blanks beyond))
+    else cells_in (drop 1 beyond)
 
 -- deposit ADDRESS TEXT, or deposit ADDRESS = STATEMENT
 unfoldable pub deposit_of : List ℕ → Said
 deposit_of rest = do
   place ← place_operand keyword.Deposit (operand_in rest)
-  what ← deposited_in (behind_operand rest)
+  what ← deposited_in (beyond_operand rest)
   Ok (Act (act.Deposit place what))
 
 -- set FIELD = NUMBER, or set FIELD = @TEXT@
@@ -99,8 +99,8 @@ switched letter setting = switch_with (switch_named (capitals letter)) (setting_
 -- switch A on, or switch A off
 unfoldable pub switch_of : List ℕ → Said
 switch_of rest =
-    if not (is_end (behind_operand (behind_operand rest))) then Err (fault.Usage keyword.Switch)
-    else ok_or (switched (operand_in rest) (operand_in (behind_operand rest))) (fault.Usage keyword.Switch)
+    if not (is_end (beyond_operand (beyond_operand rest))) then Err (fault.Usage keyword.Switch)
+    else ok_or (switched (operand_in rest) (operand_in (beyond_operand rest))) (fault.Usage keyword.Switch)
 
 -- feed [TEXT]: all bytes after one blank
 unfoldable pub feed_of : List ℕ → Said

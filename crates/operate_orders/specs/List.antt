@@ -1,7 +1,7 @@
 -- Up to eight operands of a kind (own).
 use Rattle.std.specs.Prelude.{ℕ, zero, suc, ◌==◌, if◌then◌else◌, List, [], ◌∷◌, length, Option, None, Some, Result, Ok}
 use Rattle.operate_orders.specs.Operands.{◌>>=◌, ended, place_operand, count_operand}
-use Rattle.operate_orders.specs.Parts.{operand_in, behind_operand}
+use Rattle.operate_orders.specs.Parts.{operand_in, beyond_operand}
 use Rattle.operate_orders.specs.declared.fault.OrderFault.{OrderFault}
 use Rattle.operate_orders.specs.declared.places.Place.{Place}
 use Rattle.operate_orders.specs.declared.words.Keyword.{Keyword}
@@ -13,7 +13,7 @@ unfoldable pub listed : {A : Type 0} → Keyword → (List ℕ → Result (Optio
 listed keyword one zero rest = ended keyword rest []
 listed keyword one (suc n) rest = do
   first ← one (operand_in rest)
-  more ← listed keyword one n (behind_operand rest)
+  more ← listed keyword one n (beyond_operand rest)
   Ok (first ∷ more)
 
 -- a field, or none where there is no word

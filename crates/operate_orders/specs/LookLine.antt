@@ -2,7 +2,7 @@
 use Rattle.std.specs.Prelude.{ℕ, if◌then◌else◌, List, None, Some, Result, Ok, Err}
 use Rattle.operate_orders.specs.List.{fields_in}
 use Rattle.operate_orders.specs.Operands.{◌>>=◌, ended, lone_place, lone_range, lone_count}
-use Rattle.operate_orders.specs.Parts.{operand_in, behind_operand, is_end}
+use Rattle.operate_orders.specs.Parts.{operand_in, beyond_operand, is_end}
 use Rattle.operate_orders.specs.Text.{capitals}
 use Rattle.operate_orders.specs.declared.fault.OrderFault.{OrderFault}
 use Rattle.operate_orders.specs.declared.fault.OrderFault.TheVariants.{Usage}
@@ -47,7 +47,7 @@ paper_of rest = do
 
 -- symbols [LETTERS]
 unfoldable pub symbols_of : List ℕ → Said
-symbols_of rest = ended keyword.Symbols (behind_operand rest) (Look (look.Symbols (capitals (operand_in rest))))
+symbols_of rest = ended keyword.Symbols (beyond_operand rest) (Look (look.Symbols (capitals (operand_in rest))))
 
 -- evaluate EXPRESSION
 unfoldable pub evaluate_of : List ℕ → Said

@@ -6,7 +6,7 @@ use Rattle.console_text.specs.Words.{without_blanks}
 use Rattle.operate_orders.specs.List.{numbers_in}
 use Rattle.operate_orders.specs.LookLine.{Said}
 use Rattle.operate_orders.specs.Operands.{◌>>=◌, ended, place_operand, count_operand, lone_range, lone_file}
-use Rattle.operate_orders.specs.Parts.{first_of, operand_in, behind_operand, is_end}
+use Rattle.operate_orders.specs.Parts.{first_of, operand_in, beyond_operand, is_end}
 use Rattle.operate_orders.specs.Text.{kept, capitals}
 use Rattle.operate_orders.specs.Value.{at_sign, quoted, condition_operand}
 use Rattle.operate_orders.specs.Words.{keyword_of}
@@ -24,7 +24,7 @@ unfoldable pub if_in : List ℕ → Result (Option Condition) OrderFault
 if_in rest =
     if length (operand_in rest) == 0 then Ok None
     else (if not (bytes_eq (capitals (operand_in rest)) (codes "IF")) then Err (fault.Usage keyword.Break) else do
-      condition ← condition_operand keyword.Break (behind_operand rest)
+      condition ← condition_operand keyword.Break (beyond_operand rest)
       Ok (Some condition))
 
 -- a count, and then the same
@@ -32,7 +32,7 @@ unfoldable pub counted_in : List ℕ → Result (Option ℕ × Option Condition)
 counted_in rest = do
   after ← count_operand (operand_in rest)
   if is_none after then Err (fault.Usage keyword.Break) else do
-    condition ← if_in (behind_operand rest)
+    condition ← if_in (beyond_operand rest)
     Ok (after, condition)
 
 abbrev pub uncounted_in : List ℕ → Result (Option ℕ × Option Condition) OrderFault
@@ -43,14 +43,14 @@ uncounted_in rest = do
 -- when a break stops: after N, if CONDITION
 unfoldable pub when_in : List ℕ → Result (Option ℕ × Option Condition) OrderFault
 when_in rest =
-    if bytes_eq (capitals (operand_in rest)) (codes "AFTER") then counted_in (behind_operand rest)
+    if bytes_eq (capitals (operand_in rest)) (codes "AFTER") then counted_in (beyond_operand rest)
     else uncounted_in rest
 
 -- break ADDRESS [after N] [if CONDITION]
 unfoldable pub break_of : List ℕ → Said
 break_of rest = do
   place ← place_operand keyword.Break (operand_in rest)
-  when ← when_in (behind_operand rest)
+  when ← when_in (beyond_operand rest)
   Ok (Note (note.Break place when.0 when.1))
 
 -- paper, or paper @TEXT@
@@ -69,11 +69,11 @@ places_at rest = do
 -- watch FIELD, RANGE, paper, reader or punch; these words go before a label
 unfoldable pub watch_of : List ℕ → Said
 watch_of rest =
-    if bytes_eq (capitals (operand_in rest)) (codes "PAPER") then paper_at (behind_operand rest)
+    if bytes_eq (capitals (operand_in rest)) (codes "PAPER") then paper_at (beyond_operand rest)
     else (if bytes_eq (capitals (operand_in rest)) (codes "READER")
-    then ended keyword.Watch (behind_operand rest) (Note (note.Watch Reader))
+    then ended keyword.Watch (beyond_operand rest) (Note (note.Watch Reader))
     else (if bytes_eq (capitals (operand_in rest)) (codes "PUNCH")
-    then ended keyword.Watch (behind_operand rest) (Note (note.Watch Punch)) else places_at rest))
+    then ended keyword.Watch (beyond_operand rest) (Note (note.Watch Punch)) else places_at rest))
 
 -- delete [N ..]
 unfoldable pub delete_of : List ℕ → Said
@@ -111,7 +111,7 @@ help_on letters = help_with letters (keyword_of (capitals letters))
 unfoldable pub help_of : List ℕ → Said
 help_of rest =
     if length (operand_in rest) == 0 then Ok (Note (note.Help None))
-    else (if not (is_end (behind_operand rest)) then Err (fault.Usage keyword.Help) else help_on (operand_in rest))
+    else (if not (is_end (beyond_operand rest)) then Err (fault.Usage keyword.Help) else help_on (operand_in rest))
 
 -- save FILE
 unfoldable pub save_of : List ℕ → Said

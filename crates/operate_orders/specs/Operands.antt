@@ -1,7 +1,7 @@
 -- The operands of a line, each with its fault (own).
 use Rattle.std.specs.Prelude.{ℕ, ◌==◌, if◌then◌else◌, List, length, Option, None, Some, Result, Ok, Err}
 use Rattle.std.specs.Option.{ok_or}
-use Rattle.operate_orders.specs.Parts.{operand_in, behind_operand, is_end, file_in, numeral_in}
+use Rattle.operate_orders.specs.Parts.{operand_in, beyond_operand, is_end, file_in, numeral_in}
 use Rattle.operate_orders.specs.Place.{place_in}
 use Rattle.operate_orders.specs.Range.{range_in}
 use Rattle.operate_orders.specs.Text.{kept, capitals}
@@ -14,8 +14,8 @@ use Rattle.operate_orders.specs.declared.words.Keyword.{Keyword}
 infixl 10 ◌>>=◌
 -- what is on the left, and if it has no fault, what follows it
 abbrev pub ◌>>=◌ : {A B : Type 0} → Result A OrderFault → (A → Result B OrderFault) → Result B OrderFault
-Ok value >>= behind = behind value
-Err fault >>= behind = Err fault
+Ok value >>= beyond = beyond value
+Err fault >>= beyond = Err fault
 
 -- nothing follows what is said
 abbrev pub ended : {A : Type 0} → Keyword → List ℕ → A → Result A OrderFault
@@ -44,17 +44,17 @@ count_operand word = if length word == 0 then Ok None else count_said word (nume
 unfoldable pub lone_place : Keyword → List ℕ → Result Place OrderFault
 lone_place keyword rest = do
   place ← place_operand keyword (operand_in rest)
-  ended keyword (behind_operand rest) place
+  ended keyword (beyond_operand rest) place
 
 unfoldable pub lone_range : Keyword → List ℕ → Result Range OrderFault
 lone_range keyword rest = do
   range ← range_operand keyword (operand_in rest)
-  ended keyword (behind_operand rest) range
+  ended keyword (beyond_operand rest) range
 
 unfoldable pub lone_count : Keyword → List ℕ → Result (Option ℕ) OrderFault
 lone_count keyword rest = do
   count ← count_operand (operand_in rest)
-  ended keyword (behind_operand rest) count
+  ended keyword (beyond_operand rest) count
 
 -- the name of a file
 unfoldable pub lone_file : Keyword → List ℕ → Result (List ℕ) OrderFault

@@ -9,7 +9,7 @@ use Rattle.operate_orders.specs.LookLine.{Said, examine_of, list_of, print_of, s
 use Rattle.operate_orders.specs.LookLine.{evaluate_of, journal_of}
 use Rattle.operate_orders.specs.NoteLine.{break_of, watch_of, delete_of, do_of, transcript_of, assert_of, help_of, save_of}
 use Rattle.operate_orders.specs.Operands.{ended}
-use Rattle.operate_orders.specs.Parts.{operand_in, behind_operand}
+use Rattle.operate_orders.specs.Parts.{operand_in, beyond_operand}
 use Rattle.operate_orders.specs.Text.{kept, capitals}
 use Rattle.operate_orders.specs.Words.{keyword_of}
 use Rattle.operate_orders.specs.declared.fault.OrderFault.TheVariants as fault
@@ -71,7 +71,7 @@ order_by word rest = with_word word rest (keyword_of (capitals word))
 -- a line without a word, or with a remark alone, says nothing
 unfoldable pub order_in : List ℕ → Said
 order_in line =
-    if length (operand_in line) == 0 then Ok Nothing else order_by (operand_in line) (behind_operand line)
+    if length (operand_in line) == 0 then Ok Nothing else order_by (operand_in line) (beyond_operand line)
 
 -- the bytes that a line may have: none below a blank, and neither 127 nor 255
 abbrev pub is_of_line : ℕ → Bool

@@ -20,8 +20,8 @@ use Rattle.operate_orders.specs.declared.places.Place.{Place}
 infixl 10 ◌>>=◌
 -- what is on the left, and if it is there, what follows it
 abbrev ◌>>=◌ : {X Y : Type 0} → Option X → (X → Option Y) → Option Y
-None >>= behind = None
-Some x >>= behind = behind x
+None >>= beyond = None
+Some x >>= beyond = beyond x
 
 -- the signs and brackets of an address
 abbrev pub colon : ℕ
@@ -109,8 +109,8 @@ adjustment_len text = if length text == 0 then 0 else 1 + position_or_len is_sig
 unfoldable pub adjustment_in : List ℕ → List ℕ
 adjustment_in text = take (adjustment_len text) text
 
-unfoldable pub behind_adjustment : List ℕ → List ℕ
-behind_adjustment text = drop (adjustment_len text) text
+unfoldable pub beyond_adjustment : List ℕ → List ℕ
+beyond_adjustment text = drop (adjustment_len text) text
 
 -- after a plus an index register or a number, after a minus a number
 abbrev index_or_number : List ℕ → Option IndexRegister → Option (Option Adjustment)
@@ -133,9 +133,9 @@ adjustment_of text =
 unfoldable pub adjustments_in : List ℕ → Option (List (Option Adjustment))
 adjustments_in text = do
   first ← adjustment_of (adjustment_in text)
-  second ← adjustment_of (adjustment_in (behind_adjustment text))
-  third ← adjustment_of (adjustment_in (behind_adjustment (behind_adjustment text)))
-  if length (behind_adjustment (behind_adjustment (behind_adjustment text))) == 0
+  second ← adjustment_of (adjustment_in (beyond_adjustment text))
+  third ← adjustment_of (adjustment_in (beyond_adjustment (beyond_adjustment text)))
+  if length (beyond_adjustment (beyond_adjustment (beyond_adjustment text))) == 0
       then Some (first ∷ second ∷ third ∷ []) else None
 
 -- the place that a word is, in capitals: up to the first sign it says where it begins

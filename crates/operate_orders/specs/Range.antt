@@ -14,8 +14,8 @@ use Rattle.operate_orders.specs.declared.ranges.Range.TheVariants as range
 infixl 10 ◌>>=◌
 -- what is on the left, and if it is there, what follows it
 abbrev ◌>>=◌ : {X Y : Type 0} → Option X → (X → Option Y) → Option Y
-None >>= behind = None
-Some x >>= behind = behind x
+None >>= beyond = None
+Some x >>= beyond = beyond x
 
 abbrev pub dot : ℕ
 dot = 46

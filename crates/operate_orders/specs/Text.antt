@@ -31,11 +31,11 @@ holding bytes = record { bytes = bytes ++ replicate (most_line_bytes - length by
 pub holding_again : (t : Inside) → IsHeld t → holding (held_bytes t) ≡ t
 holding_again t h =
     let len : length (take t.len t.bytes) ≡ t.len = omega (arith, length-take t.len t.bytes, h.most, h.room) in
-    let behind : take t.len t.bytes ++ replicate (most_line_bytes - t.len) 0 ≡ t.bytes =
+    let beyond : take t.len t.bytes ++ replicate (most_line_bytes - t.len) 0 ≡ t.bytes =
     ap (λ (more : List ℕ). take t.len t.bytes ++ more) (sym h.zeros) ∙ take-append-drop t.len t.bytes in
     ap (λ (n : ℕ). let made : Inside = record {
       bytes = take t.len t.bytes ++ replicate
           (most_line_bytes - n) 0;
       len = n;
     } in made) len
-    ∙ ap (λ (bytes : List ℕ). let made : Inside = record { bytes = bytes; len = t.len } in made) behind
+    ∙ ap (λ (bytes : List ℕ). let made : Inside = record { bytes = bytes; len = t.len } in made) beyond

@@ -5,7 +5,7 @@ use Rattle.std.specs.List.{position_or_len}
 use Rattle.std.specs.Option.{ok_or}
 use Rattle.console_text.specs.Words.{without_blanks}
 use Rattle.operate_orders.specs.Operands.{◌>>=◌, ended, lone_place}
-use Rattle.operate_orders.specs.Parts.{first_of, before_byte, from_byte, operand_in, behind_operand, is_end, are_digits}
+use Rattle.operate_orders.specs.Parts.{first_of, before_byte, from_byte, operand_in, beyond_operand, is_end, are_digits}
 use Rattle.operate_orders.specs.Parts.{has_graphics}
 use Rattle.operate_orders.specs.Place.{plus, minus}
 use Rattle.operate_orders.specs.Text.{kept, capitals}
@@ -53,7 +53,7 @@ number_operand keyword word =
 unfoldable pub lone_number : Keyword → List ℕ → Result Value OrderFault
 lone_number keyword rest = do
   number ← number_operand keyword (operand_in rest)
-  ended keyword (behind_operand rest) number
+  ended keyword (beyond_operand rest) number
 
 abbrev pub quoted_value : Keyword → List ℕ → Result Value OrderFault
 quoted_value keyword rest = do
@@ -88,18 +88,18 @@ related first second =
     else (if first == greater then (if second == equals then Some AtLeast else Some Greater) else None))
 
 -- what follows a relation
-unfoldable pub behind_relation : Relation → List ℕ → List ℕ
-behind_relation Equal text = drop 1 text
-behind_relation Unequal text = drop 1 (drop 1 text)
-behind_relation Less text = drop 1 text
-behind_relation Greater text = drop 1 text
-behind_relation AtMost text = drop 1 (drop 1 text)
-behind_relation AtLeast text = drop 1 (drop 1 text)
+unfoldable pub beyond_relation : Relation → List ℕ → List ℕ
+beyond_relation Equal text = drop 1 text
+beyond_relation Unequal text = drop 1 (drop 1 text)
+beyond_relation Less text = drop 1 text
+beyond_relation Greater text = drop 1 text
+beyond_relation AtMost text = drop 1 (drop 1 text)
+beyond_relation AtLeast text = drop 1 (drop 1 text)
 
 abbrev compared_by : Keyword → List ℕ → Option Relation → Result (Relation × Value) OrderFault
 compared_by keyword text None = Err (fault.Usage keyword)
 compared_by keyword text (Some relation) = do
-  value ← value_operand keyword (behind_relation relation text)
+  value ← value_operand keyword (beyond_relation relation text)
   Ok (relation, value)
 
 -- a relation and a value, which follow a field

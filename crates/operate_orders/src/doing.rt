@@ -10,7 +10,7 @@ use crate::fault::OrderFault;
 use crate::operands::{lone_count, lone_file, lone_place, place_operand};
 use crate::orders::{Act, Deposited, Order, Past};
 use crate::parts::{
-    behind_first, byte_at, has_graphics, is_end, split_before, split_operand, without_blanks,
+    beyond_first, byte_at, has_graphics, is_end, split_before, split_operand, without_blanks,
 };
 use crate::text::Text;
 use crate::values::value_operand;
@@ -60,14 +60,14 @@ fn cells(text: &[u8]) -> Result<Deposited, OrderFault>
 
 /// A statement, or cells, after a place.
 #[tactic(auto, unfolding(crate::specs::ActLine::deposited_in))]
-fn deposited(behind: &[u8]) -> Result<Deposited, OrderFault>
-    ensures { result ≡ deposited_in behind.now }
+fn deposited(beyond: &[u8]) -> Result<Deposited, OrderFault>
+    ensures { result ≡ deposited_in beyond.now }
 {
-    let text = without_blanks(behind);
+    let text = without_blanks(beyond);
     if byte_at(text, 0) == b'=' {
-        statement(behind_first(text))
+        statement(beyond_first(text))
     } else {
-        cells(behind_first(behind))
+        cells(beyond_first(beyond))
     }
 }
 
@@ -76,9 +76,9 @@ fn deposited(behind: &[u8]) -> Result<Deposited, OrderFault>
 pub(crate) fn deposit(rest: &[u8]) -> Result<Order, OrderFault>
     ensures { result ≡ deposit_of rest.now }
 {
-    let (word, behind) = split_operand(rest);
+    let (word, beyond) = split_operand(rest);
     let place = place_operand(Keyword::Deposit, word)?;
-    let what = deposited(behind)?;
+    let what = deposited(beyond)?;
     Ok(Order::Act(Act::Deposit { place, what }))
 }
 
@@ -89,7 +89,7 @@ pub(crate) fn set(rest: &[u8]) -> Result<Order, OrderFault>
 {
     let (field, value) = split_before(rest, b'=');
     let field = lone_place(Keyword::Set, field)?;
-    let value = value_operand(Keyword::Set, behind_first(value))?;
+    let value = value_operand(Keyword::Set, beyond_first(value))?;
     Ok(Order::Act(Act::Set { field, value }))
 }
 
@@ -188,9 +188,9 @@ fn switched(letter: &[u8], setting_word: &[u8]) -> Option<Order>
 pub(crate) fn switch(rest: &[u8]) -> Result<Order, OrderFault>
     ensures { result ≡ switch_of rest.now }
 {
-    let (letter, behind) = split_operand(rest);
-    let (setting_word, behind) = split_operand(behind);
-    if !is_end(behind) {
+    let (letter, beyond) = split_operand(rest);
+    let (setting_word, beyond) = split_operand(beyond);
+    if !is_end(beyond) {
         return Err(OrderFault::Usage(Keyword::Switch));
     }
     match switched(letter, setting_word) {
@@ -204,7 +204,7 @@ pub(crate) fn switch(rest: &[u8]) -> Result<Order, OrderFault>
 pub(crate) fn feed(rest: &[u8]) -> Result<Order, OrderFault>
     ensures { result ≡ feed_of rest.now }
 {
-    let text = behind_first(rest);
+    let text = beyond_first(rest);
     if text.len() > COLUMNS {
         return Err(OrderFault::Card);
     }

@@ -33,10 +33,10 @@ pub(crate) fn fields(operands: &[u8]) -> Result<[Option<Place>; MOST_LISTED], Or
     let mut fields = [None; MOST_LISTED];
     let mut rest = operands;
     for i in 0..MOST_LISTED {
-        let (word, behind) = split_operand(rest);
+        let (word, beyond) = split_operand(rest);
         let found = field(word)?;
         fields[i] = found;
-        rest = behind;
+        rest = beyond;
     }
     if is_end(rest) {
         Ok(fields)
@@ -57,10 +57,10 @@ pub(crate) fn numbers(operands: &[u8]) -> Result<[Option<u32>; MOST_LISTED], Ord
     let mut numbers = [None; MOST_LISTED];
     let mut rest = operands;
     for i in 0..MOST_LISTED {
-        let (word, behind) = split_operand(rest);
+        let (word, beyond) = split_operand(rest);
         let found = count_operand(word)?;
         numbers[i] = found;
-        rest = behind;
+        rest = beyond;
     }
     if is_end(rest) {
         Ok(numbers)

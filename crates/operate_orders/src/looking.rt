@@ -86,10 +86,10 @@ pub(crate) fn paper(rest: &[u8]) -> Result<Order, OrderFault>
 pub(crate) fn symbols(rest: &[u8]) -> Result<Order, OrderFault>
     ensures { result ≡ symbols_of rest.now }
 {
-    let (letters, behind) = split_operand(rest);
+    let (letters, beyond) = split_operand(rest);
     alone(
         Keyword::Symbols,
-        behind,
+        beyond,
         Order::Look(Look::Symbols(Text::in_capitals(letters))),
     )
 }

@@ -9,7 +9,7 @@ use crate::lists::numbers;
 use crate::looking::alone;
 use crate::operands::{count_operand, lone_file, lone_range, place_operand};
 use crate::orders::{Note, Order, Watched};
-use crate::parts::{behind_first, byte_at, is_end, is_word, split_operand, without_blanks};
+use crate::parts::{beyond_first, byte_at, is_end, is_word, split_operand, without_blanks};
 use crate::text::Text;
 use crate::values::{Condition, condition_operand, quoted};
 use crate::words::Keyword;
@@ -19,14 +19,14 @@ use crate::words::Keyword;
 fn condition(rest: &[u8]) -> Result<Option<Condition>, OrderFault>
     ensures { result ≡ if_in rest.now }
 {
-    let (word, behind) = split_operand(rest);
+    let (word, beyond) = split_operand(rest);
     if word.is_empty() {
         return Ok(None);
     }
     if !is_word(word, b"IF") {
         return Err(OrderFault::Usage(Keyword::Break));
     }
-    let condition = condition_operand(Keyword::Break, behind)?;
+    let condition = condition_operand(Keyword::Break, beyond)?;
     Ok(Some(condition))
 }
 
@@ -35,12 +35,12 @@ fn condition(rest: &[u8]) -> Result<Option<Condition>, OrderFault>
 fn counted(rest: &[u8]) -> Result<(Option<u32>, Option<Condition>), OrderFault>
     ensures { result ≡ counted_in rest.now }
 {
-    let (word, behind) = split_operand(rest);
+    let (word, beyond) = split_operand(rest);
     let after = count_operand(word)?;
     if after.is_none() {
         return Err(OrderFault::Usage(Keyword::Break));
     }
-    let condition = condition(behind)?;
+    let condition = condition(beyond)?;
     Ok((after, condition))
 }
 
@@ -57,9 +57,9 @@ fn uncounted(rest: &[u8]) -> Result<(Option<u32>, Option<Condition>), OrderFault
 fn when(rest: &[u8]) -> Result<(Option<u32>, Option<Condition>), OrderFault>
     ensures { result ≡ when_in rest.now }
 {
-    let (word, behind) = split_operand(rest);
+    let (word, beyond) = split_operand(rest);
     if is_word(word, b"AFTER") {
-        counted(behind)
+        counted(beyond)
     } else {
         uncounted(rest)
     }
@@ -70,9 +70,9 @@ fn when(rest: &[u8]) -> Result<(Option<u32>, Option<Condition>), OrderFault>
 pub(crate) fn break_line(rest: &[u8]) -> Result<Order, OrderFault>
     ensures { result ≡ break_of rest.now }
 {
-    let (word, behind) = split_operand(rest);
+    let (word, beyond) = split_operand(rest);
     let place = place_operand(Keyword::Break, word)?;
-    let (after, condition) = when(behind)?;
+    let (after, condition) = when(beyond)?;
     Ok(Order::Note(Note::Break {
         place,
         after,
@@ -92,7 +92,7 @@ fn paper_at(rest: &[u8]) -> Result<Order, OrderFault>
     if byte_at(text, 0) != b'@' {
         return Err(OrderFault::Usage(Keyword::Watch));
     }
-    let text = quoted(Keyword::Watch, behind_first(text))?;
+    let text = quoted(Keyword::Watch, beyond_first(text))?;
     Ok(Order::Note(Note::Watch(Watched::Paper(Some(text)))))
 }
 
@@ -110,19 +110,19 @@ fn places_at(rest: &[u8]) -> Result<Order, OrderFault>
 pub(crate) fn watch(rest: &[u8]) -> Result<Order, OrderFault>
     ensures { result ≡ watch_of rest.now }
 {
-    let (word, behind) = split_operand(rest);
+    let (word, beyond) = split_operand(rest);
     if is_word(word, b"PAPER") {
-        paper_at(behind)
+        paper_at(beyond)
     } else if is_word(word, b"READER") {
         alone(
             Keyword::Watch,
-            behind,
+            beyond,
             Order::Note(Note::Watch(Watched::Reader)),
         )
     } else if is_word(word, b"PUNCH") {
         alone(
             Keyword::Watch,
-            behind,
+            beyond,
             Order::Note(Note::Watch(Watched::Punch)),
         )
     } else {
@@ -186,11 +186,11 @@ fn help_on(letters: &[u8]) -> Result<Order, OrderFault>
 pub(crate) fn help(rest: &[u8]) -> Result<Order, OrderFault>
     ensures { result ≡ help_of rest.now }
 {
-    let (letters, behind) = split_operand(rest);
+    let (letters, beyond) = split_operand(rest);
     if letters.is_empty() {
         return Ok(Order::Note(Note::Help(None)));
     }
-    if !is_end(behind) {
+    if !is_end(beyond) {
         return Err(OrderFault::Usage(Keyword::Help));
     }
     help_on(letters)

@@ -75,9 +75,9 @@ pub(crate) fn count_operand(word: &[u8]) -> Result<Option<u32>, OrderFault>
 pub(crate) fn lone_place(keyword: Keyword, rest: &[u8]) -> Result<Place, OrderFault>
     ensures { result ≡ lone_place keyword rest.now }
 {
-    let (word, behind) = split_operand(rest);
+    let (word, beyond) = split_operand(rest);
     let place = place_operand(keyword, word)?;
-    if is_end(behind) {
+    if is_end(beyond) {
         Ok(place)
     } else {
         Err(OrderFault::Usage(keyword))
@@ -93,9 +93,9 @@ pub(crate) fn lone_place(keyword: Keyword, rest: &[u8]) -> Result<Place, OrderFa
 pub(crate) fn lone_range(keyword: Keyword, rest: &[u8]) -> Result<Range, OrderFault>
     ensures { result ≡ lone_range keyword rest.now }
 {
-    let (word, behind) = split_operand(rest);
+    let (word, beyond) = split_operand(rest);
     let range = range_operand(keyword, word)?;
-    if is_end(behind) {
+    if is_end(beyond) {
         Ok(range)
     } else {
         Err(OrderFault::Usage(keyword))
@@ -111,9 +111,9 @@ pub(crate) fn lone_range(keyword: Keyword, rest: &[u8]) -> Result<Range, OrderFa
 pub(crate) fn lone_count(keyword: Keyword, rest: &[u8]) -> Result<Option<u32>, OrderFault>
     ensures { result ≡ lone_count keyword rest.now }
 {
-    let (word, behind) = split_operand(rest);
+    let (word, beyond) = split_operand(rest);
     let count = count_operand(word)?;
-    if is_end(behind) {
+    if is_end(beyond) {
         Ok(count)
     } else {
         Err(OrderFault::Usage(keyword))

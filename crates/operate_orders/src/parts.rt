@@ -4,7 +4,7 @@ ghost use Rattle.std.specs.List.{prefix_len, suffix_len, position_or_len, list_a
 ghost use Rattle.std.specs.Str.{bytes_eq};
 ghost use Rattle.bcd_1401.specs.Digits.{is_digit};
 ghost use Rattle.console_text.specs.Words.{is_blank, without_blanks};
-ghost use Rattle.operate_orders.specs.Parts.{operand_in, behind_operand, is_end, before_byte, from_byte, file_in};
+ghost use Rattle.operate_orders.specs.Parts.{operand_in, beyond_operand, is_end, before_byte, from_byte, file_in};
 ghost use Rattle.operate_orders.specs.Parts.{are_digits, has_graphics, numeral_in};
 ghost use Rattle.operate_orders.specs.Text.{capitals};
 
@@ -39,7 +39,7 @@ pub(crate) fn byte_at(text: &[u8], at: usize) -> u8
 }
 
 /// What follows the first byte of a text.
-pub(crate) fn behind_first(text: &[u8]) -> &[u8]
+pub(crate) fn beyond_first(text: &[u8]) -> &[u8]
     ensures { result.now ≡ drop 1 text.now }
 {
     text.get(1..).unwrap_or(&[])
@@ -62,10 +62,10 @@ pub(crate) fn split_before(text: &[u8], end: u8) -> (&[u8], &[u8])
 }
 
 /// The next operand of a line, empty if none follows, and what follows it.
-#[tactic(auto, unfolding(crate::specs::Parts::operand_in, crate::specs::Parts::behind_operand))]
+#[tactic(auto, unfolding(crate::specs::Parts::operand_in, crate::specs::Parts::beyond_operand))]
 pub(crate) fn split_operand(text: &[u8]) -> (&[u8], &[u8])
     ensures operand { result.0.now ≡ operand_in text.now }
-    ensures behind { result.1.now ≡ behind_operand text.now }
+    ensures beyond { result.1.now ≡ beyond_operand text.now }
 {
     let text = without_blanks(text);
     if byte_at(text, 0) == b'#' {

@@ -3,10 +3,10 @@ ghost use Rattle.std.specs.Prelude.{◌≡◌, ◌≤◌, length, drop, slice_in
 ghost use Rattle.std.specs.List.{position_or_len, list_all};
 ghost use Rattle.operate_orders.specs.Place.{is_letter, is_letter_or_digit, is_name, index_named, register_named};
 ghost use Rattle.operate_orders.specs.Place.{label_in, named, in_parentheses, base_in, is_sign, adjustment_len};
-ghost use Rattle.operate_orders.specs.Place.{adjustment_in, behind_adjustment, added, subtracted};
+ghost use Rattle.operate_orders.specs.Place.{adjustment_in, beyond_adjustment, added, subtracted};
 ghost use Rattle.operate_orders.specs.Place.{adjustment_of, adjustments_in, place_in, number_base, line_base, held_base};
 
-use crate::parts::{behind_first, byte_at, is_digit, numeral, split_before};
+use crate::parts::{beyond_first, byte_at, is_digit, numeral, split_before};
 use crate::text::Text;
 
 /// An index register, or its name (A24-1403, "Indexing").
@@ -206,11 +206,11 @@ fn read_base(text: &[u8]) -> Option<Base>
     if is_digit(first) {
         number(text)
     } else if first == b':' {
-        line(behind_first(text))
+        line(beyond_first(text))
     } else if first == b'$' {
-        held(behind_first(text))
+        held(beyond_first(text))
     } else if first == b'(' {
-        in_parentheses(behind_first(text))
+        in_parentheses(beyond_first(text))
     } else {
         named(text)
     }
@@ -232,10 +232,10 @@ fn bytes_before_sign(text: &[u8]) -> usize
 }
 
 /// The first adjustment of a text that begins with a sign, and what follows it.
-#[tactic(auto, unfolding(crate::specs::Place::adjustment_in, crate::specs::Place::behind_adjustment))]
+#[tactic(auto, unfolding(crate::specs::Place::adjustment_in, crate::specs::Place::beyond_adjustment))]
 fn split_adjustment(text: &[u8]) -> (&[u8], &[u8])
     ensures adjustment { result.0.now ≡ adjustment_in text.now }
-    ensures behind { result.1.now ≡ behind_adjustment text.now }
+    ensures beyond { result.1.now ≡ beyond_adjustment text.now }
 {
     if text.is_empty() {
         return (text, text);
@@ -277,9 +277,9 @@ fn read_adjustment(text: &[u8]) -> Option<Option<Adjustment>>
         return Some(None);
     }
     if byte_at(text, 0) == b'+' {
-        added(behind_first(text))
+        added(beyond_first(text))
     } else {
-        subtracted(behind_first(text))
+        subtracted(beyond_first(text))
     }
 }
 

@@ -3,7 +3,7 @@ ghost use Rattle.std.specs.Prelude.{◌≡◌};
 ghost use Rattle.operate_orders.specs.Range.{area_named, between, counted, numbers_between, lone, range_by_minus};
 ghost use Rattle.operate_orders.specs.Range.{range_by_slash, range_by_dots, range_in, at_number};
 
-use crate::parts::{behind_first, byte_at, numeral, split_before};
+use crate::parts::{beyond_first, byte_at, numeral, split_before};
 use crate::places::{Base, Place, read_place};
 
 /// The areas of the card reader, the card punch and the printer (A24-1403, "Storage Areas").
@@ -115,7 +115,7 @@ fn range_by_minus(word: &[u8]) -> Option<Range>
     ensures { result ≡ range_by_minus word.now }
 {
     let (first, last) = split_before(word, b'-');
-    match numbers_between(first, behind_first(last)) {
+    match numbers_between(first, beyond_first(last)) {
         Some(range) => Some(range),
         None => lone(word),
     }
@@ -130,7 +130,7 @@ fn range_by_slash(word: &[u8]) -> Option<Range>
     if count.is_empty() {
         range_by_minus(word)
     } else {
-        counted(first, behind_first(count))
+        counted(first, beyond_first(count))
     }
 }
 
@@ -143,7 +143,7 @@ fn range_by_dots(word: &[u8]) -> Option<Range>
     if dots.is_empty() {
         range_by_slash(word)
     } else if byte_at(dots, 1) == b'.' {
-        between(first, behind_first(behind_first(dots)))
+        between(first, beyond_first(beyond_first(dots)))
     } else {
         None
     }

@@ -2,13 +2,13 @@
 ghost use Rattle.std.specs.Prelude.{◌≡◌, ◌≤◌, length};
 ghost use Rattle.std.specs.List.{position_or_len};
 ghost use Rattle.operate_orders.specs.Value.{text_operand, quoted, number_in, number_operand, lone_number, value_operand};
-ghost use Rattle.operate_orders.specs.Value.{is_relation, behind_relation, compared};
+ghost use Rattle.operate_orders.specs.Value.{is_relation, beyond_relation, compared};
 ghost use Rattle.operate_orders.specs.Value.{condition_operand, related, number_with, quoted_value};
 
 use crate::fault::OrderFault;
 use crate::operands::lone_place;
 use crate::parts::{
-    are_digits, behind_first, byte_at, has_graphics, is_end, split_before, split_operand,
+    are_digits, beyond_first, byte_at, has_graphics, is_end, split_before, split_operand,
     without_blanks,
 };
 use crate::places::Place;
@@ -82,7 +82,7 @@ pub(crate) fn quoted(keyword: Keyword, rest: &[u8]) -> Result<Text, OrderFault>
     if end.is_empty() {
         return Err(OrderFault::Usage(keyword));
     }
-    if !is_end(behind_first(end)) {
+    if !is_end(beyond_first(end)) {
         return Err(OrderFault::Usage(keyword));
     }
     text_operand(keyword, bytes)
@@ -109,9 +109,9 @@ fn number(word: &[u8]) -> Option<Value>
 {
     let sign = byte_at(word, 0);
     if sign == b'-' {
-        number_with(true, behind_first(word))
+        number_with(true, beyond_first(word))
     } else if sign == b'+' {
-        number_with(false, behind_first(word))
+        number_with(false, beyond_first(word))
     } else {
         number_with(false, word)
     }
@@ -136,9 +136,9 @@ fn number_operand(keyword: Keyword, word: &[u8]) -> Result<Value, OrderFault>
 fn lone_number(keyword: Keyword, rest: &[u8]) -> Result<Value, OrderFault>
     ensures { result ≡ lone_number keyword rest.now }
 {
-    let (word, behind) = split_operand(rest);
+    let (word, beyond) = split_operand(rest);
     let number = number_operand(keyword, word)?;
-    if is_end(behind) {
+    if is_end(beyond) {
         Ok(number)
     } else {
         Err(OrderFault::Usage(keyword))
@@ -164,7 +164,7 @@ pub(crate) fn value_operand(keyword: Keyword, rest: &[u8]) -> Result<Value, Orde
 {
     let text = without_blanks(rest);
     if byte_at(text, 0) == b'@' {
-        quoted_value(keyword, behind_first(text))
+        quoted_value(keyword, beyond_first(text))
     } else {
         lone_number(keyword, text)
     }
@@ -211,13 +211,13 @@ fn related(first: u8, second: u8) -> Option<Relation>
 }
 
 /// The text after a relation.
-#[tactic(auto, unfolding(crate::specs::Value::behind_relation))]
-fn behind_relation(relation: Relation, text: &[u8]) -> &[u8]
-    ensures { result.now ≡ behind_relation relation text.now }
+#[tactic(auto, unfolding(crate::specs::Value::beyond_relation))]
+fn beyond_relation(relation: Relation, text: &[u8]) -> &[u8]
+    ensures { result.now ≡ beyond_relation relation text.now }
 {
     match relation {
-        Relation::Equal | Relation::Less | Relation::Greater => behind_first(text),
-        Relation::Unequal | Relation::AtMost | Relation::AtLeast => behind_first(behind_first(
+        Relation::Equal | Relation::Less | Relation::Greater => beyond_first(text),
+        Relation::Unequal | Relation::AtMost | Relation::AtLeast => beyond_first(beyond_first(
             text,
         )),
     }
@@ -231,7 +231,7 @@ fn compared(keyword: Keyword, text: &[u8]) -> Result<(Relation, Value), OrderFau
     let Some(relation) = related(byte_at(text, 0), byte_at(text, 1)) else {
         return Err(OrderFault::Usage(keyword));
     };
-    let value = value_operand(keyword, behind_relation(relation, text))?;
+    let value = value_operand(keyword, beyond_relation(relation, text))?;
     Ok((relation, value))
 }
 

@@ -84,7 +84,7 @@ pub begun_alone : (how : Start) (language : Language) (size : Option ℕ) (machi
     → HasFile how language size machine cards → IsBegun how language size None machine cards
 begun_alone how language size machine cards is = record {
   own = cards;
-  behind = [];
+  beyond = [];
   file = is;
   those = refl;
   cards_are = sym (append-nil cards);
@@ -92,11 +92,11 @@ begun_alone how language size machine cards is = record {
 
 -- with the cards of one
 pub begun_with : (how : Start) (language : Language) (size : Option ℕ) (name : List ℕ) (machine after : State)
-    (own behind cards : List Card) → HasFile how language size machine own → IsDeckText behind → after ≡ machine
-    → cards ≡ own ++ behind → IsBegun how language size (Some name) after cards
-begun_with how language size name machine after own behind cards is those same cards_are = record {
+    (own beyond cards : List Card) → HasFile how language size machine own → IsDeckText beyond → after ≡ machine
+    → cards ≡ own ++ beyond → IsBegun how language size (Some name) after cards
+begun_with how language size name machine after own beyond cards is those same cards_are = record {
   own = own;
-  behind = behind;
+  beyond = beyond;
   file = subst (λ (s : State). HasFile how language size s own) (sym same) is;
   those = those;
   cards_are = cards_are;

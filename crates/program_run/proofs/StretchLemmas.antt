@@ -8,12 +8,12 @@ use Rattle.machine_panel.specs.declared.stop.Stop.{Stop}
 use Rattle.machine_panel.specs.declared.stop.Stop.TheVariants as stop
 use Rattle.cpu_1401.specs.State.{State}
 use Rattle.job_runner.specs.declared.paper.PaperPlace.{PaperPlace}
-use Rattle.job_runner.specs.Paper.{place_behind}
+use Rattle.job_runner.specs.Paper.{place_beyond}
 use Rattle.job_runner.specs.Unattended.{AtEnd, Begins, GoesOn, IsPartOf, Job, after_job, after_output, unattended}
 use Rattle.program_run.specs.declared.deck_running.Stretch.{Stretch}
 use Rattle.program_run.specs.RunDeck.{HasWritten, HasWrittenPart, RanStretch, Received, first_place, most_counted}
 use Rattle.program_run.specs.RunDeck.{rest_of}
-use Rattle.program_run.proofs.WrittenLemmas.{both_written, none_written, part_written_behind, place_behind_both}
+use Rattle.program_run.proofs.WrittenLemmas.{both_written, none_written, part_written_beyond, place_beyond_both}
 
 -- a job with these ends
 abbrev job_of : State → ℕ → Stop → List PrintLine → List Card → Job
@@ -100,7 +100,7 @@ pub record SoFar (limit left : ℕ) (start now : State) (first at : Received) (p
   pub lines : List PrintLine
   pub cards : List Card
   pub written : HasWritten first_place lines cards first at
-  pub place_is : place ≡ place_behind first_place lines
+  pub place_is : place ≡ place_beyond first_place lines
   pub printed_is : printed ≡ min (length lines) most_counted
   pub punched_is : punched ≡ min (length cards) most_counted
   pub job : unattended limit start ≡ after_output lines cards (limit - left) (unattended left now)
@@ -139,7 +139,7 @@ pub record Grown (limit left : ℕ) (start after : State) (first new : Received)
   pub lines : List PrintLine
   pub cards : List Card
   pub written : HasWritten first_place lines cards first new
-  pub place_is : stretch.place ≡ place_behind first_place lines
+  pub place_is : stretch.place ≡ place_beyond first_place lines
   pub printed_is : min (printed + stretch.printed) most_counted ≡ min (length lines) most_counted
   pub punched_is : min (punched + stretch.punched) most_counted ≡ min (length cards) most_counted
   pub job : unattended limit start
@@ -167,8 +167,8 @@ grown {limit} {left} {start} {now} {after} {first} {at} {new} {place} {printed} 
           both_written first_place before.lines ran.lines before.cards ran.cards first at new before.written
           (subst (λ (p : PaperPlace). HasWritten p ran.lines ran.cards at new) before.place_is ran.written);
       place_is = ran.place_is
-          ∙ ap (λ (p : PaperPlace). place_behind p ran.lines) before.place_is
-          ∙ sym (place_behind_both first_place before.lines ran.lines);
+          ∙ ap (λ (p : PaperPlace). place_beyond p ran.lines) before.place_is
+          ∙ sym (place_beyond_both first_place before.lines ran.lines);
       printed_is =
           counts_add PrintLine before.lines ran.lines printed stretch.printed before.printed_is ran.printed_is;
       punched_is = counts_add Card before.cards ran.cards punched stretch.punched before.punched_is ran.punched_is;
@@ -223,5 +223,5 @@ pub part_so_far : {limit left : ℕ} {start now : State} {first at new : Receive
 part_so_far {left = left} {now = now} {first = first} {at = at} {new = new} before part =
     let rest = unattended left now in
     subst (λ (job : Job). HasWrittenPart first_place job.lines job.cards first new) (sym before.job)
-    (part_written_behind first_place before.lines rest.lines before.cards rest.cards first at new before.written
+    (part_written_beyond first_place before.lines rest.lines before.cards rest.cards first at new before.written
     (subst (λ (p : PaperPlace). HasWrittenPart p rest.lines rest.cards at new) before.place_is part))

@@ -28,7 +28,7 @@ use Rattle.program_run.specs.RunTrace.{seen_if, started_trace, traced}
 use Rattle.program_run.specs.declared.deck_running.Broken.{Broken}
 use Rattle.program_run.specs.declared.deck_running.Broken.TheVariants as broken
 use Rattle.program_run.proofs.StretchLemmas.{ran_part}
-use Rattle.program_run.proofs.WrittenLemmas.{part_behind, part_of_longer}
+use Rattle.program_run.proofs.WrittenLemmas.{part_beyond, part_of_longer}
 
 abbrev pub job_of : State → ℕ → Stop → List PrintLine → List Card → Job
 job_of now steps why lines cards =
@@ -345,7 +345,7 @@ pub trace_part : {seen : Option Seen} {is : Bool} {limit left : ℕ} {start now 
     → TraceSoFar is limit left start now first at → AppendsPart at new (traced (is_some seen) (trace_text left now))
     → AppendsPart first new (traced is (trace_text limit start))
 trace_part {is = is} {limit} {left} {start} {now} {first} {at} s new e so_far part =
-    part_behind first at new so_far.lines (traced is (trace_text left now)) (traced is (trace_text limit start))
+    part_beyond first at new so_far.lines (traced is (trace_text left now)) (traced is (trace_text limit start))
     so_far.whole so_far.written
     (subst (λ (each : Bool). AppendsPart at new (traced each (trace_text left now))) (is_seen is s e) part)
 

@@ -13,7 +13,7 @@ use Rattle.machine_graphics.specs.Graphics.{ours_of}
 use Rattle.machine_graphics.specs.declared.graphics.Graphics.{Graphics}
 use Rattle.job_runner.specs.DeckText.{card_text}
 use Rattle.job_runner.specs.declared.paper.PaperPlace.{PaperPlace}
-use Rattle.job_runner.specs.Paper.{paper_text, place_behind}
+use Rattle.job_runner.specs.Paper.{paper_text, place_beyond}
 use Rattle.job_runner.specs.Unattended.{Job, after_output, ended, unattended}
 use Rattle.bytes_streams.specs.Sink.{AppendsPart}
 use Rattle.program_call.specs.declared.call.Start.{Start}
@@ -77,7 +77,7 @@ pub record RanStretch (limit : ℕ) (place : PaperPlace) (before after : State) 
   pub lines : List PrintLine
   pub cards : List Card
   pub written : HasWritten place lines cards old new
-  pub place_is : stretch.place ≡ place_behind place lines
+  pub place_is : stretch.place ≡ place_beyond place lines
   pub printed_is : stretch.printed ≡ length lines
   pub punched_is : stretch.punched ≡ length cards
   pub job : unattended limit before

@@ -68,10 +68,10 @@ HasCards (Some name) cards = IsDeckText cards
 pub record IsBegun (how : Start) (language : Language) (size : Option ℕ) (deck : Option (List ℕ)) (machine : State)
     (cards : List Card) : Type 0 where
   pub own : List Card
-  pub behind : List Card
+  pub beyond : List Card
   pub file : HasFile how language size machine own
-  pub those : HasCards deck behind
-  pub cards_are : cards ≡ own ++ behind
+  pub those : HasCards deck beyond
+  pub cards_are : cards ≡ own ++ beyond
 
 -- sense switches from a number on, each turned on or off
 abbrev pub turned : ℕ → List Bool → State → State

@@ -3,7 +3,7 @@ ghost use Rattle.std.specs.Prelude.{◌≡◌, ◌<◌, ◌≤◌, ◌+◌, ◌�
 ghost use Rattle.std.specs.Prelude.{[], Option, None, Some, IfOk, IfErr, OnOk, OnErr, is_some, option_and_then};
 ghost use Rattle.std.specs.Io.KnownBytes.{Appends};
 ghost use Rattle.bytes_streams.specs.Sink.{AppendsPart};
-ghost use Rattle.job_runner.specs.Paper.{paper_text, place_behind};
+ghost use Rattle.job_runner.specs.Paper.{paper_text, place_beyond};
 ghost use Rattle.job_runner.specs.Unattended.{ended, unattended, with_deck};
 ghost use Rattle.program_run.specs.RunDeck.{HasWritten, HasWrittenPart, IsWhyUnwritten, RanStretch, cards_text};
 ghost use Rattle.program_run.specs.RunDeck.{failed_of, first_place, received, report_of, started_job};
@@ -64,7 +64,7 @@ fn write_paper<W: Sink>(
     lines: &[PrintLine],
     paper: &mut W,
 ) -> Result<PaperPlace, Broken>
-    ensures place { IfOk result (λ next. next ≡ place_behind place lines.now) }
+    ensures place { IfOk result (λ next. next ≡ place_beyond place lines.now) }
     ensures text { OnOk result (Appends (W.received paper.old) (W.received paper.new) (paper_text place lines.now)) }
     ensures good { OnOk result (W.has_failed paper.new ≡ W.has_failed paper.old) }
     ensures part { OnErr result

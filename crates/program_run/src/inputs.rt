@@ -273,8 +273,8 @@ pub(crate) fn read_inputs(
     let inputs = read_own(rt, file, start, language, asked, size)?;
     match cards {
         Some(name) => {
-            let behind = read_cards(rt, name, asked.decks)?;
-            with_cards(inputs, &behind)
+            let beyond = read_cards(rt, name, asked.decks)?;
+            with_cards(inputs, &beyond)
         }
         None => Ok(inputs),
     }
@@ -300,8 +300,8 @@ fn read_own(
 }
 
 /// What a run begins with, with more cards after its own.
-fn with_cards(inputs: Inputs, behind: &CardList) -> Result<Inputs, RunFault>
-    ensures ok { IfOk result (λ more. (more.machine ≡ inputs.machine) × (more.cards ≡ inputs.cards ++ behind.now)) }
+fn with_cards(inputs: Inputs, beyond: &CardList) -> Result<Inputs, RunFault>
+    ensures ok { IfOk result (λ more. (more.machine ≡ inputs.machine) × (more.cards ≡ inputs.cards ++ beyond.now)) }
     ensures err { IfErr result (λ why. why ≡ RunFault.Memory) }
 {
     let Inputs {
@@ -309,7 +309,7 @@ fn with_cards(inputs: Inputs, behind: &CardList) -> Result<Inputs, RunFault>
         cards,
         source,
     } = inputs;
-    match cards.followed_by(behind) {
+    match cards.followed_by(beyond) {
         Ok(cards) => Ok(Inputs {
             machine,
             cards,

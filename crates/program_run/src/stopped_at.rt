@@ -98,12 +98,12 @@ pub fn placing_line(
 fn line_numbered(source: &[u8], number: u64) -> &[u8] {
     let mut rest = source;
     let mut above = number.saturating_sub(1);
-    while let Some((line, behind)) = split_line(rest) {
+    while let Some((line, beyond)) = split_line(rest) {
         if above == 0 {
             return line;
         }
         above -= 1;
-        rest = behind;
+        rest = beyond;
     }
     &[]
 }

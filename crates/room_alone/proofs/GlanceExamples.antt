@@ -11,7 +11,7 @@ use Rattle.console_text.specs.declared.line.Line.TheVariants.{Command, Glance}
 use Rattle.console_text.specs.declared.line.LineFault.TheVariants.{Number, Extra, Word}
 use Rattle.console_lines.specs.declared.reply.Reply.{Reply}
 use Rattle.console_lines.specs.declared.reply.Reply.TheVariants as reply
-use Rattle.console_text.specs.Words.{word_in, behind_word, keyword_of, number_of, address_of}
+use Rattle.console_text.specs.Words.{word_in, beyond_word, keyword_of, number_of, address_of}
 use Rattle.console_text.specs.ConsoleLine.{Said, said_by, said_in_words, said_with, ended, glance_of}
 use Rattle.console_text.specs.LineText.{IsLineOf}
 use Rattle.console_text.specs.AnswerText.{answer_text, glance_text}
@@ -21,7 +21,7 @@ use Rattle.room_alone.specs.Turns.{Turn, replies_to, journal_after}
 
 -- what a line says, with all that its grammar consists of open
 says : List ℕ → Said
-unfolding said_by said_in_words said_with ended glance_of word_in behind_word keyword_of number_of address_of
+unfolding said_by said_in_words said_with ended glance_of word_in beyond_word keyword_of number_of address_of
 says line = said_by line
 
 -- each of these lines says what is beside it

@@ -7,7 +7,7 @@ use Rattle.machine_commands.specs.declared.command.Command.TheVariants.{Deposit,
 use Rattle.machine_execution.specs.CarryOut.{carry_out}
 use Rattle.console_text.specs.declared.line.Line.TheVariants.{Empty, Command, Quit}
 use Rattle.console_text.specs.declared.line.LineFault.TheVariants.{Word, Length}
-use Rattle.console_text.specs.Words.{word_in, behind_word, keyword_of, number_of, address_of, count_of}
+use Rattle.console_text.specs.Words.{word_in, beyond_word, keyword_of, number_of, address_of, count_of}
 use Rattle.console_text.specs.ConsoleLine.{Said, said_by, said_in_words, said_with, ended, examine_of}
 use Rattle.console_text.specs.AnswerText.{answer_text}
 use Rattle.machine_notation.specs.Cells.{cells_text}
@@ -17,7 +17,7 @@ use Rattle.console_lines.specs.Text.{cut_of, without_return, lines_of}
 
 -- the lines of a text, with all that they consist of open
 unfoldable pub lines_in : Bool → List ℕ → List Said
-unfolding cut_of without_return said_by said_in_words said_with ended examine_of word_in behind_word keyword_of
+unfolding cut_of without_return said_by said_in_words said_with ended examine_of word_in beyond_word keyword_of
     number_of address_of count_of
 lines_in ends text = lines_of ends text
 

@@ -25,5 +25,5 @@ verified-grows text at n (Some held) bytes inside whole same =
     take-add at n text ∙ ap (λ (part : List ℕ). take at text ++ part) (sym same) in
     grows text held (take n bytes) at (at + n) (nat_lt at (length text)) (nat_lt (at + n) (length text)) before more
     (λ ended.
-    let behind : length text ≤ at + n = grind (arith, nat_tests) in
-    whole held refl ∙ sym (take_all (at + n) text behind))
+    let beyond : length text ≤ at + n = grind (arith, nat_tests) in
+    whole held refl ∙ sym (take_all (at + n) text beyond))

@@ -84,16 +84,16 @@ start text size rest core header = record {
       ∙ ap (λ (t : List ℕ). t ++ rest) (sym (append-nil (header_text size)));
   again =
       λ size' whole last is.
-      let behind_it : List ℕ = entries_text 1 whole ++ last in
-      let parts : text ≡ header_text size' ++ behind_it =
+      let beyond_it : List ℕ = entries_text 1 whole ++ last in
+      let parts : text ≡ header_text size' ++ beyond_it =
       is.text_is ∙ append_assoc (header_text size') (entries_text 1 whole) last in
-      let named : size_at text ≡ Some size' = ap size_at parts ∙ size_again size' behind_it is.of.core in
+      let named : size_at text ≡ Some size' = ap size_at parts ∙ size_again size' beyond_it is.of.core in
       let some : Some size ≡ Some size' = sym header.size_is ∙ named in
       let same : size ≡ size' = cc some in
-      let left : after_prefix (header_text size) text ≡ Some behind_it =
+      let left : after_prefix (header_text size) text ≡ Some beyond_it =
       ap (λ n. after_prefix (header_text n) text) same ∙ ap (after_prefix (header_text size')) parts
-      ∙ after_prefix_again (header_text size') behind_it in
-      let rests : Some rest ≡ Some behind_it = sym header.rest_is ∙ left in
+      ∙ after_prefix_again (header_text size') beyond_it in
+      let rests : Some rest ≡ Some beyond_it = sym header.rest_is ∙ left in
       record { same = same; more = whole; journal_is = refl; rest_is = cc rests };
 }
 
@@ -107,17 +107,17 @@ answered_so s (first ∷ front) e more legal =
     ≡ answers_after (carry_out s first.command).state (map pair_of (front ++ e ∷ more)) = cc legal in
     answered_so (carry_out s first.command).state front e more tails
 
-All-behind : (P : Entry → Type 0) (front back : List Entry) → All P (front ++ back) → All P back
-All-behind P [] back all = all
-All-behind P (e ∷ front) back all = All-behind P front back (All-tail P e (front ++ back) all)
+All-beyond : (P : Entry → Type 0) (front back : List Entry) → All P (front ++ back) → All P back
+All-beyond P [] back all = all
+All-beyond P (e ∷ front) back all = All-beyond P front back (All-tail P e (front ++ back) all)
 
 or_last : (test : Bool) → (test || true) ≡ true
 or_last true = refl
 or_last false = refl
 
 -- a line feed among what follows, or in front
-has_behind : (front back : List ℕ) → has_line back ≡ true → has_line (front ++ back) ≡ true
-has_behind front back h =
+has_beyond : (front back : List ℕ) → has_line back ≡ true → has_line (front ++ back) ≡ true
+has_beyond front back h =
     list_any-append (λ byte. byte == line_feed) front back
     ∙ ap (λ test. has_line front || test) h ∙ or_last (has_line front)
 
@@ -128,8 +128,8 @@ has_in_front front back h =
 entry_has_line : (number : ℕ) (e : Entry) → has_line (entry_text number e) ≡ true
 unfolding entry_text
 entry_has_line number e =
-    has_behind (with_tab (digits_in 1 number) ++ with_tab (digits_in 1 e.seat) ++ with_tab (command_text e.command))
-    (with_feed (answer_text e.answer)) (has_behind (answer_text e.answer) (line_feed ∷ []) refl)
+    has_beyond (with_tab (digits_in 1 number) ++ with_tab (digits_in 1 e.seat) ++ with_tab (command_text e.command))
+    (with_feed (answer_text e.answer)) (has_beyond (answer_text e.answer) (line_feed ∷ []) refl)
 
 -- What comes next in a journal's text is an entry, which is read.
 pub record GoesOn (size : ℕ) (journal : List Entry) (rest : List ℕ) (size' : ℕ) (whole : List Entry) (last : List ℕ)
@@ -158,7 +158,7 @@ next_of size journal rest size' whole last (e ∷ more) of some none same journa
     let bound : length (journal ++ e ∷ more) ≤ most_entries =
     subst (λ (j : List Entry). length j ≤ most_entries) journal_is of.bound in
     let kept : All CanBeKept (journal ++ e ∷ more) = subst (All CanBeKept) journal_is of.kept in
-    let can : CanBeKept e = All-head CanBeKept e more (All-behind CanBeKept journal (e ∷ more) kept) in
+    let can : CanBeKept e = All-head CanBeKept e more (All-beyond CanBeKept journal (e ∷ more) kept) in
     let answer_is : e.answer ≡ answer_to size journal e.command =
     answered_so (power_on size) journal e more legal in
     let left : List ℕ = entries_text (length journal + 1 + 1) more ++ last in
@@ -182,19 +182,19 @@ goes_on text size journal rest size' whole last reads some is =
     next_of size journal rest size' whole last on.more is.of some is.no_line on.same on.journal_is on.rest_is
 
 -- one entry more
-continued : (size : ℕ) (journal : List Entry) (rest behind_it : List ℕ) (e : Entry) (size' : ℕ) (whole : List Entry)
-    (last : List ℕ) → GoesOn size journal rest size' whole last → entry_at size journal rest ≡ Ok (e, behind_it)
-    → Continues size (journal ++ e ∷ []) behind_it size' whole last
-continued size journal rest behind_it e size' whole last on read =
+continued : (size : ℕ) (journal : List Entry) (rest beyond_it : List ℕ) (e : Entry) (size' : ℕ) (whole : List Entry)
+    (last : List ℕ) → GoesOn size journal rest size' whole last → entry_at size journal rest ≡ Ok (e, beyond_it)
+    → Continues size (journal ++ e ∷ []) beyond_it size' whole last
+continued size journal rest beyond_it e size' whole last on read =
     let left : List ℕ = entries_text (length journal + 1 + 1) on.more ++ last in
-    let found : Entry × List ℕ = (e, behind_it) in
+    let found : Entry × List ℕ = (e, beyond_it) in
     let next : Entry × List ℕ = (on.next, left) in
     let one : Result (Entry × List ℕ) Wrong = Ok found in
     let other : Result (Entry × List ℕ) Wrong = Ok next in
     let results : one ≡ other = sym read ∙ on.read in
     let pair : found ≡ next = cc results in
     let entry_is : e ≡ on.next = ap (λ (p : Entry × List ℕ). p.0) pair in
-    let left_is : behind_it ≡ left = ap (λ (p : Entry × List ℕ). p.1) pair in
+    let left_is : beyond_it ≡ left = ap (λ (p : Entry × List ℕ). p.1) pair in
     let count : length journal + 1 + 1 ≡ length (journal ++ e ∷ []) + 1 =
     omega (arith, length-append journal (e ∷ [])) in
     record {
@@ -206,12 +206,12 @@ continued size journal rest behind_it e size' whole last on read =
       rest_is = left_is ∙ ap (λ n. entries_text n on.more ++ last) count;
     }
 
-taken : (text : List ℕ) (size : ℕ) (journal : List Entry) (rest : List ℕ) (e : Entry) (behind_it : List ℕ)
-    → Reads text size journal rest → has_line rest ≡ true → entry_at size journal rest ≡ Ok (e, behind_it)
+taken : (text : List ℕ) (size : ℕ) (journal : List Entry) (rest : List ℕ) (e : Entry) (beyond_it : List ℕ)
+    → Reads text size journal rest → has_line rest ≡ true → entry_at size journal rest ≡ Ok (e, beyond_it)
     → IsLegal size (journal ++ e ∷ []) → length (journal ++ e ∷ []) ≤ most_entries
-    → Reads text size (journal ++ e ∷ []) behind_it
-taken text size journal rest e behind_it reads some read legal bound =
-    let is = entry_takes size journal rest (e, behind_it) read in
+    → Reads text size (journal ++ e ∷ []) beyond_it
+taken text size journal rest e beyond_it reads some read legal bound =
+    let is = entry_takes size journal rest (e, beyond_it) read in
     record {
       of = record {
         core = reads.of.core;
@@ -221,21 +221,21 @@ taken text size journal rest e behind_it reads some read legal bound =
             All-append CanBeKept journal (e ∷ []) reads.of.kept
             (All-cons CanBeKept e [] is.kept (All-nil CanBeKept));
       };
-      text_is = journal_text-push size journal e text rest behind_it reads.text_is is.text_is;
+      text_is = journal_text-push size journal e text rest beyond_it reads.text_is is.text_is;
       again =
           λ size' whole last of.
-          continued size journal rest behind_it e size' whole last
+          continued size journal rest beyond_it e size' whole last
           (goes_on text size journal rest size' whole last reads some of) read;
     }
 
 pub next_line : (text : List ℕ) (size : ℕ) (journal : List Entry) (rest : List ℕ) (journal' : List Entry)
-    (behind_it : List ℕ)
-    → Reads text size journal rest → has_line rest ≡ true → Takes size journal rest journal' behind_it
-    → IsLegal size journal' → length journal' ≤ most_entries → Reads text size journal' behind_it
-next_line text size journal rest journal' behind_it reads some takes legal bound =
+    (beyond_it : List ℕ)
+    → Reads text size journal rest → has_line rest ≡ true → Takes size journal rest journal' beyond_it
+    → IsLegal size journal' → length journal' ≤ most_entries → Reads text size journal' beyond_it
+next_line text size journal rest journal' beyond_it reads some takes legal bound =
     let is = takes.journal_is in
-    subst (λ (j : List Entry). Reads text size j behind_it) (sym is)
-    (taken text size journal rest takes.entry behind_it reads some takes.read
+    subst (λ (j : List Entry). Reads text size j beyond_it) (sym is)
+    (taken text size journal rest takes.entry beyond_it reads some takes.read
     (subst (λ (j : List Entry). IsLegal size j) is legal)
     (subst (λ (j : List Entry). length j ≤ most_entries) is bound))
 
@@ -244,13 +244,13 @@ some_bytes [] h = absurd cc
 some_bytes (byte ∷ text) h = omega arith
 
 -- a line is taken away
-pub shorter : (size : ℕ) (journal : List Entry) (rest : List ℕ) (journal' : List Entry) (behind_it : List ℕ)
-    → Takes size journal rest journal' behind_it → length behind_it < length rest
-shorter size journal rest journal' behind_it takes =
-    let is = entry_takes size journal rest (takes.entry, behind_it) takes.read in
+pub shorter : (size : ℕ) (journal : List Entry) (rest : List ℕ) (journal' : List Entry) (beyond_it : List ℕ)
+    → Takes size journal rest journal' beyond_it → length beyond_it < length rest
+shorter size journal rest journal' beyond_it takes =
+    let is = entry_takes size journal rest (takes.entry, beyond_it) takes.read in
     let line : List ℕ = entry_text (length journal + 1) takes.entry in
     let some : 0 < length line = some_bytes line (entry_has_line (length journal + 1) takes.entry) in
-    omega (arith, some, length-append line behind_it, ap length is.text_is)
+    omega (arith, some, length-append line beyond_it, ap length is.text_is)
 
 no_more : (size : ℕ) (journal : List Entry) (rest : List ℕ) (size' : ℕ) (whole : List Entry) (last : List ℕ)
     (more : List Entry) → has_line rest ≡ false → size ≡ size' → whole ≡ journal ++ more
@@ -341,7 +341,7 @@ refused_line text size journal rest number why reads some number_is is =
 
 -- a text that names a size has its first line
 named_line : (size : ℕ) → has_line (header_text size) ≡ true
-named_line size = has_behind (codes "JOURNAL1 " ++ digits_in 1 size) (line_feed ∷ []) refl
+named_line size = has_beyond (codes "JOURNAL1 " ++ digits_in 1 size) (line_feed ∷ []) refl
 
 pub first_line : (text : List ℕ) (size : ℕ) (rest : List ℕ) → HasHeader text size rest → has_line text ≡ true
 first_line text size rest named =

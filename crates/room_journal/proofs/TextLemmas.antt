@@ -38,10 +38,10 @@ lines_by-take line journal i entry within is =
     ∙ ap (λ n. lines_by line 1 front ++ line n entry) count
 
 -- a journal's text, and one line more
-pub journal_text-push : (size : ℕ) (journal : List Entry) (entry : Entry) (text rest behind : List ℕ)
-    → text ≡ journal_text size journal ++ rest → rest ≡ entry_text (length journal + 1) entry ++ behind
-    → text ≡ journal_text size (journal ++ entry ∷ []) ++ behind
-journal_text-push size journal entry text rest behind so_far next =
+pub journal_text-push : (size : ℕ) (journal : List Entry) (entry : Entry) (text rest beyond : List ℕ)
+    → text ≡ journal_text size journal ++ rest → rest ≡ entry_text (length journal + 1) entry ++ beyond
+    → text ≡ journal_text size (journal ++ entry ∷ []) ++ beyond
+journal_text-push size journal entry text rest beyond so_far next =
     let line : List ℕ = entry_text (length journal + 1) entry in
     let count : 1 + length journal ≡ length journal + 1 = omega arith in
     let more : journal_text size (journal ++ entry ∷ []) ≡ journal_text size journal ++ line =
@@ -49,8 +49,8 @@ journal_text-push size journal entry text rest behind so_far next =
     ∙ ap (λ n. header_text size ++ (entries_text 1 journal ++ entry_text n entry)) count
     ∙ sym (append_assoc (header_text size) (entries_text 1 journal) line) in
     so_far ∙ ap (λ (text : List ℕ). journal_text size journal ++ text) next
-    ∙ sym (append_assoc (journal_text size journal) line behind)
-    ∙ ap (λ (text : List ℕ). text ++ behind) (sym more)
+    ∙ sym (append_assoc (journal_text size journal) line beyond)
+    ∙ ap (λ (text : List ℕ). text ++ beyond) (sym more)
 
 -- the entries before one of them and that one give no more than all do
 pub lines_by-part : {A : Type 0} (line : ℕ → Entry → List A) (journal : List Entry) (i : ℕ) (entry : Entry)

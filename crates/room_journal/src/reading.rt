@@ -68,7 +68,7 @@ pub fn recover_journal(alloc: Global, text: &[u8]) -> Result<(Room, &[u8]), Jour
         → IfErr result (λ fault. fault.why ≡ Wrong.Memory) }
     ensures fault { IfErr result (IsRefused text.now) }
 {
-    let (size, behind) = match split_first(alloc, text) {
+    let (size, beyond) = match split_first(alloc, text) {
         Ok(header) => header,
         Err(why) => return Err(JournalFault { line: 1, why }),
     };
@@ -77,11 +77,11 @@ pub fn recover_journal(alloc: Global, text: &[u8]) -> Result<(Room, &[u8]), Jour
         return Err(JournalFault { line: 1, why });
     };
     let _machine = room.machine();
-    let mut rest = behind;
+    let mut rest = beyond;
     'lines: while has_line(rest) {
         let line = line_due(&room);
         match read_entry(alloc, &mut room, rest) {
-            Ok(behind) => rest = behind,
+            Ok(beyond) => rest = beyond,
             Err(why) => return Err(JournalFault { line, why }),
         }
     }

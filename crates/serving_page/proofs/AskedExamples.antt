@@ -4,11 +4,11 @@ use Rattle.std.specs.Prelude.{codes, Option, None, Some}
 use Rattle.machine_notation.specs.Digits.{number_in}
 use Rattle.serving_http.specs.Numbers.{number_of}
 use Rattle.serving_page.specs.declared.asked.Asked.{Asked}
-use Rattle.serving_page.specs.Asked.{asked_by, number_behind}
+use Rattle.serving_page.specs.Asked.{asked_by, number_beyond}
 
 -- the picture that a query asks for, with all that it consists of open
 asked : List ℕ → Option Asked
-unfolding asked_by number_behind number_of number_in
+unfolding asked_by number_beyond number_of number_in
 asked query = asked_by query
 
 abbrev at : ℕ → ℕ → Option ℕ → Option Asked

@@ -18,12 +18,12 @@ too_many core paper after rest =
     ]
 
 -- a query of more than three fields, which are cut off one after the other
-pub refused : (query core paper after behind_core behind_paper rest : List ℕ)
-    → fields_of query ≡ core ∷ fields_of behind_core
-    → fields_of behind_core ≡ paper ∷ fields_of behind_paper
-    → fields_of behind_paper ≡ after ∷ fields_of rest → None ≡ asked_by query
+pub refused : (query core paper after beyond_core beyond_paper rest : List ℕ)
+    → fields_of query ≡ core ∷ fields_of beyond_core
+    → fields_of beyond_core ≡ paper ∷ fields_of beyond_paper
+    → fields_of beyond_paper ≡ after ∷ fields_of rest → None ≡ asked_by query
 unfolding asked_by
-refused query core paper after behind_core behind_paper rest first second third =
+refused query core paper after beyond_core beyond_paper rest first second third =
     let all : fields_of query ≡ core ∷ paper ∷ after ∷ fields_of rest =
     first
     ∙ ap (λ (fields : List (List ℕ)). core ∷ fields) second

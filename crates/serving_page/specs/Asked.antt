@@ -11,8 +11,8 @@ use Rattle.serving_page.specs.declared.asked.Asked.{Asked}
 use Rattle.serving_page.specs.Pieces.{pieces_of}
 
 -- the number after a name, if the field begins with the name
-unfoldable pub number_behind : List ℕ → List ℕ → Option ℕ
-number_behind name field =
+unfoldable pub number_beyond : List ℕ → List ℕ → Option ℕ
+number_beyond name field =
     if nat_lt (length field) (length name) then None
     else (if bytes_eq (take (length name) field) name then number_of (drop (length name) field) else None)
 
@@ -33,7 +33,7 @@ window_of (Some core) (Some paper) =
 
 -- `core=` and an address, then `paper=` and the index of a line
 abbrev pub window_by : List ℕ → List ℕ → Option Window
-window_by core paper = window_of (number_behind (codes "core=") core) (number_behind (codes "paper=") paper)
+window_by core paper = window_of (number_beyond (codes "core=") core) (number_beyond (codes "paper=") paper)
 
 -- a picture of the window, whatever the page has
 abbrev pub asked_at : Option Window → Option Asked
@@ -51,7 +51,7 @@ abbrev pub asked_by_fields : List (List ℕ) → Option Asked
 asked_by_fields [] = None
 asked_by_fields (core ∷ []) = None
 asked_by_fields (core ∷ paper ∷ []) = asked_at (window_by core paper)
-asked_by_fields (core ∷ paper ∷ after ∷ []) = asked_after (window_by core paper) (number_behind (codes "after=") after)
+asked_by_fields (core ∷ paper ∷ after ∷ []) = asked_after (window_by core paper) (number_beyond (codes "after=") after)
 asked_by_fields (core ∷ paper ∷ after ∷ more ∷ fields) = None
 
 -- the picture that a query asks for
@@ -59,13 +59,13 @@ unfoldable pub asked_by : List ℕ → Option Asked
 asked_by query = asked_by_fields (fields_of query)
 
 -- what comes after a name, if the field begins with the name
-abbrev pub text_behind : List ℕ → List ℕ → Option (List ℕ)
-text_behind name field = if starts_with (λ a b. a == b) field name then Some (drop (length name) field) else None
+abbrev pub text_beyond : List ℕ → List ℕ → Option (List ℕ)
+text_beyond name field = if starts_with (λ a b. a == b) field name then Some (drop (length name) field) else None
 
 -- the room that a query names in its first field, if it does
 abbrev pub room_in : List (List ℕ) → Option (List ℕ)
 room_in [] = None
-room_in (field ∷ fields) = text_behind (codes "room=") field
+room_in (field ∷ fields) = text_beyond (codes "room=") field
 
 -- the picture that the fields ask for: those after the room, if one is named
 abbrev pub asked_with : Option (List ℕ) → List (List ℕ) → Option Asked

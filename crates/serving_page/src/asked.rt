@@ -1,8 +1,8 @@
 //! Which picture a query asks for.
 ghost use Rattle.std.specs.Prelude.{◌≡◌, option_copied};
-ghost use Rattle.serving_page.specs.Asked.{asked_after, asked_at, asked_by, asked_in, fields_of, number_behind};
+ghost use Rattle.serving_page.specs.Asked.{asked_after, asked_at, asked_by, asked_in, fields_of, number_beyond};
 ghost use Rattle.serving_page.specs.Asked.{room_in};
-ghost use Rattle.serving_page.specs.Asked.{text_behind, window_by, window_of};
+ghost use Rattle.serving_page.specs.Asked.{text_beyond, window_by, window_of};
 
 use crate::pieces::cut_piece;
 use core_1401::ADDRESSES;
@@ -20,9 +20,9 @@ pub struct Asked {
 }
 
 /// The number after a name, if the field begins with the name.
-#[tactic(auto, unfolding(crate::specs::Asked::number_behind))]
-fn number_behind(name: &[u8], field: &[u8]) -> Option<u32>
-    ensures { result ≡ number_behind name.now field.now }
+#[tactic(auto, unfolding(crate::specs::Asked::number_beyond))]
+fn number_beyond(name: &[u8], field: &[u8]) -> Option<u32>
+    ensures { result ≡ number_beyond name.now field.now }
 {
     if field.len() < name.len() {
         return None;
@@ -52,8 +52,8 @@ fn window_by(core: &[u8], paper: &[u8]) -> Option<Window>
     ensures { result ≡ window_by core.now paper.now }
 {
     window_of(
-        number_behind(b"core=", core),
-        number_behind(b"paper=", paper),
+        number_beyond(b"core=", core),
+        number_beyond(b"paper=", paper),
     )
 }
 
@@ -90,14 +90,14 @@ pub fn asked_by(query: &[u8]) -> Option<Asked>
         return asked_at(window);
     };
     match cut_piece(b'&', rest) {
-        (after, None) => asked_after(window, number_behind(b"after=", after)),
+        (after, None) => asked_after(window, number_beyond(b"after=", after)),
         (_, Some(_)) => None,
     }
 }
 
 /// What comes after a name, if the field begins with the name.
-fn text_behind<'a>(name: &[u8], field: &'a [u8]) -> Option<&'a [u8]>
-    ensures { option_copied result ≡ text_behind name.now field.now }
+fn text_beyond<'a>(name: &[u8], field: &'a [u8]) -> Option<&'a [u8]>
+    ensures { option_copied result ≡ text_beyond name.now field.now }
 {
     if field.starts_with(name) {
         Some(&field[name.len()..])
@@ -113,7 +113,7 @@ pub(crate) fn asked_in(query: &[u8]) -> (Option<&[u8]>, Option<Asked>)
     ensures asked { result.1 ≡ asked_in (fields_of query.now) }
 {
     let (first, rest) = cut_piece(b'&', query);
-    let Some(room) = text_behind(b"room=", first) else {
+    let Some(room) = text_beyond(b"room=", first) else {
         return (None, asked_by(query));
     };
     match rest {

@@ -123,20 +123,20 @@ pub gives_at : (n size : ℕ) (entry : Entry) (seats : List SeatView) (at : ℕ)
 gives_at n size entry seats at before after answer all less by is number made carried =
     let inside : at < length seats = omega (arith, less, length_seats n seats all) in
     let front = take at seats in
-    let behind = drop (at + 1) seats in
-    let split : seats ≡ front ++ before ∷ behind =
+    let beyond = drop (at + 1) seats in
+    let split : seats ≡ front ++ before ∷ beyond =
     sym (take-append-drop at seats)
-    ∙ ap (λ rest. front ++ rest) (drop_more seats at before inside ∙ ap (λ first. first ∷ behind) (sym is)) in
+    ∙ ap (λ rest. front ++ rest) (drop_more seats at before inside ∙ ap (λ first. first ∷ beyond) (sym is)) in
     let len : length front ≡ at = length-take-le at seats (omega (arith, inside)) in
     record {
       front = front;
-      behind = behind;
+      beyond = beyond;
       before = before;
       after = after;
       old_is = split;
       new_is = ap (λ all. slice_set all at after) split
-          ∙ subst (λ place. slice_set (front ++ before ∷ behind) place after ≡ front ++ after ∷ behind) len
-          (set-append_seam front before behind after);
+          ∙ subst (λ place. slice_set (front ++ before ∷ beyond) place after ≡ front ++ after ∷ beyond) len
+          (set-append_seam front before beyond after);
       of = seat_number n seats at before all less is ∙ by;
       number = number;
       made = made;

@@ -29,11 +29,11 @@ giver entry = max entry.seat 1
 -- One of these seats gave the command of an entry, and the others are as they were.
 pub record Gives (size : ℕ) (entry : Entry) (old new : List SeatView) : Type 0 where
   pub front : List SeatView
-  pub behind : List SeatView
+  pub beyond : List SeatView
   pub before : SeatView
   pub after : SeatView
-  pub old_is : old ≡ front ++ before ∷ behind
-  pub new_is : new ≡ front ++ after ∷ behind
+  pub old_is : old ≡ front ++ before ∷ beyond
+  pub new_is : new ≡ front ++ after ∷ beyond
   pub of : before.number ≡ giver entry
   pub number : after.number ≡ before.number
   pub made : after.made ≡ before.made + 1

@@ -10,16 +10,16 @@ use autocoder_statements::{
 use std::process::Abort;
 
 /// Splits a source, compares its first line, and returns what follows it.
-fn behind_line<'a>(rt: &impl Abort, source: &'a [u8], wanted: &[u8]) -> &'a [u8] {
-    let (first, behind) = split_line(source).expect(rt, "no line");
+fn beyond_line<'a>(rt: &impl Abort, source: &'a [u8], wanted: &[u8]) -> &'a [u8] {
+    let (first, beyond) = split_line(source).expect(rt, "no line");
     expect_bytes(rt, first, wanted, source);
-    behind
+    beyond
 }
 
 /// Whether a source has one line.
 fn is_one_line(source: &[u8]) -> bool {
     match split_line(source) {
-        Some((_, behind)) => behind.is_empty(),
+        Some((_, beyond)) => beyond.is_empty(),
         None => false,
     }
 }
@@ -29,7 +29,7 @@ fn a_source_is_its_lines(rt: HostRuntime) {
     let source = b"A\r\n\nB\r\r\nC\r";
     let mut rest = source.as_slice();
     for line in [b"A".as_slice(), b"", b"B\r", b"C\r"] {
-        rest = behind_line(&rt, rest, line);
+        rest = beyond_line(&rt, rest, line);
     }
     assert!(rt; split_line(rest).is_none());
     assert!(rt; is_one_line(b"A\n"));
@@ -269,25 +269,25 @@ fn each_kind_of_statement_has_its_row(rt: HostRuntime) {
                 b"               H    5",
                 LabelRule::Optional,
                 Point::First,
-                Next::Behind,
+                Next::Beyond,
             ),
             (
                 b"     A         DCW  #5",
                 LabelRule::Optional,
                 Point::Last,
-                Next::Behind,
+                Next::Beyond,
             ),
             (
                 b"     A              2,4",
                 LabelRule::OfField,
                 Point::Counted(4),
-                Next::Behind,
+                Next::Beyond,
             ),
             (
                 b"     A         EQU  5",
                 LabelRule::Required,
                 Point::Value,
-                Next::Behind,
+                Next::Beyond,
             ),
             (
                 b"               ORG  5",

@@ -43,7 +43,7 @@ fn expect_deck(rt: &(impl Abort + AllocGlobal), image: &[u8], wanted: &[u8]) {
 }
 
 /// The first two cards of a deck for 4,000 places, and the others.
-fn behind_front(rt: &(impl Abort + AllocGlobal), others: &[u8]) -> Vec<u8> {
+fn beyond_front(rt: &(impl Abort + AllocGlobal), others: &[u8]) -> Vec<u8> {
     let mut deck = Vec::from_slice(rt.alloc(), FRONT).expect(rt, "room");
     deck.extend_from_slice(others).expect(rt, "room");
     deck
@@ -158,7 +158,7 @@ fn expect_all_refused(rt: &(impl Abort + AllocGlobal), rows: &[(&[u8], Option<u1
 
 #[test]
 fn a_deck_is_its_cards(rt: HostRuntime) {
-    let wanted = behind_front(
+    let wanted = beyond_front(
         &rt,
         b"\
 ?423420A423420.414   HIE               L039438,407,414,418,421,423,040,0401040
@@ -194,7 +194,7 @@ fn all_characters_are_loaded(rt: HostRuntime) {
 
 #[test]
 fn an_image_without_cells_has_three_cards(rt: HostRuntime) {
-    let wanted = behind_front(&rt, b"                                       /?99080\n");
+    let wanted = beyond_front(&rt, b"                                       /?99080\n");
     let image = b"IMAGE2 04000\nEND 03099\n";
     expect_deck(&rt, image, wanted.as_slice());
     expect_loaded(&rt, image);

@@ -10,7 +10,7 @@ use Rattle.autocoder_disassembly.proofs.instruction.put_instruction.Goals as goa
 again : (cells : List Cell) → length cells ≤ 8 → IsOwnInstruction cells → has_word cells ≡ true
     → IsTextOf (instruction_text cells) cells
 again [] few own h = absurd (false≢true h)
-again (operation ∷ behind) few own h = written_again operation behind (omega (arith, few)) own.0 own.1 h
+again (operation ∷ beyond) few own h = written_again operation beyond (omega (arith, few)) own.0 own.1 h
 
 pub returns-clause-again : goal.returns-clause-again
 returns-clause-again c = again c.args.cells.now c.requires c.put_instruction.ensures.own

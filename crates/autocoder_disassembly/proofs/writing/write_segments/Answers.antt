@@ -26,10 +26,10 @@ loop-segment-preserved g c =
     let new = g.W.Sink.received c.make_room.new.writer in
     let left : List ℕ = flat_map (marked_line []) (built at.builder (placed_cells at.rest.segments)) in
     let more : c.make_room.new.page.items ++ left
-    ≡ listed c.put_in_room.new.text c.put_in_room.new.builder (placed_cells c.in-Some.behind.segments) =
+    ≡ listed c.put_in_room.new.text c.put_in_room.new.builder (placed_cells c.in-Some.beyond.segments) =
     ap (λ (segments : List Segment). listed c.make_room.new.page at.builder (placed_cells segments))
     c.in-Some.ensures.first
-    ∙ sym (c.put_in_room.ensures.text (placed_cells c.in-Some.behind.segments)) in
+    ∙ sym (c.put_in_room.ensures.text (placed_cells c.in-Some.beyond.segments)) in
     record {
       sent =
           sent_more (g.W.Sink.received c.args.writer.now) so_far new _ _ _ at.invariant.sent

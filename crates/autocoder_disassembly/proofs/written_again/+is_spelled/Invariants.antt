@@ -3,4 +3,4 @@ use Rattle.std.proofs.Common.{length}
 use Rattle.autocoder_disassembly.proofs.written_again.+is_spelled.Given as goal
 
 abbrev pub decreases-is_spelled : goal.decreases-is_spelled
-decreases-is_spelled l = length l.behind.now
+decreases-is_spelled l = length l.beyond.now

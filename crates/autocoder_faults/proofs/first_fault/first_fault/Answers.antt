@@ -2,7 +2,7 @@
 use Rattle.std.proofs.Common.{◌<◌, length, ap, subst, ◌∙◌, arith}
 use Rattle.std.proofs.lemmas.Grind.{common_steps}
 use Rattle.autocoder_symbols.specs.View.{symbols_view}
-use Rattle.autocoder_faults.specs.FirstFault.{place_behind, IsClean}
+use Rattle.autocoder_faults.specs.FirstFault.{place_beyond, IsClean}
 use Rattle.autocoder_faults.proofs.FirstFaultLemmas.{next_place_is, next_clean, no_end}
 use Rattle.autocoder_faults.proofs.first_fault.first_fault.Goals as goal
 
@@ -11,9 +11,9 @@ loop-i-preserved c =
     let low : c.loop-i.i < length c.args.lines.now = omega (arith, c.loop-i-test.true, c.len-i-end.ensures) in
     record {
       value = grind (arith, common_steps);
-      place = next_place_is c.args.lines.now c.loop-i.i c.line.result c.loop-i.at c.behind-at.result
+      place = next_place_is c.args.lines.now c.loop-i.i c.line.result c.loop-i.at c.beyond-at.result
           low c.loop-i.invariant.place
-          (c.behind-at.ensures ∙ ap (place_behind c.loop-i.at) c.line.ensures.is);
+          (c.beyond-at.ensures ∙ ap (place_beyond c.loop-i.at) c.line.ensures.is);
       within = omega (arith, low);
       clean = next_clean (symbols_view c.args.symbols.now) c.args.lines.now c.loop-i.i c.line.result
           c.loop-i.at c.loop-i.invariant.clean low c.loop-i.invariant.place

@@ -16,12 +16,12 @@ returns-in_err-write_line-clause-part g c =
     let so_far = g.W.Sink.received at.writer in
     let new = g.W.Sink.received c.write_line.new.writer in
     let rest : List ℕ = written (at.number + 1) (heads_after head at.left.now) (literals_after head at.literals.now)
-    (lines_of c.in-Some.behind.now) in
+    (lines_of c.in-Some.beyond.now) in
     if_so c.from_residual.result
     (sent_part (g.W.Sink.received c.args.writer.now) so_far new _ _ at.invariant.sent
     (subst (λ text. AppendsPart so_far new text)
     (more_written at.page.items at.number at.left.now _ at.literals.now _ c.in-Some.line.now (lines_of at.rest.now)
-    (lines_of c.in-Some.behind.now) head c.head_at-head.ensures refl refl c.in-Some.ensures.0)
+    (lines_of c.in-Some.beyond.now) head c.head_at-head.ensures refl refl c.in-Some.ensures.0)
     (part_before so_far new _ rest c.in_err-write_line.ensures.part)))
 
 pub loop-line-preserved : goal.loop-line-preserved
@@ -31,14 +31,14 @@ loop-line-preserved g c =
     let new = g.W.Sink.received c.write_line.new.writer in
     let page : List ℕ = c.write_line.new.page.items in
     let rest : List ℕ = written (at.number + 1) c.heads_after-left.result.now c.literals_after-literals.result.now
-    (lines_of c.in-Some.behind.now) in
+    (lines_of c.in-Some.beyond.now) in
     record {
       sent =
           sent_more (g.W.Sink.received c.args.writer.now) so_far new _ _ _ at.invariant.sent
           (subst (λ text. Sent so_far new text (page ++ rest))
           (more_written at.page.items at.number at.left.now c.heads_after-left.result.now at.literals.now
           c.literals_after-literals.result.now c.in-Some.line.now (lines_of at.rest.now)
-          (lines_of c.in-Some.behind.now) c.head_at-head.result c.head_at-head.ensures c.heads_after-left.ensures
+          (lines_of c.in-Some.beyond.now) c.head_at-head.result c.head_at-head.ensures c.heads_after-left.ensures
           c.literals_after-literals.ensures c.in-Some.ensures.0)
           (sent_before so_far new _ page rest c.in_ok-write_line.ensures.sent));
       page = omega (arith, at.invariant.page, c.in_ok-write_line.ensures.page);

@@ -16,8 +16,8 @@ returns c =
     let n = c.bytes_before_line_feed-count.result in
     let inside : n < length source =
     omega (arith, c.bytes_before_line_feed-count.ensures.bound, c.if-count-source.false) in
-    let behind : take (length source - (n + 1)) (drop (n + 1) source)
+    let beyond : take (length source - (n + 1)) (drop (n + 1) source)
     ≡ drop (n + 1) source = grind (arith, common_steps) in (
-      rw (behind, c.without_return.ensures) (first_line source n c.bytes_before_line_feed-count.ensures.value inside),
+      rw (beyond, c.without_return.ensures) (first_line source n c.bytes_before_line_feed-count.ensures.value inside),
       grind (arith, common_steps),
     )

@@ -11,7 +11,7 @@ returns-then-ne-clause-value c =
     let s = c.args.core.now in
     let a = c.args.a in
     let b = c.args.b in
-    let i = c.from-n.result - 1 - c.loop-behind.behind in
+    let i = c.from-n.result - 1 - c.loop-beyond.beyond in
     let x = char_below s c.chars-chars.result.now a c.from-a.result i _ _ c.chars-chars.ensures c.from-a.ensures
     c.requires.a.1 c.index-chars-a.is in
     let y = char_below s c.chars-chars.result.now b c.from-b.result i _ _ c.chars-chars.ensures c.from-b.ensures
@@ -19,14 +19,14 @@ returns-then-ne-clause-value c =
     let differs : not ((cell_at s (a - i)).char == (cell_at s (b - i)).char) ≡ true =
     sym (ap (λ (p : ℕ). not (p == (cell_at s (b - i)).char)) x)
     ∙ sym (ap (λ (p : ℕ). not (c.index-chars-a.result == p)) y) ∙ sym c.ne.ensures ∙ c.if-ne.true in
-    found_pair s a b c.args.n (c.args.n - c.loop-behind.behind) i c.loop-behind.invariant (omega arith) differs
+    found_pair s a b c.args.n (c.args.n - c.loop-beyond.beyond) i c.loop-beyond.invariant (omega arith) differs
 
-pub loop-behind-preserved : goal.loop-behind-preserved
-loop-behind-preserved c =
+pub loop-beyond-preserved : goal.loop-beyond-preserved
+loop-beyond-preserved c =
     let s = c.args.core.now in
     let a = c.args.a in
     let b = c.args.b in
-    let i = c.from-n.result - 1 - c.loop-behind.behind in
+    let i = c.from-n.result - 1 - c.loop-beyond.beyond in
     let x = char_below s c.chars-chars.result.now a c.from-a.result i _ _ c.chars-chars.ensures c.from-a.ensures
     c.requires.a.1 c.index-chars-a.is in
     let y = char_below s c.chars-chars.result.now b c.from-b.result i _ _ c.chars-chars.ensures c.from-b.ensures
@@ -35,9 +35,9 @@ loop-behind-preserved c =
     sym (ap (λ (p : ℕ). not (p == (cell_at s (b - i)).char)) x)
     ∙ sym (ap (λ (p : ℕ). not (c.index-chars-a.result == p)) y) ∙ sym c.ne.ensures ∙ c.if-ne.false in
     ap (highest_difference s a b) (omega arith)
-    ∙ passed_pair s a b c.args.n (c.args.n - c.loop-behind.behind) i c.loop-behind.invariant (omega arith) differs
+    ∙ passed_pair s a b c.args.n (c.args.n - c.loop-beyond.beyond) i c.loop-beyond.invariant (omega arith) differs
 
 pub returns-clause-value : goal.returns-clause-value
 returns-clause-value c =
     sym (no_pairs c.args.core.now c.args.a c.args.b)
-    ∙ ap (highest_difference c.args.core.now c.args.a c.args.b) (omega arith) ∙ c.loop-behind.invariant
+    ∙ ap (highest_difference c.args.core.now c.args.a c.args.b) (omega arith) ∙ c.loop-beyond.invariant

@@ -4,4 +4,4 @@ use Rattle.fields_1401.proofs.editing.put_by_places.Given as goal
 
 abbrev pub invariant-loop-i : goal.invariant-loop-i
 invariant-loop-i l =
-    ArePut l.fn.core l.chars l.fn.word.a l.fn.word.taken l.fn.word.b l.fn.word.len l.i l.behind l.significant
+    ArePut l.fn.core l.chars l.fn.word.a l.fn.word.taken l.fn.word.b l.fn.word.len l.i l.beyond l.significant

@@ -8,7 +8,7 @@ use Rattle.fields_1401.proofs.sixteen_places.kept_codes.Goals as goal
 pub returns-clause-kept : goal.returns-clause-kept
 returns-clause-kept c = λ i within isnt.
     let own : ℕ = get_or c.args.control i 0 in
-    let n : ℕ = get_or c.args.behind i 0 in
+    let n : ℕ = get_or c.args.beyond i 0 in
     let shown : List ℕ = c.without-shown.result in
     let no_comma : List ℕ = c.without-no_comma.result in
     let size : length shown ≡ 16 = length-without c.args.control shown 48 c.requires.control c.without-shown.ensures in

@@ -18,7 +18,7 @@ use Rattle.fields_1401.proofs.sixteen_places.put_at_once.Goals as goal
 
 -- what the lanes hold
 lanes : (c : goal.After-count_insignificant) → AreLanes c.args.core.now c.chars_mut-chars.result.now
-    c.codes_up-control.result c.unzoned-of_a.result c.count_behind-behind.result c.taken_codes-taken.result
+    c.codes_up-control.result c.unzoned-of_a.result c.count_beyond-beyond.result c.taken_codes-taken.result
     c.kept_codes-kept.result c.where_replaceable.result c.args.word c.args.rules
 lanes c =
     let s = c.args.core.now in
@@ -39,10 +39,10 @@ lanes c =
       of_a_is = chars_below chars c.codes_up.result c.unzoned-of_a.result c.from-a_low.result o.a
           (omega (arith, c.from-a_low.ensures, c.requires.a_least)) c.codes_up.ensures.codes
           c.unzoned-of_a.ensures.codes;
-      behind_is = c.count_behind-behind.ensures.behind;
-      behind_few = λ i lt. omega (
+      beyond_is = c.count_beyond-beyond.ensures.beyond;
+      beyond_few = λ i lt. omega (
         arith,
-        c.count_behind-behind.ensures.behind i lt,
+        c.count_beyond-beyond.ensures.beyond i lt,
         count_by-le-length is_replaceable (drop (i + 1) control),
         length-drop (i + 1) control,
         c.codes_up-control.ensures.count,
@@ -70,7 +70,7 @@ returns-clause-put c =
     (λ k lt. ap (λ (q : ℕ). get_or after (q - k) 0) (sym at_b)
     ∙ c.put_last.ensures.written k (omega (arith, lt, c.from-len.ensures))
     ∙ ap (λ (i : ℕ). get_or c.where_replaceable.result i 0) (omega (arith, lt, c.requires.len))
-    ∙ shows_at_once s chars c.codes_up-control.result c.unzoned-of_a.result c.count_behind-behind.result
+    ∙ shows_at_once s chars c.codes_up-control.result c.unzoned-of_a.result c.count_beyond-beyond.result
     c.taken_codes-taken.result c.kept_codes-kept.result c.where_replaceable.result o c.args.rules (o.len - 1 - k)
     (lanes c) (omega (arith, lt))
     ∙ ap (λ (m : ℕ). get_or full (m - 1 - k) 0) (sym full_size))
@@ -81,7 +81,7 @@ returns-clause-put c =
 pub returns-clause-significant : goal.returns-clause-significant
 returns-clause-significant c =
     sym (significant_at_once c.args.core.now c.chars_mut-chars.result.now c.codes_up-control.result
-    c.unzoned-of_a.result c.count_behind-behind.result c.taken_codes-taken.result c.kept_codes-kept.result
+    c.unzoned-of_a.result c.count_beyond-beyond.result c.taken_codes-taken.result c.kept_codes-kept.result
     c.where_replaceable.result c.args.word c.args.rules c.count_insignificant.result (lanes c)
     c.taken_codes-taken.ensures.count
     (c.count_insignificant.ensures.first

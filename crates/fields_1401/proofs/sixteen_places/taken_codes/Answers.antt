@@ -13,41 +13,41 @@ abbrev fifteens : List ℕ
 fifteens = replicate 16 15
 
 abbrev numbers : List ℕ → List ℕ
-numbers behind = zip2 minus fifteens behind
+numbers beyond = zip2 minus fifteens beyond
 
-length-numbers : (behind : List ℕ) → length behind ≡ 16 → length (numbers behind) ≡ 16
-length-numbers behind size =
+length-numbers : (beyond : List ℕ) → length beyond ≡ 16 → length (numbers beyond) ≡ 16
+length-numbers beyond size =
     let fifteen : ℕ = 15 in
     let count : length fifteens ≡ 16 = length-replicate 16 fifteen in
-    length-zip2 minus fifteens behind (count ∙ sym size) ∙ count
+    length-zip2 minus fifteens beyond (count ∙ sym size) ∙ count
 
-number_at : (behind : List ℕ) (i : ℕ) → length behind ≡ 16 → i < 16 → get_or behind i 0 ≤ 15
-    → get_or (numbers behind) i 0 ≡ 15 - get_or behind i 0
-number_at behind i size within few =
+number_at : (beyond : List ℕ) (i : ℕ) → length beyond ≡ 16 → i < 16 → get_or beyond i 0 ≤ 15
+    → get_or (numbers beyond) i 0 ≡ 15 - get_or beyond i 0
+number_at beyond i size within few =
     let fifteen : ℕ = 15 in
-    get_or-zip2 minus fifteens behind i 0 0 0 within (omega (arith, size, within))
-    ∙ ap (λ (n : ℕ). minus n (get_or behind i 0)) (get_or-replicate 16 i fifteen 0 within) ∙ omega (arith, few)
+    get_or-zip2 minus fifteens beyond i 0 0 0 within (omega (arith, size, within))
+    ∙ ap (λ (n : ℕ). minus n (get_or beyond i 0)) (get_or-replicate 16 i fifteen 0 within) ∙ omega (arith, few)
 
 pub swizzle-from_a : goal.swizzle-from_a
 swizzle-from_a c =
-    let behind : List ℕ = c.args.behind in
-    let count = length-numbers behind c.requires.behind in
-    SwzOk-from_below w8 16 1 16 0 (numbers behind) refl (omega (arith, count))
-    (Each1-from_get_or (λ j. j < 16) (numbers behind) 0
+    let beyond : List ℕ = c.args.beyond in
+    let count = length-numbers beyond c.requires.beyond in
+    SwzOk-from_below w8 16 1 16 0 (numbers beyond) refl (omega (arith, count))
+    (Each1-from_get_or (λ j. j < 16) (numbers beyond) 0
     (λ i lt.
     let within : i < 16 = omega (arith, count, lt) in
-    omega (arith, number_at behind i c.requires.behind within (c.requires.few i within))))
+    omega (arith, number_at beyond i c.requires.beyond within (c.requires.few i within))))
 
 pub returns-clause-lanes : goal.returns-clause-lanes
 returns-clause-lanes c = λ i within.
     let char : ℕ = get_or c.args.control i 0 in
-    let n : ℕ = get_or c.args.behind i 0 in
+    let n : ℕ = get_or c.args.beyond i 0 in
     let none : ℕ = 0 in
     let blanks : List ℕ = replicate 16 0 in
-    let count = length-numbers c.args.behind c.requires.behind in
-    let number = number_at c.args.behind i c.requires.behind within (c.requires.few i within) in
-    let lane : get_or (swz_l w8 16 c.args.of_a 0 (numbers c.args.behind)) i 0 ≡ get_or c.args.of_a (15 - n) 0 =
-    get_or-swz_l_below w8 16 c.args.of_a 0 (numbers c.args.behind) i (omega (arith, count, within))
+    let count = length-numbers c.args.beyond c.requires.beyond in
+    let number = number_at c.args.beyond i c.requires.beyond within (c.requires.few i within) in
+    let lane : get_or (swz_l w8 16 c.args.of_a 0 (numbers c.args.beyond)) i 0 ≡ get_or c.args.of_a (15 - n) 0 =
+    get_or-swz_l_below w8 16 c.args.of_a 0 (numbers c.args.beyond) i (omega (arith, count, within))
     (omega (arith, number))
     ∙ ap (λ (k : ℕ). get_or c.args.of_a k 0) (omega (arith, number, within)) in
     let blank : get_or blanks i 0 ≡ 0 = get_or-replicate 16 i none 0 within in

@@ -11,8 +11,8 @@ returns-clause-lanes c = λ i within.
     elim c.if-rules.branch [
       | then-rules w ↦
           ap (λ (l : List ℕ). get_or l i 0) w.result-is ∙ w.where_below.ensures.lanes i within
-          ∙ left_over_lane c.args.rules (get_or c.args.behind i 0) this other w.if-rules.true
+          ∙ left_over_lane c.args.rules (get_or c.args.beyond i 0) this other w.if-rules.true
       | else-rules w ↦
           ap (λ (l : List ℕ). get_or l i 0) w.result-is
-          ∙ none_left_over c.args.rules (get_or c.args.behind i 0) this other w.if-rules.false
+          ∙ none_left_over c.args.rules (get_or c.args.beyond i 0) this other w.if-rules.false
     ]

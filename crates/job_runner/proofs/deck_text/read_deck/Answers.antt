@@ -7,7 +7,7 @@ use Rattle.job_runner.specs.CardList.{cards_in}
 use Rattle.job_runner.specs.DeckText.{card_before, card_of_line, deck_from}
 use Rattle.job_runner.specs.declared.deck_text.DeckTextFault.{DeckTextFault}
 use Rattle.job_runner.proofs.CardListLemmas.{as_many}
-use Rattle.job_runner.proofs.DeckTextLemmas.{behind, card_behind, one_more}
+use Rattle.job_runner.proofs.DeckTextLemmas.{beyond, card_beyond, one_more}
 use Rattle.job_runner.proofs.deck_text.read_deck.Goals as goal
 
 pub loop-line-preserved : goal.loop-line-preserved
@@ -19,7 +19,7 @@ loop-line-preserved c =
     let lens' : List ℕ = c.put_card.new.lens.items in
     let chars' : List ℕ = c.put_card.new.chars.items in
     let card : Card = c.in_ok-card.card in
-    let more : Result (List Card) DeckTextFault = deck_from (length lens + 1 + 1) (lines_of c.in-Some.behind.now) in
+    let more : Result (List Card) DeckTextFault = deck_from (length lens + 1 + 1) (lines_of c.in-Some.beyond.now) in
     let number : c.saturating_add-number.result ≡ length lens + 1 = search rules in
     let is : ◌≡◌ {A = Result Card DeckTextFault} (card_of_line (length lens + 1) line) (Ok card) =
     subst (λ (n : ℕ). ◌≡◌ {A = Result Card DeckTextFault} (card_of_line n line) (Ok card)) number
@@ -30,12 +30,12 @@ loop-line-preserved c =
     ap length c.in-Ok.ensures.lens ∙ length-append lens (length line ∷ []) in
     record {
       deck = s.deck
-          ∙ ap (λ (lines : List (List ℕ)). behind (cards_in lens chars) (deck_from (length lens + 1) lines))
+          ∙ ap (λ (lines : List (List ℕ)). beyond (cards_in lens chars) (deck_from (length lens + 1) lines))
           c.in-Some.ensures.0
-          ∙ ap (λ (read : Result Card DeckTextFault). behind (cards_in lens chars) (card_before read more)) is
-          ∙ card_behind (cards_in lens chars) card more
-          ∙ ap (λ (cards : List Card). behind cards more) (sym one.cards)
-          ∙ ap (λ (n : ℕ). behind (cards_in lens' chars') (deck_from (n + 1) (lines_of c.in-Some.behind.now)))
+          ∙ ap (λ (read : Result Card DeckTextFault). beyond (cards_in lens chars) (card_before read more)) is
+          ∙ card_beyond (cards_in lens chars) card more
+          ∙ ap (λ (cards : List Card). beyond cards more) (sym one.cards)
+          ∙ ap (λ (n : ℕ). beyond (cards_in lens' chars') (deck_from (n + 1) (lines_of c.in-Some.beyond.now)))
           (sym longer);
       count = omega (arith, s.count, longer, ap length c.in-Some.ensures.0);
       held = one.held;

@@ -4,7 +4,7 @@ use Rattle.cpu_1401.specs.State.{State}
 use Rattle.job_runner.specs.Unattended.{Job, IsPartOf, unattended, with_deck}
 use Rattle.job_runner.proofs.JoinLemmas.{at_end, begins, goes_on}
 use Rattle.job_runner.proofs.job.run_job.Goals as goal
-use Rattle.job_runner.proofs.JobLemmas.{HasRoom, room_for, part_behind, stretch_begins, waiting_begins, taken_out}
+use Rattle.job_runner.proofs.JobLemmas.{HasRoom, room_for, part_beyond, stretch_begins, waiting_begins, taken_out}
 use Rattle.job_runner.proofs.JobLemmas.{stretch_goes_on, stretch_stops, nothing_left}
 
 pub loop-steps-init : goal.loop-steps-init
@@ -83,7 +83,7 @@ returns-in_err-take_all-clause-part g c =
     let whole = with_deck (g.R.Cards.left c.args.cards.now) c.args.machine.now in
     let out = c.in_err-take_all.ensures in
     let part =
-    part_behind (g.W.Output.lines c.args.output.now) (g.W.Output.lines c.take_all.new.output) whole.devices.paper
+    part_beyond (g.W.Output.lines c.args.output.now) (g.W.Output.lines c.take_all.new.output) whole.devices.paper
     (g.W.Output.cards c.args.output.now) (g.W.Output.cards c.take_all.new.output) whole.devices.stacker 0
     (unattended c.args.limit whole) out.part_lines out.part_cards (waiting_begins c.args.limit whole) in
     search (rules, part)

@@ -6,6 +6,6 @@ use Rattle.machine_image.proofs.reading.last_entry.Goals as goal
 
 pub returns-then-not-is_empty-clause-value : goal.returns-then-not-is_empty-clause-value
 returns-then-not-is_empty-clause-value c =
-    let some : 0 < length c.args.behind.now = grind (arith, nat_tests, c.if-not-is_empty.ensures) in
-    let left = is_done-some c.args.behind.now some in
+    let some : 0 < length c.args.beyond.now = grind (arith, nat_tests, c.if-not-is_empty.ensures) in
+    let left = is_done-some c.args.beyond.now some in
     rw (c.in-Some.is, left) (grind (arith, nat_tests))

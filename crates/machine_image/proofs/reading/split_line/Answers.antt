@@ -16,7 +16,7 @@ returns c =
     let rest : List ℕ = drop (end + 1) text in
     let all : take (length text - (end + 1)) rest
     ≡ rest = take_all (length text - (end + 1)) rest (omega (arith, length-drop (end + 1) text)) in (
-      first.1 ∙ ap (λ (behind : List ℕ). take end text
-          ∷ parts_of behind) (sym all),
+      first.1 ∙ ap (λ (beyond : List ℕ). take end text
+          ∷ parts_of beyond) (sym all),
       omega (arith, ap length all, length-drop (end + 1) text, first.0),
     )

@@ -4,12 +4,12 @@ use Rattle.bcd_1401.specs.declared.cell.Cell.{Cell}
 use Rattle.machine_mnemonics.specs.InstructionText.{IsOwn, IsOwnD}
 use Rattle.machine_mnemonics.proofs.instruction.+d_in.Goals as goal
 
-alone : (behind : List Cell) (d : Cell) → 1 ≤ length behind → length behind < 2 → d ≡ get_or behind 0 d → IsOwn d
-    → IsOwnD behind
+alone : (beyond : List Cell) (d : Cell) → 1 ≤ length beyond → length beyond < 2 → d ≡ get_or beyond 0 d → IsOwn d
+    → IsOwnD beyond
 alone [] d some few e own = absurd (omega (arith, some))
 alone (x ∷ []) d some few e own = subst IsOwn e own
 alone (x ∷ y ∷ more) d some few e own = absurd (omega (arith, few))
 
 pub returns-in-len1-clause-own : goal.returns-in-len1-clause-own
 returns-in-len1-clause-own t c =
-    alone c.args.behind.now c.d-item.result c.in-len1.len_at_least c.in-len1.len_below c.d-item.is c.graphic.ensures.own
+    alone c.args.beyond.now c.d-item.result c.in-len1.len_at_least c.in-len1.len_below c.d-item.is c.graphic.ensures.own

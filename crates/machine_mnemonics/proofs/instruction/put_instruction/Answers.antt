@@ -8,9 +8,9 @@ use Rattle.machine_mnemonics.proofs.instruction.put_instruction.Goals as goal
 whole : (cells : List Cell) (operation : Cell) → 1 ≤ length cells → operation ≡ get_or cells 0 operation
     → IsOwn operation → IsOwnD (take (length cells - 1) (drop 1 cells)) → IsOwnInstruction cells
 whole [] operation some e own own_d = absurd (omega (arith, some))
-whole (first ∷ behind) operation some e own own_d =
-    let all : take (length (first ∷ behind) - 1) behind ≡ behind =
-    take_all (length (first ∷ behind) - 1) behind (omega arith) in
+whole (first ∷ beyond) operation some e own own_d =
+    let all : take (length (first ∷ beyond) - 1) beyond ≡ beyond =
+    take_all (length (first ∷ beyond) - 1) beyond (omega arith) in
     (subst IsOwn e own, subst IsOwnD all own_d)
 
 pub returns-in_err-extend_from_slice-clause-own : goal.returns-in_err-extend_from_slice-clause-own

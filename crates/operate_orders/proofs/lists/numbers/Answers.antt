@@ -5,7 +5,7 @@ use Rattle.std.proofs.lemmas.Result.{err_from_is_err_and}
 use Rattle.std.proofs.lemmas.List.{take_more_set, length-set}
 use Rattle.operate_orders.specs.List.{listed, numbers_in}
 use Rattle.operate_orders.specs.Operands.{count_operand}
-use Rattle.operate_orders.specs.Parts.{operand_in, behind_operand}
+use Rattle.operate_orders.specs.Parts.{operand_in, beyond_operand}
 use Rattle.operate_orders.specs.declared.fault.OrderFault.{OrderFault}
 use Rattle.operate_orders.specs.declared.words.Keyword.TheVariants.{Delete}
 use Rattle.operate_orders.proofs.ListLemmas.{with_front, one_listed, none_listed, listed_end, listed_more}
@@ -25,7 +25,7 @@ loop-i-preserved c =
     let more = ap (λ (so_far : List (Option ℕ)). with_front so_far (listed Delete count_operand (8 - (i + 1)) c.split_operand.result.1.now))
     (take_more_set c.loop-i.numbers i x within) in
     let there = ap (λ (left : List ℕ). with_front (front ++ x ∷ []) (listed Delete count_operand (8 - (i + 1)) left))
-    c.split_operand.ensures.behind in
+    c.split_operand.ensures.beyond in
     let step = one_listed Delete count_operand (8 - (i + 1)) rest x front read in
     let here = ap (λ (n : ℕ). with_front front (listed Delete count_operand n rest)) left in
     record {

@@ -31,18 +31,18 @@ lines-init c =
 pub lines-smaller : goal.lines-smaller
 lines-smaller c =
     shorter c.lines.room.size c.lines.room.journal c.lines.rest.now c.read_entry.new.room.journal
-    c.in-Ok-read_entry.behind.now c.in-Ok-read_entry.ensures.read
+    c.in-Ok-read_entry.beyond.now c.in-Ok-read_entry.ensures.read
 
 pub lines-preserved : goal.lines-preserved
 lines-preserved c =
     let text = c.args.text.now in
     let some = sym c.has_line.ensures ∙ c.lines-test.true in
     let next = c.read_entry.new.room in
-    let behind = c.in-Ok-read_entry.behind.now in
+    let beyond = c.in-Ok-read_entry.beyond.now in
     let same = c.read_entry.ensures.size in
     let legal = subst (λ (n : ℕ). IsLegal n next.journal) same c.read_entry.ensures.legal in
-    subst (λ (n : ℕ). Reads text n next.journal behind) (sym same)
-    (next_line text c.lines.room.size c.lines.room.journal c.lines.rest.now next.journal behind c.lines.invariant some
+    subst (λ (n : ℕ). Reads text n next.journal beyond) (sym same)
+    (next_line text c.lines.room.size c.lines.room.journal c.lines.rest.now next.journal beyond c.lines.invariant some
     c.in-Ok-read_entry.ensures.read legal c.read_entry.ensures.bound)
 
 pub returns-in-Err-read_entry-clause-memory : goal.returns-in-Err-read_entry-clause-memory

@@ -128,7 +128,7 @@ fn a_line_is_answered_before_the_next_byte_is_read(rt: HostRuntime) {
 }
 
 #[test]
-fn a_second_session_reads_on_behind_quit(rt: HostRuntime) {
+fn a_second_session_reads_on_beyond_quit(rt: HostRuntime) {
     expect_turns(
         &rt,
         ("QUIT\nEXAMINE 0\nEXAMINE 0", NEVER),

@@ -14,8 +14,8 @@ returns-then-letter-ne88 t c =
     let one : option_and c.args.self (slice_index text 1) ≡ Some c.in_ok-these.these =
     sym c.with.ensures ∙ c.in_ok-these.was in
     let other : (slice_index text 1 == letter_x) ≡ false = grind (arith, nat_tests, c.if-letter-ne88.true) in
-    let behind : take (length text - 2) (drop 2 text) ≡ drop 2 text = grind (arith, common_steps) in
-    rw (c.and.ensures, behind)
+    let beyond : take (length text - 2) (drop 2 text) ≡ drop 2 text = grind (arith, common_steps) in
+    rw (c.and.ensures, beyond)
     (with_first c.args.self c.in_ok-these.these text c.in-len2-up.len_at_least c.if-parting-ne44.false other one)
 
 pub returns : goal.returns
@@ -25,8 +25,8 @@ returns t c =
     let one : register_and c.args.self (slice_index more 0) ≡ Some c.in_ok-those.those =
     sym c.with_register.ensures ∙ c.in_ok-those.was in
     let rest : more ≡ drop 2 text = grind (arith, common_steps) in
-    let behind : take (length more - 1) (drop 1 more) ≡ drop 1 more = grind (arith, common_steps) in
+    let beyond : take (length more - 1) (drop 1 more) ≡ drop 1 more = grind (arith, common_steps) in
     let some : 1 ≤ length more = c.in-len1-up.len_at_least in
-    rw (c.and-2.ensures, behind, rest)
+    rw (c.and-2.ensures, beyond, rest)
     (with_register c.args.self c.in_ok-those.those text c.in-len2-up.len_at_least c.if-parting-ne44.false
     c.if-letter-ne88.false (rw rest at some) (rw rest at one))

@@ -12,7 +12,7 @@ returns c =
     let count : ℕ = (c.len.result + 63) / 64 in
     let e : count ≡ (length chars + 63) / 64 = omega (arith, c.len.ensures) in
     let are : AreMarkWords (held chars words) (take count (drop 1 words)) =
-    are_mark_words chars words count c.self.invariant c.behind_first.ensures.within e in
+    are_mark_words chars words count c.self.invariant c.beyond_first.ensures.within e in
     let of_words : List ℕ → Type 0 = λ lent. AreMarkWords (held chars words) lent in
-    let of_storage : Storage → Type 0 = λ storage. AreMarkWords storage c.behind_first.result.now in
-    subst of_storage c.self.view_is (subst of_words (sym c.behind_first.ensures.lent) are)
+    let of_storage : Storage → Type 0 = λ storage. AreMarkWords storage c.beyond_first.result.now in
+    subst of_storage c.self.view_is (subst of_words (sym c.beyond_first.ensures.lent) are)

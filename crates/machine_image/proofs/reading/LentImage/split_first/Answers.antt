@@ -18,7 +18,7 @@ pub returns-in_default-segment-clause-first : goal.returns-in_default-segment-cl
 returns-in_default-segment-clause-first c =
     let self = c.self.inside in
     sym (ap (λ (image : Image). image.segments) c.self.view_is)
-    ∙ left_at_last self.version self.size c.in-Some.line.now c.in-Some.behind.now _ c.in-Some.ensures.0
+    ∙ left_at_last self.version self.size c.in-Some.line.now c.in-Some.beyond.now _ c.in-Some.ensures.0
     c.in_default-segment.ensures
 
 pub returns-in_default-segment_inside-clause-first : goal.returns-in_default-segment_inside-clause-first
@@ -28,7 +28,7 @@ returns-in_default-segment_inside-clause-first c =
     let outside = outside_from (is_inside self.size found) found c.in_default-segment_inside.field-0
     c.in_default-segment_inside.ensures in
     sym (ap (λ (image : Image). image.segments) c.self.view_is)
-    ∙ left_at_outside self.version self.size found c.in-Some.line.now c.in-Some.behind.now _ c.in-Some.ensures.0
+    ∙ left_at_outside self.version self.size found c.in-Some.line.now c.in-Some.beyond.now _ c.in-Some.ensures.0
     c.in-Some-segment.ensures outside.0
 
 pub invariant_of-rest : goal.invariant_of-rest
@@ -36,7 +36,7 @@ invariant_of-rest c =
     let self = c.self.inside in
     let found = as_segment c.in-Some-segment.spelled in
     let inside = inside_from (is_inside self.size found) found c.in-Ok.segment c.in-Ok.ensures in
-    let left = left_at_segment self.version self.size self.start found c.in-Some.line.now c.in-Some.behind.now _
+    let left = left_at_segment self.version self.size self.start found c.in-Some.line.now c.in-Some.beyond.now _
     c.in-Some.ensures.0 c.in-Some-segment.ensures inside.0 c.self.invariant in
     left.good
 
@@ -45,8 +45,8 @@ returns-clause-first c =
     let self = c.self.inside in
     let found = as_segment c.in-Some-segment.spelled in
     let inside = inside_from (is_inside self.size found) found c.in-Ok.segment c.in-Ok.ensures in
-    let left = left_at_segment self.version self.size self.start found c.in-Some.line.now c.in-Some.behind.now _
+    let left = left_at_segment self.version self.size self.start found c.in-Some.line.now c.in-Some.beyond.now _
     c.in-Some.ensures.0 c.in-Some-segment.ensures inside.0 c.self.invariant in
     sym (ap (λ (image : Image). image.segments) c.self.view_is) ∙ left.first
-    ∙ ap (λ one. one ∷ (contents_or_none (contents_in self.version self.size (parts_of c.in-Some.behind.now))).0)
+    ∙ ap (λ one. one ∷ (contents_or_none (contents_in self.version self.size (parts_of c.in-Some.beyond.now))).0)
     (sym inside.1)

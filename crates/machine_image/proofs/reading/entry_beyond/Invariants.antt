@@ -2,7 +2,7 @@
 use Rattle.std.proofs.Common.{◌≡◌, length}
 use Rattle.machine_image.specs.Lent.{entry_read}
 use Rattle.machine_image.specs.Reading.{parts_of, contents_in}
-use Rattle.machine_image.proofs.reading.entry_behind.Given as goal
+use Rattle.machine_image.proofs.reading.entry_beyond.Given as goal
 
 abbrev pub invariant-loop-line : goal.invariant-loop-line
 invariant-loop-line l =

@@ -3,7 +3,7 @@ use Rattle.std.proofs.Common.{◌≡◌, ℕ, ◌<◌, ◌≤◌, if◌then◌el
 use Rattle.std.proofs.lemmas.Simd.{get_or-replicate}
 use Rattle.fields_1401.specs.Edit.{is_replaceable}
 use Rattle.fields_1401.proofs.SixteenPlacesLemmas.{right_sum, right_one, right_twice, right_all, flag_le}
-use Rattle.fields_1401.proofs.sixteen_places.count_behind.Goals as goal
+use Rattle.fields_1401.proofs.sixteen_places.count_beyond.Goals as goal
 
 -- the flags: 1 where a place is replaceable
 flagged : (word flags : List ℕ) → ((i : ℕ) → i < 16 → get_or flags i 0 ≡
@@ -15,8 +15,8 @@ flagged word flags are i within =
     (get_or-replicate 16 i 1 0 within)
     ∙ ap (λ (n : ℕ). if is_replaceable (get_or word i 0) then 1 else n) (get_or-replicate 16 i 0 0 within)
 
-pub returns-clause-behind : goal.returns-clause-behind
-returns-clause-behind c = λ i within.
+pub returns-clause-beyond : goal.returns-clause-beyond
+returns-clause-beyond c = λ i within.
     let here : List ℕ = c.where_replaceable-here.result in
     let size = c.where_replaceable-here.ensures.count in
     let flags = flagged c.args.control here c.where_replaceable-here.ensures.lanes in
