@@ -54,6 +54,16 @@ impl<K: Keeper + Drop> KeptRoom<K> {
         &self.room
     }
 
+    /// The room and its keeper.
+    pub fn into_parts(self) -> (Room, K)
+        ensures room { result.0 ≡ self.room }
+        ensures failed { K.has_failed result.1 ≡ self.failed }
+        ensures kept { IsKeptAs K.form self.room.size self.room.journal self.failed K.first (K.kept result.1) }
+    {
+        let KeptRoom { room, keeper } = self;
+        (room, keeper)
+    }
+
     /// Whether a write has failed. If none has, what is kept is the text of the journal.
     pub fn has_failed(&self) -> bool
         ensures failed { result ≡ self.now.failed }
