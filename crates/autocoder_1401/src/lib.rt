@@ -17,6 +17,7 @@
 pub mod assembly; // the passes, in their order
 pub mod tables; // an assembly with its symbol table and its cross-reference
 pub mod rows; // an image with the rows of its listing
+pub mod program; // the same with the symbols
 pub mod listed; // the listing, ready to be written
 pub mod all_faults; // all faults of a source
 pub mod explaining; // all faults of a source, each with what is wrong
@@ -29,12 +30,14 @@ pub use assembly::{Assembly, assemble, assemble_image, assemble_in};
 pub use autocoder_diagnostics::explanation::{Cause, Explanation};
 pub use autocoder_listing::listing::{Listing, ListingLine};
 pub use autocoder_listing::rows::{Row, Rows};
+pub use autocoder_listing::symbol_table::Symbol;
 pub use autocoder_listing::writing::{ReadyListing, write_listing};
 pub use autocoder_symbols::fault::{AsmFault, AsmKind};
 pub use explaining::explained_faults;
 pub use listed::assemble_listing;
 pub use machine_image::{Image, ImageFault, Segment, Segments, read_image, write_image};
-pub use messages::{fault_lines, warning_lines};
+pub use messages::{fault_help, fault_lines, warning_lines};
+pub use program::{AssemblyProgram, assemble_program};
 pub use rows::{AssemblyRows, assemble_rows};
 pub use tables::{AssemblyTables, assemble_with_tables};
 pub use warning::{Warning, WarningKind, warnings};

@@ -316,6 +316,41 @@ fn help_of(
     String::from_str(alloc, help)
 }
 
+/// What is wrong at a fault of this line of a source, in a few words.
+fn help_at(
+    alloc: Global,
+    language: Language,
+    source: &[u8],
+    size: u16,
+    explanation: Explanation,
+    line: &[u8],
+    suffix: Option<u8>,
+) -> Result<String, AllocError> {
+    match explanation.cause {
+        Cause::OutOfCore => outside_help(alloc, language, source, size),
+        _ => help_of(alloc, language, explanation, line, suffix),
+    }
+}
+
+/// What is wrong at a fault of a source, for core storage of this size, in a few words: `MLL isn't an operation; did you
+/// mean MLC?`.
+pub fn fault_help(
+    alloc: Global,
+    language: Language,
+    source: &[u8],
+    size: u16,
+    explanation: Explanation,
+) -> Result<String, AllocError> {
+    let mut line: &[u8] = &[];
+    let mut suffix = None;
+    let mut rest = source;
+    for _ in 0..explanation.fault.line {
+        suffix = suffix_in(language, line, suffix);
+        (line, rest) = split_line(rest).unwrap_or((&[], &[]));
+    }
+    help_at(alloc, language, source, size, explanation, line, suffix)
+}
+
 /// A line for each fault of the source of this file, for core storage of this size: `sales.source:4:16: OPERATION: ..`.
 pub fn fault_lines(
     alloc: Global,
@@ -343,10 +378,7 @@ pub fn fault_lines(
             .as_str()
             .split_once(' ')
             .map_or(kind.as_str(), |(_, name)| name);
-        let help = match explanation.cause {
-            Cause::OutOfCore => outside_help(alloc, language, source, size)?,
-            _ => help_of(alloc, language, *explanation, text, suffix)?,
-        };
+        let help = help_at(alloc, language, source, size, *explanation, text, suffix)?;
         let shown = format!(in alloc; "{file}:{line}:{column}: {name}: {help}\n")?;
         lines.push_str(shown.as_str())?;
     }

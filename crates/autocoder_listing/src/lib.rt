@@ -7,6 +7,7 @@
 //! let ready = ready_listing(alloc, &all, source, lines)?;     // the same, made a page after the other
 //! write_listing(ready, source, &mut writer)?
 //! make_rows(alloc, &all, lines)?.line_of(alloc, at, &cells)?  // the line that placed cells
+//! make_symbols(alloc, hashing, &all, lines)?                  // each label with its address
 //! make_tables(alloc, hashing, &all, lines)?.symbols           // a line for each label
 //! ```
 //!
@@ -19,12 +20,13 @@ pub mod source_listing; // the same, line by line
 pub mod rows; // what has an address in it
 mod heads; // what the lines have besides the source
 pub mod writing; // the listing, written as it is made
-mod symbol_table; // each label with its address, its length and its line
+pub mod symbol_table; // each label with its address, its length and its line
 mod cross_reference; // the lines that name each label
 pub mod tables; // both as texts
 
 pub use listing::{Listing, ListingLine};
 pub use rows::{Row, Rows, make_rows};
 pub use source_listing::make_listing;
+pub use symbol_table::{Symbol, make_symbols};
 pub use tables::{Tables, make_tables};
 pub use writing::{ReadyListing, ready_listing, write_listing};

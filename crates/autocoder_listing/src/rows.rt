@@ -190,6 +190,13 @@ fn last_at(rows: &[Row], at: u16, characters: &[u8; 8]) -> Option<u64>
 }
 
 impl Rows {
+    /// The rows of this list. It takes no memory.
+    pub fn from_vec(rows: Vec<Row>) -> Rows
+        ensures { result ≡ rows.items }
+    {
+        Rows { rows }
+    }
+
     /// The rows.
     pub fn as_slice(&self) -> &[Row]
         ensures { result.now ≡ self.now }

@@ -2,10 +2,11 @@
 ghost use Rattle.std.specs.Prelude.{◌≡◌, ◌<◌, ◌^◌, ◌++◌, length, IfOk, IfErr, OnOk};
 ghost use Rattle.std.specs.List.{flat_map};
 ghost use Rattle.autocoder_symbols.specs.Fault.{IsMemory};
-ghost use Rattle.autocoder_placing.specs.Placement.{unplaced};
+ghost use Rattle.autocoder_placing.specs.Placement.{placed, unplaced};
 ghost use Rattle.autocoder_placing.specs.View.{places_of};
 ghost use Rattle.autocoder_listing.specs.SymbolTable.{span_length, length_named, symbol_with, symbol_at, listed};
-ghost use Rattle.autocoder_listing.specs.SymbolTable.{second_area, area_symbols, symbols_at, symbols_from, length_text};
+ghost use Rattle.autocoder_listing.specs.SymbolTable.{second_area, area_symbols, symbols_at, symbols_from, symbols_in};
+ghost use Rattle.autocoder_listing.specs.SymbolTable.{length_text};
 ghost use Rattle.autocoder_listing.specs.SymbolTable.{shown_value, symbol_line};
 
 use crate::printing::put_address;
@@ -24,8 +25,8 @@ const LENGTH_DIGITS: u8 = 5;
 pub(crate) const LINE_DIGITS: u8 = 4;
 
 /// A label that a line declares.
-#[derive(Clone, Copy)]
-pub(crate) struct Symbol {
+#[derive(Clone, Copy, Debug, PartialEq, Eq)]
+pub struct Symbol {
     /// The label.
     pub label: Label,
     /// The value that operands take for it.
@@ -190,6 +191,25 @@ pub(crate) fn symbols_of(
         so_far.place(line)?;
     }
     Ok(symbols)
+}
+
+/// The symbols of lines, in the order of the lines that declare them, once all is placed.
+///
+/// # Errors
+///
+/// `Memory` if there is no room for them.
+pub fn make_symbols(
+    alloc: Global,
+    hashing: SourceHashing,
+    all: &Placing<'_>,
+    lines: &Lines<'_>,
+) -> Result<Vec<Symbol>, AsmFault>
+    requires few { length lines.now < 2 ^ 32 }
+    requires placed { places_of all.now ≡ placed lines.now }
+    ensures symbols { IfOk result (λ symbols. symbols.items ≡ symbols_in lines.now) }
+    ensures err { IfErr result IsMemory }
+{
+    symbols_of(alloc, hashing, all, lines)
 }
 
 /// Adds a length, or blanks if there is none.
