@@ -36,7 +36,7 @@ fn past_eights(before: &Core, after: &Core, from: u16) -> u16
 }
 
 /// The first place from one on that changed, or the end of core.
-fn next_change(before: &Core, after: &Core, from: u16) -> u16
+pub fn next_change(before: &Core, after: &Core, from: u16) -> u16
     requires size { length before.now ≡ length after.now }
     requires from { from ≤ length after.now }
     ensures { IsNextChange before.now after.now from result }

@@ -13,12 +13,13 @@ mod fetched;
 
 // what changed in core
 mod blocks;
-mod changes;
+pub mod changes;
 
 // a line of the trace
 mod line;
 pub mod snapshot;
 pub mod work;
 
+pub use changes::next_change;
 pub use snapshot::Snapshot;
 pub use work::Work;

@@ -1,15 +1,17 @@
 -- Breaks at the address of an instruction (own).
-use Rattle.std.specs.Prelude.{ℕ, ◌-◌, ◌==◌, ◌&&◌, Bool, if◌then◌else◌}
+use Rattle.std.specs.Prelude.{ℕ, ◌-◌, ◌==◌, ◌&&◌, Bool, true, Option, None, Some}
 use Rattle.cpu_1401.specs.State.{State}
 
 -- whether the next instruction is the one at this address, where the condition holds
 abbrev pub arrives : ℕ → Bool → State → Bool
 arrives address is_so s = (s.i == address) && is_so
 
--- how many arrivals are still to be passed
-abbrev pub passes_after : Bool → ℕ → ℕ
-passes_after there passes = if there then passes - 1 else passes
+-- whether an arrival meets the break: each does, or the one whose turn it is
+abbrev pub is_met_at : Option ℕ → Bool
+is_met_at None = true
+is_met_at (Some next) = next == 1
 
--- whether an arrival meets the break: none is to be passed any more
-abbrev pub is_met_after : Bool → ℕ → Bool
-is_met_after there passes = there && (passes == 0)
+-- which of the arrivals meets the break after one more
+abbrev pub only_after : Option ℕ → Option ℕ
+only_after None = None
+only_after (Some next) = Some (next - 1)

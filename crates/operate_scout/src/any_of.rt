@@ -80,7 +80,7 @@ impl<T: Test + Drop> Test for AnyOf<T> {
 }
 
 /// Each of the tests sees the machine at which a search begins.
-fn begin_each<T: Test>(tests: &mut [T], machine: &Machine)
+pub fn begin_each<T: Test>(tests: &mut [T], machine: &Machine)
     ensures { tests.new ≡ map (λ test. T.begun test machine.now) tests.old }
 {
     for test in tests.iter_mut() {
@@ -89,7 +89,7 @@ fn begin_each<T: Test>(tests: &mut [T], machine: &Machine)
 }
 
 /// Each of the tests sees the machine after a step; true if the step meets one of them.
-fn see_by_each<T: Test>(tests: &mut [T], machine: &Machine) -> bool
+pub fn see_by_each<T: Test>(tests: &mut [T], machine: &Machine) -> bool
     ensures memory { tests.new ≡ map (λ test. T.seen test machine.now) tests.old }
     ensures met { result ≡ list_any (λ test. T.is_met test) tests.new }
 {

@@ -1,6 +1,7 @@
 //! A break at the address of an instruction.
-ghost use Rattle.std.specs.Prelude.{◌≡◌, Bool, false};
+ghost use Rattle.std.specs.Prelude.{◌≡◌, Bool, None, false};
 ghost use Rattle.cpu_1401.specs.State.{State};
+ghost use Rattle.operate_scout.specs.Breaks.{is_met_at, only_after};
 
 use crate::search::Test;
 use cpu_1401::Machine;
@@ -29,16 +30,16 @@ impl Condition for Always {
     }
 }
 
-/// A break before the instruction at an address: it is met by a step to that address, if the condition holds there and
-/// if as many such steps as are to be passed have gone by. The address at which a search begins doesn't count.
+/// A break before the instruction at an address: it is met by a step to that address, if the condition holds there. If
+/// it counts, it is met by one such step alone. The address at which a search begins doesn't count.
 #[derive(Clone, Copy, Debug, PartialEq, Eq)]
 pub struct Break<C: Condition> {
     /// The address of the instruction. If it isn't in core, the break is never met.
     pub address: u16,
     /// What must hold of the machine there.
     pub condition: C,
-    /// How many steps to the address are still to be passed.
-    pub passes: u32,
+    /// Which of the next steps to the address meets it, from 1 on, and no later one does; each of them if there is none.
+    pub only: Option<u32>,
     /// Whether the last step met it.
     pub is_met: bool,
 }
@@ -46,25 +47,46 @@ pub struct Break<C: Condition> {
 impl<C: Condition> Break<C> {
     /// A break that is met each time.
     pub fn new(address: u16, condition: C) -> Break<C>
-        ensures { result ≡ record { address = address; condition = condition; passes = 0; is_met = false } }
+        ensures { result ≡ record { address = address; condition = condition; only = None; is_met = false } }
     {
         Break {
             address,
             condition,
-            passes: 0,
+            only: None,
             is_met: false,
         }
     }
 }
 
+/// Whether a step to the address meets a break.
+fn is_met_at(only: Option<u32>) -> bool
+    ensures { result ≡ is_met_at only }
+{
+    match only {
+        None => true,
+        Some(next) => next == 1,
+    }
+}
+
+/// Which of the steps to the address meets a break after one more.
+fn only_after(only: Option<u32>) -> Option<u32>
+    ensures { result ≡ only_after only }
+{
+    match only {
+        None => None,
+        Some(next) => Some(next.saturating_sub(1)),
+    }
+}
+
 impl<C: Condition> Test for Break<C> {
     ghost use Rattle.std.specs.Prelude.{false};
-    ghost use Rattle.operate_scout.specs.Breaks.{arrives, is_met_after, passes_after};
+    ghost use Rattle.std.specs.Prelude.{◌&&◌, if◌then◌else◌};
+    ghost use Rattle.operate_scout.specs.Breaks.{arrives, is_met_at, only_after};
 
     ghost begun = { λ it s. record it { is_met = false } };
 
     ghost seen = { λ it s. let there = arrives it.address (C.is_so it.condition s) s in
-        record it { passes = passes_after there it.passes; is_met = is_met_after there it.passes } };
+        record it { only = if there then only_after it.only else it.only; is_met = there && is_met_at it.only } };
 
     ghost is_met = { λ it. it.is_met };
 
@@ -74,9 +96,9 @@ impl<C: Condition> Test for Break<C> {
 
     fn see(&mut self, machine: &Machine) -> bool {
         let there = machine.regs().i == self.address && self.condition.is_so(machine);
-        self.is_met = there && self.passes == 0;
-        if there && self.passes > 0 {
-            self.passes -= 1;
+        self.is_met = there && is_met_at(self.only);
+        if there {
+            self.only = only_after(self.only);
         }
         self.is_met
     }

@@ -25,7 +25,7 @@ pub mod place_watch;
 pub mod paired;
 pub mod replayed;
 
-pub use any_of::AnyOf;
+pub use any_of::{AnyOf, begin_each, see_by_each};
 pub use breaks::{Always, Break, Condition};
 pub use device_watch::{Device, DeviceWatch};
 pub use full_devices::{FullDevices, wants_hands};

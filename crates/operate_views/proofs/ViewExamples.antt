@@ -11,7 +11,7 @@ use Rattle.machine_mnemonics.specs.Mnemonic.{columns_of, operations_with_d}
 use Rattle.machine_notation.specs.Characters.{graphics_of, trimmed}
 use Rattle.operate_views.specs.Lines.{cells_line, front_text, instruction_columns, instruction_line, step_front}
 use Rattle.operate_views.specs.Lines.{step_line}
-use Rattle.operate_views.specs.Cards.{cards_text, pile_text}
+use Rattle.operate_views.specs.Cards.{count_text, hopper_text, more_text, pile_text, stacker_text}
 use Rattle.operate_views.specs.Paper.{form_text as form_column, printed_text}
 use Rattle.operate_views.specs.Registers.{addresses_text, answer_text, carriage_text, compared_text, comparison_text}
 use Rattle.operate_views.specs.Registers.{counts_text, devices_text, form_text, index_at, index_text, indicators_text}
@@ -65,9 +65,17 @@ a_printed_line_has_its_form_and_its_line : printed_text (record {
 unfolding graphics cell cells graphics_of trimmed digits form_column printed_text
 a_printed_line_has_its_form_and_its_line = refl
 
-nothing_in_the_hopper : cards_text no_cards ≡ codes "hopper: empty\nstacker: empty\n"
-unfolding cards_text pile_text
+nothing_in_the_hopper : hopper_text 0 [] ≡ codes "hopper: empty\n"
+unfolding hopper_text pile_text
 nothing_in_the_hopper = refl
+
+more_cards_than_are_shown : hopper_text 26 [] ≡ codes "hopper: 26 cards\n  and 26 more\n"
+unfolding hopper_text pile_text count_text more_text digits
+more_cards_than_are_shown = refl
+
+nothing_in_the_stacker : stacker_text no_cards ≡ codes "stacker: empty\n"
+unfolding stacker_text
+nothing_in_the_stacker = refl
 
 a_step_without_a_source : step_line 1 None (cells (codes ",008015"))
     (codes "00008 gets a word mark; 00015 gets a word mark")

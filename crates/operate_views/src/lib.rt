@@ -26,16 +26,18 @@ pub mod registers;
 // core as text
 pub mod ruler;
 
-// a line of the program, in `list` and after a step
+// a line of the program, in `list` and after a step, and in a sentence
 pub mod lines;
+pub mod sentences;
 
-pub use cards::put_cards;
+pub use cards::{put_hopper, put_stacker};
 pub use fault::{FieldFault, ValueFault};
 pub use field_text::{put_change, put_field};
 pub use fields::field_cells;
-pub use lines::{Statement, listed_places, put_listed, put_step};
+pub use lines::{Statement, cells_to_mark, listed_places, put_listed, put_step};
 pub use numbers::{is_number, put_number};
 pub use paper::{put_paper, put_printed};
-pub use registers::{put_place, put_registers, put_switches};
+pub use registers::{put_comparison, put_labelled, put_place, put_registers, put_switches};
 pub use ruler::put_core;
+pub use sentences::{put_instruction_words, put_statement_words};
 pub use values::{cells_with_number, cells_with_text};

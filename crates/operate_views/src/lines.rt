@@ -132,7 +132,7 @@ fn without_last_blanks(text: &[u8]) -> &[u8]
 }
 
 /// An instruction as Autocoder writes it.
-fn written(alloc: Global, cells: &[Cell]) -> Result<Vec<u8>, AllocError>
+pub(crate) fn written(alloc: Global, cells: &[Cell]) -> Result<Vec<u8>, AllocError>
     requires { length cells.now ≤ 8 }
     ensures { IfOk result (λ whole. whole.items ≡ instruction_text cells.now) }
 {
@@ -189,8 +189,12 @@ pub fn put_cells_line(
 }
 
 /// The cells from a place up to the next word mark, at most eight.
+///
+/// # Errors
+///
+/// If there is no room for them.
 #[tactic(auto, using(crate::proofs::LineLemmas::cell_up))]
-fn cells_to_mark(alloc: Global, core: &Core, at: u16) -> Result<Vec<Cell>, AllocError>
+pub fn cells_to_mark(alloc: Global, core: &Core, at: u16) -> Result<Vec<Cell>, AllocError>
     requires { at < length core.now }
     ensures { IfOk result (λ cells. cells.items ≡ cells_to_mark core.now at) }
 {

@@ -49,8 +49,12 @@ pub fn put_place(text: &mut Vec<u8>, at: u16, there: &[u8]) -> Result<(), AllocE
 }
 
 /// Adds an address, and its label if it has one.
+///
+/// # Errors
+///
+/// If the memory for the text is refused. Some of the text may have been added then.
 #[tactic(auto, unfolding(crate::specs::Registers::labelled_text))]
-fn put_labelled(text: &mut Vec<u8>, at: u16, label: &[u8]) -> Result<(), AllocError>
+pub fn put_labelled(text: &mut Vec<u8>, at: u16, label: &[u8]) -> Result<(), AllocError>
     ensures { OnOk result (text.new.items ≡ text.old.items ++ labelled_text at label.now) }
 {
     put_digits(text, PLACE_DIGITS, u64::from(at))?;
@@ -83,8 +87,12 @@ fn put_addresses(
 }
 
 /// Adds what the last compare found.
+///
+/// # Errors
+///
+/// If the memory for the text is refused.
 #[tactic(auto, unfolding(crate::specs::Registers::comparison_text))]
-fn put_comparison(text: &mut Vec<u8>, regs: &Regs) -> Result<(), AllocError>
+pub fn put_comparison(text: &mut Vec<u8>, regs: &Regs) -> Result<(), AllocError>
     ensures { OnOk result (text.new.items ≡ text.old.items ++ comparison_text regs.now) }
 {
     if !regs.unequal {

@@ -45,12 +45,19 @@ fn a_break_at_the_beginning_counts_when_it_is_come_to_again(rt: HostRuntime) {
 }
 
 #[test]
-fn a_break_passes_as_often_as_it_should(rt: HostRuntime) {
+fn a_break_that_counts_is_met_once(rt: HostRuntime) {
     let mut paired = paired_with(&rt, b"~N~B500~N");
     let mut test = Break::new(500, Always);
-    test.passes = 2;
+    test.only = Some(3);
     expect_run(&rt, &mut paired, &mut test, 6, SearchEnd::Met, 500);
-    expect_run(&rt, &mut paired, &mut test, 2, SearchEnd::Met, 500);
+    expect_run(
+        &rt,
+        &mut paired,
+        &mut test,
+        1_000_000,
+        SearchEnd::Limit,
+        500,
+    );
 }
 
 #[test]
