@@ -1,0 +1,92 @@
+//! Fields as they are shown, and conditions that aren't so.
+
+use crate::fault::LookFault;
+use crate::typed::{index_name, put_typed_condition};
+use cpu_1401::Machine;
+use operate_orders::{Base, Condition, MOST_LISTED, Place};
+use operate_program::Program;
+use operate_views::{field_cells, put_field};
+use std::alloc::Global;
+
+/// What a field is called: the label or the index register that names it; empty if it is named otherwise.
+fn name_of(place: &Place) -> &[u8] {
+    if place.adjustments[0].is_some() {
+        return &[];
+    }
+    match &place.base {
+        Base::Label(label) => label.as_slice(),
+        Base::Index(register) => index_name(*register),
+        Base::Number(_) | Base::Line(_) | Base::Held(_) => &[],
+    }
+}
+
+/// Adds the field with its units at a place, without a line feed.
+fn put_named_field(
+    alloc: Global,
+    text: &mut Vec<u8>,
+    program: &Program,
+    machine: &Machine,
+    place: &Place,
+) -> Result<(), LookFault> {
+    let at = match program.address(machine, place) {
+        Ok(at) => at,
+        Err(fault) => return Err(LookFault::Place(fault)),
+    };
+    let cells = field_cells(alloc, machine.core(), at)?;
+    put_field(text, name_of(place), at, cells.as_slice())?;
+    Ok(())
+}
+
+/// Adds the line of a field.
+pub(crate) fn put_field_line(
+    alloc: Global,
+    text: &mut Vec<u8>,
+    program: &Program,
+    machine: &Machine,
+    place: &Place,
+) -> Result<(), LookFault> {
+    match put_named_field(alloc, text, program, machine, place) {
+        Err(fault) => Err(fault),
+        Ok(()) => {
+            text.extend_from_slice(b"\n".as_slice())?;
+            Ok(())
+        }
+    }
+}
+
+/// Adds the lines of fields.
+pub(crate) fn put_field_lines(
+    alloc: Global,
+    text: &mut Vec<u8>,
+    program: &Program,
+    machine: &Machine,
+    places: &[Option<Place>; MOST_LISTED],
+) -> Result<(), LookFault> {
+    for i in 0..MOST_LISTED {
+        if let Some(place) = &places[i] {
+            if let Err(fault) = put_field_line(alloc, text, program, machine, place) {
+                return Err(fault);
+            }
+        }
+    }
+    Ok(())
+}
+
+/// Adds that a condition isn't so, and the field, without a line feed: the fault of an assertion, which follows a
+/// question mark.
+///
+/// # Errors
+///
+/// `Place` or `Field` if there is no such field; `Memory`. Some of the text may have been added then.
+pub fn put_not_so(
+    alloc: Global,
+    text: &mut Vec<u8>,
+    program: &Program,
+    machine: &Machine,
+    condition: &Condition,
+) -> Result<(), LookFault> {
+    text.extend_from_slice(b"not so: ".as_slice())?;
+    put_typed_condition(text, condition)?;
+    text.extend_from_slice(b"; ".as_slice())?;
+    put_named_field(alloc, text, program, machine, &condition.field)
+}

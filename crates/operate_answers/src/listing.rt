@@ -1,0 +1,163 @@
+//! Core storage as instructions, and as text.
+ghost use Rattle.std.specs.Prelude.{◌<◌, ◌≤◌, length};
+
+use crate::fault::LookFault;
+use crate::stops::Stops;
+use core_1401::Core;
+use cpu_1401::Machine;
+use operate_orders::{Place, Range};
+use operate_program::Program;
+use operate_views::{listed_places, put_core, put_listed};
+use std::alloc::{AllocError, Global};
+
+/// How many lines are listed if no range says up to where.
+const LINES: u16 = 10;
+
+/// The byte in front of the line of a place: `>` at the I register, `b` at a break, else a blank.
+fn mark_at(machine: &Machine, stops: &Stops, at: u16) -> u8 {
+    if machine.regs().i == at {
+        b'>'
+    } else if stops.has_break_at(at) {
+        b'b'
+    } else {
+        b' '
+    }
+}
+
+/// Adds the line of a place, and answers how many places it stands for.
+fn put_place(
+    alloc: Global,
+    text: &mut Vec<u8>,
+    program: &Program,
+    core: &Core,
+    mark: u8,
+    at: u16,
+) -> Result<u16, AllocError>
+    requires { at < length core.now }
+{
+    match program.statement_at(alloc, core, at) {
+        Err(fault) => Err(fault),
+        Ok(statement) => {
+            let is_sourced = statement.is_some();
+            put_listed(alloc, text, core, mark, at, statement)?;
+            Ok(listed_places(core, at, is_sourced))
+        }
+    }
+}
+
+/// Adds the lines of the places from one up to another, so many at most.
+fn put_list(
+    alloc: Global,
+    text: &mut Vec<u8>,
+    program: &Program,
+    machine: &Machine,
+    stops: &Stops,
+    first: u16,
+    end: u16,
+    most: u16,
+) -> Result<(), AllocError>
+    requires { end ≤ length machine.now.storage }
+{
+    let core = machine.core();
+    let mut at = first;
+    for _ in 0..most {
+        if at >= end {
+            return Ok(());
+        }
+        let mark = mark_at(machine, stops, at);
+        let places = put_place(alloc, text, program, core, mark, at)?;
+        at = at.saturating_add(places);
+    }
+    Ok(())
+}
+
+/// Adds ten lines from an address on.
+fn put_list_from(
+    alloc: Global,
+    text: &mut Vec<u8>,
+    program: &Program,
+    machine: &Machine,
+    stops: &Stops,
+    first: u16,
+) -> Result<(), AllocError> {
+    let end = machine.core().size();
+    put_list(alloc, text, program, machine, stops, first, end, LINES)
+}
+
+/// Adds ten lines from a place on.
+fn put_list_at(
+    alloc: Global,
+    text: &mut Vec<u8>,
+    program: &Program,
+    machine: &Machine,
+    stops: &Stops,
+    place: &Place,
+) -> Result<(), LookFault> {
+    match program.address(machine, place) {
+        Err(fault) => Err(LookFault::Place(fault)),
+        Ok(first) => {
+            put_list_from(alloc, text, program, machine, stops, first)?;
+            Ok(())
+        }
+    }
+}
+
+/// Adds the lines of a range.
+fn put_list_of(
+    alloc: Global,
+    text: &mut Vec<u8>,
+    program: &Program,
+    machine: &Machine,
+    stops: &Stops,
+    range: &Range,
+) -> Result<(), LookFault> {
+    match program.range(machine, range) {
+        Err(fault) => Err(LookFault::Place(fault)),
+        Ok((first, count)) => {
+            // No core storage has more places than there are addresses.
+            let _ = machine.core().size();
+            let end = first + count;
+            put_list(alloc, text, program, machine, stops, first, end, count)?;
+            Ok(())
+        }
+    }
+}
+
+/// Adds the lines of instructions: ten from I on if no range says from where, ten from a place on, or those of a range.
+pub(crate) fn put_listing(
+    alloc: Global,
+    text: &mut Vec<u8>,
+    program: &Program,
+    machine: &Machine,
+    stops: &Stops,
+    range: &Option<Range>,
+) -> Result<(), LookFault> {
+    match range {
+        None => {
+            let first = machine.regs().i;
+            put_list_from(alloc, text, program, machine, stops, first)?;
+            Ok(())
+        }
+        Some(Range::At(place)) => put_list_at(alloc, text, program, machine, stops, place),
+        Some(range) => put_list_of(alloc, text, program, machine, stops, range),
+    }
+}
+
+/// Adds the places of a range under a ruler.
+pub(crate) fn put_examined(
+    alloc: Global,
+    text: &mut Vec<u8>,
+    program: &Program,
+    machine: &Machine,
+    range: &Range,
+) -> Result<(), LookFault> {
+    match program.range(machine, range) {
+        Err(fault) => Err(LookFault::Place(fault)),
+        Ok((first, count)) => {
+            // No core storage has more places than there are addresses.
+            let _ = machine.core().size();
+            put_core(alloc, text, machine.core(), first, first + count)?;
+            Ok(())
+        }
+    }
+}

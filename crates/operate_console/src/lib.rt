@@ -1,0 +1,46 @@
+//! `ibm1401 operate`: the lines of a person. A line looks, stands for commands of the room, or goes back in its journal;
+//! there is no fourth way to the machine.
+//!
+//! ```text
+//! let ended = operate(
+//!     alloc, sitting, &program, &manner, b"", None, &mut desk, &mut NothingKept, &mut reader, &mut writer,
+//! );
+//! ended.sitting       // its journal has the commands that the lines stood for
+//! ended.end           // OperateEnd::Quit
+//! ```
+#![tactic(auto)]
+
+// what a person types at, and which files they name
+pub mod desk;
+pub mod manner;
+pub mod terminal;
+
+// how it ends
+pub mod ends;
+
+// lines that are typed, and those that wait
+mod listening;
+mod typed;
+mod waiting;
+
+// the answer that is being made, and what else is noted
+mod faults;
+mod notebook;
+mod page;
+
+// lines that act, those that go back, and all others
+mod acting;
+mod carrying;
+mod going_back;
+mod noting;
+mod running;
+
+// a line, and lines one after the other
+mod lines;
+pub mod operating;
+
+pub use desk::{Desk, FileFault};
+pub use ends::{OperateEnd, Operated};
+pub use manner::Manner;
+pub use operating::operate;
+pub use terminal::Terminal;

@@ -1,0 +1,132 @@
+//! What a line does.
+ghost use Rattle.std.specs.Prelude.{◌≡◌, false, None, IfOk};
+ghost use Rattle.operate_console.specs.Line.{ActOfLine, LineDid, OrderDid};
+
+use crate::acting::do_act;
+use crate::desk::Desk;
+use crate::ends::OperateEnd;
+use crate::faults::put_no_order;
+use crate::going_back::{After, do_past};
+use crate::manner::Manner;
+use crate::notebook::Notebook;
+use crate::noting::{do_look, do_note};
+use crate::terminal::Terminal;
+use bytes_streams::{Sink, Source};
+use operate_orders::{Act, Order, OrderFault};
+use operate_program::Program;
+use operate_sitting::{Cutter, Sitting};
+use room_alone::Keeper;
+use std::alloc::{AllocError, Global};
+
+/// The sitting after a line that records nothing.
+fn same<K: Keeper + Drop>(sitting: Sitting<K>, done: Result<(), AllocError>) -> After<K>
+    ensures { result.0 ≡ sitting }
+{
+    match done {
+        Ok(()) => (sitting, None),
+        Err(_) => (sitting, Some(OperateEnd::Memory)),
+    }
+}
+
+/// A line that acts.
+fn act<K: Keeper + Drop, D: Desk, R: Source + Terminal, W: Sink>(
+    alloc: Global,
+    program: &Program,
+    manner: &Manner,
+    notebook: &mut Notebook,
+    sitting: Sitting<K>,
+    act: &Act,
+    desk: &mut D,
+    reader: &mut R,
+    writer: &mut W,
+) -> After<K>
+    requires { R.has_failed reader.old ≡ false }
+    ensures did { ActOfLine program.now act.now sitting result.0 }
+    ensures good { result.1 ≡ None → R.has_failed reader.new ≡ false }
+{
+    let mut sitting = sitting;
+    let done = do_act(
+        alloc,
+        program,
+        manner,
+        notebook,
+        &mut sitting,
+        act,
+        desk,
+        reader,
+        writer,
+    );
+    match done {
+        Ok(()) => (sitting, None),
+        Err(end) => (sitting, Some(end)),
+    }
+}
+
+/// Does what a line orders.
+#[tactic(auto, using(crate::proofs::LineLemmas::same))]
+fn do_order<K: Keeper + Drop, C: Cutter<K>, D: Desk, R: Source + Terminal, W: Sink>(
+    alloc: Global,
+    program: &Program,
+    manner: &Manner,
+    notebook: &mut Notebook,
+    sitting: Sitting<K>,
+    order: &Order,
+    desk: &mut D,
+    cutter: &mut C,
+    reader: &mut R,
+    writer: &mut W,
+) -> Result<After<K>, OperateEnd>
+    requires { R.has_failed reader.old ≡ false }
+    ensures did { IfOk result (λ after. OrderDid program.now order.now sitting after.0) }
+    ensures good { IfOk result (λ after. after.1 ≡ None → R.has_failed reader.new ≡ false) }
+{
+    match order {
+        Order::Nothing => Ok((sitting, None)),
+        Order::Look(look) => {
+            let done = do_look(alloc, program, notebook, sitting.room(), look);
+            Ok(same(sitting, done))
+        }
+        Order::Note(note) => {
+            let done = do_note(alloc, program, notebook, sitting.room(), note, desk);
+            Ok(same(sitting, done))
+        }
+        Order::Act(order) => Ok(act(
+            alloc, program, manner, notebook, sitting, order, desk, reader, writer,
+        )),
+        Order::Past(past) => do_past(alloc, program, notebook, sitting, past, desk, cutter),
+        Order::Quit => Ok((sitting, Some(OperateEnd::Quit))),
+    }
+}
+
+/// Does a line: what it orders, or its fault.
+///
+/// # Errors
+///
+/// `Unkept` if what keeps the journal couldn't be cut. The sitting is lost then.
+#[tactic(auto, using(crate::proofs::LineLemmas::same))]
+pub(crate) fn do_line<K: Keeper + Drop, C: Cutter<K>, D: Desk, R: Source + Terminal, W: Sink>(
+    alloc: Global,
+    program: &Program,
+    manner: &Manner,
+    notebook: &mut Notebook,
+    sitting: Sitting<K>,
+    said: &Result<Order, OrderFault>,
+    desk: &mut D,
+    cutter: &mut C,
+    reader: &mut R,
+    writer: &mut W,
+) -> Result<After<K>, OperateEnd>
+    requires { R.has_failed reader.old ≡ false }
+    ensures did { IfOk result (λ after. LineDid program.now said.now sitting after.0) }
+    ensures good { IfOk result (λ after. after.1 ≡ None → R.has_failed reader.new ≡ false) }
+{
+    match said {
+        Ok(order) => do_order(
+            alloc, program, manner, notebook, sitting, order, desk, cutter, reader, writer,
+        ),
+        Err(fault) => {
+            let done = put_no_order(notebook, fault);
+            Ok(same(sitting, done))
+        }
+    }
+}

@@ -1,0 +1,55 @@
+//! A person who types while the machine runs.
+ghost use Rattle.std.specs.Prelude.{◌≡◌, false, OnOk};
+
+use crate::ends::OperateEnd;
+use crate::manner::Manner;
+use crate::terminal::Terminal;
+use crate::typed::{Typed, read_line};
+use crate::waiting::Waiting;
+use bytes_streams::Source;
+use std::alloc::{AllocError, Global};
+
+/// Whether a line was typed that interrupts a run: it is empty, or Ctrl-C ended it. Any other waits for its turn.
+/// At the end of the input a run is interrupted too. Nothing is read where nobody is at a terminal.
+///
+/// # Errors
+///
+/// As those of `read_line`, and `Memory` if there is none for the line that waits.
+pub(crate) fn is_interrupted<R: Source + Terminal>(
+    alloc: Global,
+    manner: &Manner,
+    reader: &mut R,
+    waiting: &mut Waiting,
+) -> Result<bool, OperateEnd>
+    requires { R.has_failed reader.old ≡ false }
+    ensures good { OnOk result (R.has_failed reader.new ≡ false) }
+{
+    if manner.limit.is_some() || !reader.is_ready() {
+        return Ok(false);
+    }
+    match read_line(alloc, reader) {
+        Ok(typed) => match interrupts(typed, waiting) {
+            Ok(is_so) => Ok(is_so),
+            Err(_) => Err(OperateEnd::Memory),
+        },
+        Err(end) => Err(end),
+    }
+}
+
+/// Whether what was typed interrupts a run. If not, it waits.
+fn interrupts(typed: Typed, waiting: &mut Waiting) -> Result<bool, AllocError> {
+    match typed {
+        Typed::Dropped => Ok(true),
+        Typed::Line(line) => {
+            if line.is_empty() {
+                return Ok(true);
+            }
+            waiting.push_typed(line.as_slice())?;
+            Ok(false)
+        }
+        Typed::Last(line) => {
+            waiting.end_input(line.as_slice())?;
+            Ok(true)
+        }
+    }
+}

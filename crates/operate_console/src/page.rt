@@ -1,0 +1,137 @@
+//! The text of an answer, and its colours.
+
+use crate::desk::Desk;
+use crate::ends::OperateEnd;
+use crate::manner::Manner;
+use crate::waiting::line_len;
+use bytes_streams::{Sink, put_all};
+use std::alloc::{AllocError, Global};
+
+/// What a terminal is sent before red and bold text, and after it.
+const RED: &[u8] = b"\x1b[31m";
+
+const BOLD: &[u8] = b"\x1b[1m";
+
+const PLAIN: &[u8] = b"\x1b[0m";
+
+/// In which way a part of an answer is written.
+#[derive(Clone, Copy, Debug, PartialEq, Eq)]
+pub(crate) enum Paint {
+    /// As the line of a stop is.
+    Bold,
+    /// As a fault is.
+    Red,
+}
+
+/// What a line is answered: its text. One part of it may be in colour.
+#[derive(Drop)]
+pub(crate) struct Page {
+    /// The text so far.
+    pub(crate) text: Vec<u8>,
+    from: usize,
+    to: usize,
+    paint: Paint,
+}
+
+impl Page {
+    /// A page without a text.
+    pub(crate) fn new(alloc: Global) -> Page {
+        Page {
+            text: Vec::new(alloc),
+            from: 0,
+            to: 0,
+            paint: Paint::Bold,
+        }
+    }
+
+    /// How much text there is by now.
+    pub(crate) fn here(&self) -> usize {
+        self.text.len()
+    }
+
+    /// Adds a text.
+    pub(crate) fn put(&mut self, text: &[u8]) -> Result<(), AllocError> {
+        self.text.extend_from_slice(text)
+    }
+
+    /// The text from a place on is dropped.
+    pub(crate) fn cut(&mut self, from: usize) {
+        self.text.truncate(from);
+    }
+
+    /// The text from a place on is in colour.
+    pub(crate) fn paint_from(&mut self, from: usize, paint: Paint) {
+        self.from = from;
+        self.to = self.text.len();
+        self.paint = paint;
+    }
+
+    /// The line from a place on is bold, if there is one after it.
+    pub(crate) fn paint_line(&mut self, from: usize) {
+        let text = self.text.as_slice();
+        if from > text.len() {
+            return;
+        }
+        let line = line_len(&text[from..]);
+        if from + line + 1 >= text.len() {
+            return;
+        }
+        self.from = from;
+        self.to = from + line;
+        self.paint = Paint::Bold;
+    }
+
+    /// What is sent to a terminal that has colours.
+    fn painted(&self, alloc: Global) -> Result<Vec<u8>, AllocError> {
+        let mut all = Vec::new(alloc);
+        let text = self.text.as_slice();
+        if self.from >= self.to || self.to > text.len() {
+            all.extend_from_slice(text)?;
+            return Ok(all);
+        }
+        let (front, beyond) = text.split_at(self.to);
+        let (front, coloured) = front.split_at(self.from);
+        all.extend_from_slice(front)?;
+        match self.paint {
+            Paint::Bold => all.extend_from_slice(BOLD)?,
+            Paint::Red => all.extend_from_slice(RED)?,
+        }
+        all.extend_from_slice(coloured)?;
+        all.extend_from_slice(PLAIN)?;
+        all.extend_from_slice(beyond)?;
+        Ok(all)
+    }
+
+    /// Writes the page, all at once, and to the transcript. Then it has no text.
+    ///
+    /// # Errors
+    ///
+    /// `Write` if the write fails, `Memory` if the memory for the colours is refused.
+    pub(crate) fn show<D: Desk, W: Sink>(
+        &mut self,
+        alloc: Global,
+        manner: &Manner,
+        desk: &mut D,
+        writer: &mut W,
+    ) -> Result<(), OperateEnd> {
+        if self.text.is_empty() {
+            return Ok(());
+        }
+        desk.transcribe(self.text.as_slice());
+        let written = if manner.colour {
+            match self.painted(alloc) {
+                Ok(painted) => put_all(writer, painted.as_slice()),
+                Err(_) => return Err(OperateEnd::Memory),
+            }
+        } else {
+            put_all(writer, self.text.as_slice())
+        };
+        self.text.clear();
+        self.from = 0;
+        self.to = 0;
+        match written {
+            Ok(()) => Ok(()),
+            Err(_) => Err(OperateEnd::Write),
+        }
+    }
+}

@@ -1,0 +1,134 @@
+//! Lines that wait for their turn: those of files, and those typed ahead.
+ghost use Rattle.std.specs.Prelude.{◌≤◌, length};
+
+use std::alloc::{AllocError, Global};
+
+/// How deep `do` goes.
+const DEEPEST: usize = 10;
+
+/// Lines, each but perhaps the last with a line feed, and how many bytes of them were taken.
+#[derive(Drop)]
+struct Lines {
+    text: Vec<u8>,
+    taken: usize,
+}
+
+/// How many bytes the first line of a text has.
+pub(crate) fn line_len(text: &[u8]) -> usize
+    ensures { result ≤ length text.now }
+{
+    text.iter().take_while(|byte| **byte != b'\n').count()
+}
+
+/// A line without one carriage return at its end.
+fn without_carriage_return(line: &[u8]) -> &[u8] {
+    match line.split_last() {
+        Some((b'\r', front)) => front,
+        _ => line,
+    }
+}
+
+impl Lines {
+    /// These lines.
+    fn of_text(text: Vec<u8>) -> Lines {
+        Lines { text, taken: 0 }
+    }
+
+    /// Takes the first line, if there is one.
+    fn take(&mut self, alloc: Global) -> Result<Option<Vec<u8>>, AllocError> {
+        if self.taken >= self.text.len() {
+            return Ok(None);
+        }
+        let rest = &self.text[self.taken..];
+        let len = line_len(rest);
+        let line = Vec::from_slice(alloc, without_carriage_return(&rest[..len]))?;
+        self.taken += len + 1;
+        Ok(Some(line))
+    }
+
+    /// Adds a line at the end.
+    fn push(&mut self, line: &[u8]) -> Result<(), AllocError> {
+        self.text.extend_from_slice(line)?;
+        Ok(self.text.push(b'\n')?)
+    }
+}
+
+/// Lines that wait: those of files, the file that was begun last first, and then those that were typed ahead.
+#[derive(Drop)]
+pub(crate) struct Waiting {
+    scripts: Vec<Lines>,
+    typed: Lines,
+    has_ended: bool,
+}
+
+impl Waiting {
+    /// None.
+    pub(crate) fn new(alloc: Global) -> Waiting {
+        Waiting {
+            scripts: Vec::new(alloc),
+            typed: Lines::of_text(Vec::new(alloc)),
+            has_ended: false,
+        }
+    }
+
+    /// Whether `do` may begin another file.
+    pub(crate) fn may_begin(&self) -> bool {
+        self.scripts.len() < DEEPEST
+    }
+
+    /// The lines of a file come next.
+    pub(crate) fn begin(&mut self, text: Vec<u8>) -> Result<(), AllocError> {
+        Ok(self.scripts.push(Lines::of_text(text))?)
+    }
+
+    /// A line that was typed ahead waits.
+    pub(crate) fn push_typed(&mut self, line: &[u8]) -> Result<(), AllocError> {
+        self.typed.push(line)
+    }
+
+    /// The input has ended, after these bytes, which are a line if there are any.
+    pub(crate) fn end_input(&mut self, last: &[u8]) -> Result<(), AllocError> {
+        self.has_ended = true;
+        if last.is_empty() {
+            return Ok(());
+        }
+        self.typed.push(last)
+    }
+
+    /// Whether the input has ended.
+    pub(crate) fn has_ended(&self) -> bool {
+        self.has_ended
+    }
+
+    /// No line of a file is done any more, after a fault.
+    pub(crate) fn end_files(&mut self) {
+        self.scripts.clear();
+    }
+
+    /// Takes the next line of the files, if there is one.
+    ///
+    /// # Errors
+    ///
+    /// If there is no memory for it.
+    pub(crate) fn take_of_files(&mut self, alloc: Global) -> Result<Option<Vec<u8>>, AllocError> {
+        for _file in 0..self.scripts.len() {
+            let Some(mut script) = self.scripts.pop() else {
+                return Ok(None);
+            };
+            if let Some(line) = script.take(alloc)? {
+                self.scripts.push(script)?;
+                return Ok(Some(line));
+            }
+        }
+        Ok(None)
+    }
+
+    /// Takes the next line that was typed ahead, if there is one.
+    ///
+    /// # Errors
+    ///
+    /// If there is no memory for it.
+    pub(crate) fn take_typed(&mut self, alloc: Global) -> Result<Option<Vec<u8>>, AllocError> {
+        self.typed.take(alloc)
+    }
+}

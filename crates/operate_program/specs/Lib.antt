@@ -1,0 +1,7 @@
+pub mod Act
+pub mod Comparison
+pub mod Known
+pub mod Range
+pub mod Source
+pub mod Statement
+pub mod Value

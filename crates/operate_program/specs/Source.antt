@@ -1,0 +1,57 @@
+-- The lines of the source, and which of them made the cells at a place (own).
+use Rattle.std.specs.Prelude.{◌≡◌, ℕ, ◌+◌, ◌-◌, ◌==◌, Bool, false, not, ◌&&◌, ◌||◌, if◌then◌else◌, List, [], ◌∷◌, length}
+use Rattle.std.specs.Prelude.{take, drop, Option, None, Some}
+use Rattle.autocoder_listing.specs.Rows.{line_of}
+use Rattle.autocoder_listing.specs.declared.rows.Row.{Row}
+use Rattle.autocoder_statements.specs.Nearness.{word_in}
+use Rattle.autocoder_statements.specs.Punctuation.{at_sign, blank}
+use Rattle.autocoder_statements.specs.SourceLine.{lines_of}
+use Rattle.core_1401.specs.Storage.{Storage, cell_at, is_in_core}
+use Rattle.operate_views.specs.Lines.{cells_to_mark}
+use Rattle.operate_views.specs.declared.lines.Statement.{Statement}
+
+-- a place holds a word mark, or a character that is no blank
+unfoldable pub has_cell : Storage → ℕ → Bool
+has_cell storage at =
+    is_in_core storage at && ((cell_at storage at).mark || not ((cell_at storage at).char == 0))
+
+-- the number of the last line whose row shows at a place the characters that are there now, up to the next word mark,
+-- eight at most; none for a blank without a word mark, which the rows of EQU and ORG show too
+abbrev pub line_at : List Row → Storage → ℕ → Option ℕ
+line_at rows storage at = if has_cell storage at then line_of rows at (cells_to_mark storage at) else None
+
+abbrev first_line : List (List ℕ) → List ℕ
+first_line [] = []
+first_line (line ∷ lines) = line
+
+-- the line of a number, counted from 1; empty if there is none
+unfoldable pub line_numbered : List ℕ → ℕ → List ℕ
+line_numbered source number = if number == 0 then [] else first_line (drop (number - 1) (lines_of source))
+
+-- columns of a line, counted from 1
+unfoldable pub columns : ℕ → ℕ → List ℕ → List ℕ
+columns first last line = take (last - (first - 1)) (drop (first - 1) line)
+
+-- how many bytes there are up to the first blank that no two at signs enclose
+abbrev pub operands_len : Bool → List ℕ → ℕ
+operands_len is_quoted [] = 0
+operands_len is_quoted (byte ∷ bytes) =
+    if not is_quoted && (byte == blank) then 0
+    else 1 + operands_len (if byte == at_sign then not is_quoted else is_quoted) bytes
+
+-- the operands of a line, without the remark after them
+unfoldable pub operands_in : List ℕ → List ℕ
+operands_in line = take (operands_len false (columns 21 72 line)) (columns 21 72 line)
+
+-- a label begins in column 6, an operation in column 16
+abbrev pub label_in : List ℕ → List ℕ
+label_in line = word_in (columns 6 15 line)
+
+abbrev pub operation_in : List ℕ → List ℕ
+operation_in line = word_in (columns 16 20 line)
+
+-- the fields of a line
+pub record IsStatementOf (line : List ℕ) (statement : Statement) : Type 0 where
+  pub label_is : statement.label.now ≡ label_in line
+  pub operation_is : statement.operation.now ≡ operation_in line
+  pub operands_are : statement.operands.now ≡ operands_in line

@@ -1,0 +1,161 @@
+//! The commands that acts stand for.
+ghost use Rattle.std.specs.Prelude.{◌≡◌, ◌+◌, ◌<◌, ◌≤◌, ◌∷◌, [], length, IfOk};
+ghost use Rattle.core_1401.specs.Storage.{cell_at};
+ghost use Rattle.operate_program.specs.Act.{Gives, cells_commands, commands_of, deposit_commands, if_place, mark_commands};
+ghost use Rattle.operate_program.specs.Act.{feed_commands, start_commands, value_commands};
+ghost use Rattle.operate_program.specs.Value.{address_of};
+
+use crate::commands::{card, held, one};
+use crate::fault::ActFault;
+use crate::fields::set_commands;
+use crate::program::Program;
+use crate::ranges::places_in_core;
+use crate::statements::statement_commands;
+use bcd_1401::Cell;
+use core_1401::{Cells, Core};
+use cpu_1401::Machine;
+use machine_commands::Command;
+use operate_orders::{Act, Deposited, Place, Text, Value};
+use std::alloc::Global;
+
+/// The address that a place means.
+fn address(program: &Program, machine: &Machine, place: &Place) -> Result<u16, ActFault>
+    ensures value { result ≡ if_place (address_of program.now machine.now place.now) }
+    ensures inside { IfOk result (λ at. at < length machine.now.storage) }
+{
+    match program.address(machine, place) {
+        Ok(at) => Ok(at),
+        Err(fault) => Err(ActFault::Place(fault)),
+    }
+}
+
+/// The command that deposits cells, if all of their places are in core.
+#[tactic(auto, unfolding(crate::specs::Act::cells_commands))]
+fn cells_commands(
+    alloc: Global,
+    core: &Core,
+    at: u16,
+    cells: Cells,
+) -> Result<Vec<Command>, ActFault>
+    ensures { Gives (λ commands. commands.items) result (cells_commands core.now at cells) }
+{
+    match places_in_core(core, at, cells.as_slice().len() as u32) {
+        Ok(_) => Ok(one(alloc, &Command::Deposit { address: at, cells })?),
+        Err(fault) => Err(ActFault::Place(fault)),
+    }
+}
+
+/// The commands of a deposit.
+#[tactic(auto, unfolding(crate::specs::Act::deposit_commands))]
+fn deposit_commands(
+    alloc: Global,
+    program: &Program,
+    machine: &Machine,
+    place: &Place,
+    what: &Deposited,
+) -> Result<Vec<Command>, ActFault>
+    ensures { Gives (λ commands. commands.items) result
+        (deposit_commands program.now machine.now place.now what.now) }
+{
+    let at = address(program, machine, place)?;
+    let core = machine.core();
+    match what {
+        Deposited::Cells(cells) => cells_commands(alloc, core, at, *cells),
+        Deposited::Statement(statement) => {
+            statement_commands(alloc, program, core.size(), at, statement)
+        }
+    }
+}
+
+/// The command that sets or clears a word mark: the character of the place stays.
+#[tactic(auto, unfolding(crate::specs::Act::mark_commands))]
+fn mark_commands(
+    alloc: Global,
+    program: &Program,
+    machine: &Machine,
+    place: &Place,
+    mark: bool,
+) -> Result<Vec<Command>, ActFault>
+    ensures { Gives (λ commands. commands.items) result (mark_commands program.now machine.now place.now mark) }
+{
+    let at = address(program, machine, place)?;
+    let cell = Cell {
+        char: machine.core().get(at).char,
+        mark,
+    };
+    let cells = held([cell].as_slice());
+    Ok(one(alloc, &Command::Deposit { address: at, cells })?)
+}
+
+/// The command that sets the I register.
+#[tactic(auto, unfolding(crate::specs::Act::start_commands))]
+fn start_commands(
+    alloc: Global,
+    program: &Program,
+    machine: &Machine,
+    place: &Place,
+) -> Result<Vec<Command>, ActFault>
+    ensures { Gives (λ commands. commands.items) result (start_commands program.now machine.now place.now) }
+{
+    let address = address(program, machine, place)?;
+    Ok(one(alloc, &Command::SetI { address })?)
+}
+
+/// The command that feeds a card.
+#[tactic(auto, unfolding(crate::specs::Act::feed_commands))]
+fn feed_commands(alloc: Global, text: &Text) -> Result<Vec<Command>, ActFault>
+    ensures { Gives (λ commands. commands.items) result (feed_commands text.now) }
+{
+    let card = card(text.as_slice())?;
+    Ok(one(alloc, &Command::Feed { card })?)
+}
+
+/// The commands that put a value into a field.
+#[tactic(auto, unfolding(crate::specs::Act::value_commands))]
+fn value_commands(
+    alloc: Global,
+    program: &Program,
+    machine: &Machine,
+    field: &Place,
+    value: &Value,
+) -> Result<Vec<Command>, ActFault>
+    ensures { Gives (λ commands. commands.items) result (value_commands program.now machine.now field.now value.now) }
+{
+    let at = address(program, machine, field)?;
+    set_commands(alloc, machine.core(), at, value)
+}
+
+/// The commands that an act stands for, at this machine; none is carried out here. A run stands for none of its own:
+/// where it ends shows only when it runs. Neither does a deck, whose cards are those of a file. `go` stands for its
+/// start.
+///
+/// # Errors
+///
+/// `Place`, `Field` or `Value` if something isn't there or doesn't fit; `Literal`, `NoCells` or `Statement` of a
+/// statement; `Memory`. Other text than `parse_order` takes is `NoValue` or `Card`.
+pub fn commands_of(
+    alloc: Global,
+    program: &Program,
+    machine: &Machine,
+    act: &Act,
+) -> Result<Vec<Command>, ActFault>
+    ensures { Gives (λ commands. commands.items) result (commands_of program.now machine.now act.now) }
+{
+    match act {
+        Act::Deposit { place, what } => deposit_commands(alloc, program, machine, place, what),
+        Act::Set { field, value } => value_commands(alloc, program, machine, field, value),
+        Act::Mark(place) => mark_commands(alloc, program, machine, place, true),
+        Act::Unmark(place) => mark_commands(alloc, program, machine, place, false),
+        Act::Start(place) | Act::Go(place) => start_commands(alloc, program, machine, place),
+        Act::Switch { switch, on } => Ok(one(
+            alloc,
+            &Command::Switch {
+                n: *switch,
+                on: *on,
+            },
+        )?),
+        Act::Feed(text) => feed_commands(alloc, text),
+        Act::Load => Ok(one(alloc, &Command::LoadKey)?),
+        Act::Deck(_) | Act::Step(_) | Act::Continue(_) | Act::Until(_) => Ok(Vec::new(alloc)),
+    }
+}

@@ -1,0 +1,310 @@
+//! Conditions on fields.
+ghost use Rattle.std.specs.Prelude.{◌≡◌, ◌+◌, ◌-◌, ◌<◌, ◌≤◌, true, length, map, reverse, take, slice_index_or, ◌==◌, ◌&&◌};
+ghost use Rattle.std.specs.List.{list_all};
+ghost use Rattle.std.specs.Ordering.{is_eq, nat_cmp};
+ghost use Rattle.bcd_1401.specs.Character.{digit_of, zone_of};
+ghost use Rattle.bcd_1401.specs.Digits.{is_digit, value_of};
+ghost use Rattle.core_1401.specs.Field.{cells_down};
+ghost use Rattle.core_1401.specs.Storage.{blank, cell_at};
+ghost use Rattle.fields_1401.specs.Number.{magnitude_of, places_down, sign_of};
+ghost use Rattle.operate_program.specs.Comparison.{by_signs, compared_at, condition_of, holds, is_so, is_so_number, is_so_text};
+ghost use Rattle.operate_program.specs.Comparison.{number_order, order_of_byte, orders_of, orders_of_text, text_order};
+ghost use Rattle.operate_program.specs.Comparison.{sign_meant, unless_zero};
+
+use crate::fault::PlaceFault;
+use crate::program::Program;
+use bcd_1401::Char;
+use core_1401::Core;
+use cpu_1401::Machine;
+use operate_orders::{Condition, Relation, Value};
+use std::cmp::Ordering;
+
+/// The zone over the units of a number below zero: B alone.
+const MINUS_ZONE: u8 = 2;
+
+/// A condition on a field: it holds if a field ends at the place, and compares so with the value. A number is compared
+/// with the number that the machine takes the field for; a text with its characters from the left, in the collating
+/// order, the shorter of both with blanks after it.
+#[derive(Clone, Copy, Debug, PartialEq, Eq)]
+pub struct Comparison {
+    /// The place of the field's units.
+    pub at: u16,
+    /// How it is compared.
+    pub relation: Relation,
+    /// With what.
+    pub value: Value,
+}
+
+impl Program {
+    /// A condition at this program: where its field is now.
+    ///
+    /// # Errors
+    ///
+    /// As `address`.
+    #[tactic(auto, unfolding(crate::specs::Comparison::condition_of))]
+    pub fn comparison(
+        &self,
+        machine: &Machine,
+        condition: &Condition,
+    ) -> Result<Comparison, PlaceFault>
+        ensures { result ≡ condition_of self.now machine.now condition.now }
+    {
+        let at = self.address(machine, &condition.field)?;
+        Ok(Comparison {
+            at,
+            relation: condition.relation,
+            value: condition.value,
+        })
+    }
+}
+
+/// Whether two values that compare so are in a relation.
+fn holds(relation: Relation, order: Ordering) -> bool
+    ensures { result ≡ holds relation order }
+{
+    match relation {
+        Relation::Equal => order.is_eq(),
+        Relation::Unequal => order.is_ne(),
+        Relation::Less => order.is_lt(),
+        Relation::Greater => order.is_gt(),
+        Relation::AtMost => order.is_le(),
+        Relation::AtLeast => order.is_ge(),
+    }
+}
+
+/// The digit of a field of this many places, at a place counted from the units; 0 beyond its high place.
+#[tactic(auto, using(crate::proofs::ComparisonLemmas::field_places))]
+fn digit_of_field(core: &Core, at: u16, len: u16, place: usize) -> u8
+    requires at { at < length core.now }
+    requires len { len ≤ at + 1 }
+    ensures value { result ≡ digit_of (slice_index_or (places_down core.now at len) place blank).char }
+    ensures range { result ≤ 9 }
+{
+    if place < usize::from(len) {
+        core.get(at - place as u16).char.digit_value()
+    } else {
+        0
+    }
+}
+
+/// The digit of a number, at a place counted from the units; 0 beyond its first digit.
+#[tactic(auto, using(operate_views::proofs::ValueLemmas::digit_read))]
+fn digit_of_number(digits: &[u8], place: usize) -> u8
+    requires { list_all is_digit digits.now ≡ true }
+    ensures value { result ≡ slice_index_or (reverse digits.now) place 48 - 48 }
+    ensures range { result ≤ 9 }
+{
+    if place < digits.len() {
+        digits[digits.len() - 1 - place] - b'0'
+    } else {
+        0
+    }
+}
+
+/// How the magnitude of a field compares with a number, by their digits from the highest down.
+#[tactic(auto, using(crate::proofs::ComparisonLemmas::then_digits, crate::proofs::ComparisonLemmas::magnitude_more, crate::proofs::ComparisonLemmas::value_more))]
+fn magnitude_order(core: &Core, at: u16, len: u16, digits: &[u8]) -> Ordering
+    requires at { at < length core.now }
+    requires len { len ≤ at + 1 }
+    requires digits { list_all is_digit digits.now ≡ true }
+    ensures { result ≡ nat_cmp (magnitude_of (places_down core.now at len)) (value_of digits.now) }
+{
+    let mut order = Ordering::Equal;
+    let mut left = usize::from(len).max(digits.len());
+    while left > 0 {
+        left -= 1;
+        let of_field = digit_of_field(core, at, len, left);
+        let of_number = digit_of_number(digits, left);
+        order = order.then(of_field.cmp(&of_number));
+    }
+    order
+}
+
+/// Whether each byte is a zero.
+fn all_zeros(digits: &[u8]) -> bool
+    ensures { result ≡ list_all (λ digit. digit == 48) digits.now }
+{
+    digits.iter().all(|digit| *digit == b'0')
+}
+
+/// Whether digits write zero.
+#[tactic(auto, using(crate::proofs::ComparisonLemmas::zeros_are_zero))]
+fn are_zeros(digits: &[u8]) -> bool
+    requires { list_all is_digit digits.now ≡ true }
+    ensures { result ≡ (value_of digits.now == 0) }
+{
+    all_zeros(digits)
+}
+
+/// An order, but for two zeros.
+fn unless_zero(is_zero: bool, order: Ordering) -> Ordering
+    ensures { result ≡ unless_zero is_zero order }
+{
+    if is_zero { Ordering::Equal } else { order }
+}
+
+/// How two numbers compare whose magnitudes compare so, by which of them is below zero, and whether both are zero.
+fn by_signs(is_minus: bool, minus: bool, order: Ordering, is_zero: bool) -> Ordering
+    ensures { result ≡ by_signs is_minus minus order is_zero }
+{
+    match (is_minus, minus) {
+        (false, false) => order,
+        (true, true) => order.reverse(),
+        (false, true) => unless_zero(is_zero, Ordering::Greater),
+        (true, false) => unless_zero(is_zero, Ordering::Less),
+    }
+}
+
+/// Whether two magnitudes that compare so are zero, the second written by these digits.
+fn are_both_zero(order: Ordering, digits: &[u8]) -> bool
+    requires { list_all is_digit digits.now ≡ true }
+    ensures { result ≡ (is_eq order && (value_of digits.now == 0)) }
+{
+    order.is_eq() && are_zeros(digits)
+}
+
+/// Whether the zone of a place is that of a number below zero.
+fn is_minus_at(core: &Core, at: u16) -> bool
+    requires { at < length core.now }
+    ensures { result ≡ (zone_of (cell_at core.now at).char == 2) }
+{
+    core.get(at).char.zone() == MINUS_ZONE
+}
+
+/// How the number of a field compares with another.
+#[tactic(auto, using(crate::proofs::ComparisonLemmas::signed_at))]
+fn number_order(core: &Core, at: u16, len: u16, minus: bool, digits: &[u8]) -> Ordering
+    requires at { at < length core.now }
+    requires some { 0 < len }
+    requires len { len ≤ at + 1 }
+    requires digits { list_all is_digit digits.now ≡ true }
+    ensures { result ≡ number_order (sign_of (places_down core.now at len)) (magnitude_of (places_down core.now at len))
+        (sign_meant minus) (value_of digits.now) }
+{
+    let order = magnitude_order(core, at, len, digits);
+    let is_zero = are_both_zero(order, digits);
+    by_signs(is_minus_at(core, at), minus, order, is_zero)
+}
+
+/// The place in the collating order of the character with a graphic; that of the blank if it is none.
+fn order_of_byte(byte: u8) -> u8
+    ensures { result ≡ order_of_byte byte }
+{
+    Char::from_graphic(byte).unwrap_or(Char::BLANK).order()
+}
+
+/// The place in the collating order of a field's character, counted from the left; that of the blank after its end.
+#[tactic(auto, using(crate::proofs::ComparisonLemmas::field_orders))]
+fn order_of_field(core: &Core, at: u16, len: u16, place: usize) -> u8
+    requires at { at < length core.now }
+    requires len { len ≤ at + 1 }
+    ensures { result ≡ slice_index_or (orders_of (places_down core.now at len)) place 0 }
+{
+    if place < usize::from(len) {
+        core.get(at - (len - 1 - place as u16)).char.order()
+    } else {
+        0
+    }
+}
+
+/// The same of a text.
+#[tactic(auto, using(crate::proofs::ComparisonLemmas::text_orders))]
+fn order_of_text(text: &[u8], place: usize) -> u8
+    ensures { result ≡ slice_index_or (orders_of_text text.now) place 0 }
+{
+    if place < text.len() {
+        order_of_byte(text[place])
+    } else {
+        0
+    }
+}
+
+/// How the characters of a field compare with a text, from the left.
+#[tactic(auto, using(crate::proofs::ComparisonLemmas::text_more, crate::proofs::ComparisonLemmas::then_assoc))]
+fn field_order(core: &Core, at: u16, len: u16, text: &[u8]) -> Ordering
+    requires at { at < length core.now }
+    requires len { len ≤ at + 1 }
+    ensures { result ≡ text_order (orders_of (places_down core.now at len)) (orders_of_text text.now) }
+{
+    let mut order = Ordering::Equal;
+    for place in 0..usize::from(len).max(text.len()) {
+        let of_field = order_of_field(core, at, len, place);
+        order = order.then(of_field.cmp(&order_of_text(text, place)));
+    }
+    order
+}
+
+/// Whether the number of a field is in a relation to another.
+fn is_so_number(
+    core: &Core,
+    at: u16,
+    len: u16,
+    relation: Relation,
+    minus: bool,
+    digits: &[u8],
+) -> bool
+    requires at { at < length core.now }
+    requires some { 0 < len }
+    requires len { len ≤ at + 1 }
+    ensures { result ≡ is_so_number relation minus digits.now (places_down core.now at len) }
+{
+    if !are_digits(digits) {
+        return false;
+    }
+    holds(relation, number_order(core, at, len, minus, digits))
+}
+
+/// Whether each byte is a digit.
+pub(crate) fn are_digits(digits: &[u8]) -> bool
+    ensures { result ≡ list_all is_digit digits.now }
+{
+    digits.iter().all(|digit| *digit >= b'0' && *digit <= b'9')
+}
+
+/// Whether the characters of a field are in a relation to a text.
+fn is_so_text(core: &Core, at: u16, len: u16, relation: Relation, text: &[u8]) -> bool
+    requires at { at < length core.now }
+    requires len { len ≤ at + 1 }
+    ensures { result ≡ is_so_text relation text.now (places_down core.now at len) }
+{
+    holds(relation, field_order(core, at, len, text))
+}
+
+/// Whether a field of this many places is in a relation to a value.
+fn is_so(core: &Core, at: u16, len: u16, relation: Relation, value: &Value) -> bool
+    requires at { at < length core.now }
+    requires some { 0 < len }
+    requires len { len ≤ at + 1 }
+    ensures { result ≡ is_so relation value.now (places_down core.now at len) }
+{
+    match value {
+        Value::Number { minus, digits } => {
+            is_so_number(core, at, len, relation, *minus, digits.as_slice())
+        }
+        Value::Text(text) => is_so_text(core, at, len, relation, text.as_slice()),
+    }
+}
+
+/// Whether a field ends at a place and is in a relation to a value.
+#[tactic(auto, unfolding(crate::specs::Comparison::compared_at, fields_1401::specs::Number::places_down))]
+fn compared_at(core: &Core, at: u16, relation: Relation, value: &Value) -> bool
+    ensures { result ≡ compared_at core.now at relation value.now }
+{
+    if !core.in_core(at) {
+        return false;
+    }
+    match core.field_len(at) {
+        Some(len) => is_so(core, at, len, relation, value),
+        None => false,
+    }
+}
+
+impl operate_scout::Condition for Comparison {
+    ghost use Rattle.operate_program.specs.Comparison.{compared_at};
+
+    ghost is_so = { λ it s. compared_at s.storage it.at it.relation it.value };
+
+    fn is_so(&self, machine: &Machine) -> bool {
+        compared_at(machine.core(), self.at, self.relation, &self.value)
+    }
+}

@@ -1,0 +1,3 @@
+pub mod FirstEntriesLemmas
+pub mod NotesLemmas
+pub mod TendingLemmas

@@ -1,0 +1,234 @@
+//! Notes on a journal.
+ghost use Rattle.std.specs.Prelude.{◌≡◌, ◌≤◌, drop, length, nat_lt, take, take_while, OnOk, OnErr};
+ghost use Rattle.operate_sitting.specs.Notes.{begun, cards_by, cut, given, hand_of, held, lines_in, no_notes};
+ghost use Rattle.operate_sitting.specs.Notes.{notes_after, undo_place};
+ghost use Rattle.operate_sitting.specs.Tending.{feed_at};
+
+use crate::earlier::Origin;
+use devices_1401::Card;
+use machine_execution::Command;
+use std::alloc::{AllocError, Global};
+use std::marker::Model;
+
+/// Where a line of a person began.
+#[derive(Clone, Copy, Debug, PartialEq, Eq)]
+pub struct Mark {
+    /// How many entries the journal had.
+    pub entries: usize,
+    /// How many cards of decks had come into the hand.
+    pub cards: usize,
+}
+
+/// Where lines began, by how many entries the program was loaded, all cards that came into the hand, and the places of
+/// the journal at which the first of them were fed.
+#[derive(Drop)]
+pub(crate) struct Notes {
+    marks: Vec<Mark>,
+    loaded: usize,
+    deck: Vec<Card>,
+    given: Vec<usize>,
+}
+
+impl Model for Notes {
+    ghost use Rattle.operate_sitting.specs.Notes.{Noted};
+
+    ghost Value = { Noted };
+
+    ghost view = { λ it. record {
+      marks = it.marks.items;
+      loaded = it.loaded;
+      deck = it.deck.items;
+      given = it.given.items;
+    } };
+}
+
+impl Notes {
+    /// Nothing but the entries that loaded the program.
+    pub(crate) fn new(alloc: Global, loaded: usize) -> Notes
+        ensures { result ≡ no_notes loaded }
+    {
+        Notes {
+            marks: Vec::new(alloc),
+            loaded,
+            deck: Vec::new(alloc),
+            given: Vec::new(alloc),
+        }
+    }
+
+    /// By how many entries the program was loaded.
+    pub(crate) fn loaded(&self) -> usize
+        ensures { result ≡ self.now.loaded }
+    {
+        self.loaded
+    }
+
+    /// The cards in hand.
+    pub(crate) fn hand(&self) -> &[Card]
+        ensures { result.now ≡ hand_of self.now }
+    {
+        self.cards_after(self.given.len())
+    }
+
+    /// The cards of decks after the first ones, this many.
+    pub(crate) fn cards_after(&self, count: usize) -> &[Card]
+        ensures { result.now ≡ drop count self.now.deck }
+    {
+        if count < self.deck.len() {
+            &self.deck[count..]
+        } else {
+            &[]
+        }
+    }
+
+    /// A line begins at the end of a journal with this many entries.
+    ///
+    /// # Errors
+    ///
+    /// If the memory for its mark is refused.
+    pub(crate) fn begin_line(&mut self, entries: usize) -> Result<(), AllocError>
+        ensures ok { OnOk result (self.new ≡ begun entries self.old) }
+        ensures err { OnErr result (self.new ≡ self.old) }
+    {
+        let mark = Mark {
+            entries,
+            cards: self.deck.len(),
+        };
+        let lines = count_lines(self.marks.as_slice(), entries);
+        self.marks.insert(lines, mark)?;
+        self.marks.truncate(lines + 1);
+        Ok(())
+    }
+
+    /// More cards come into the hand, after those that are there.
+    ///
+    /// # Errors
+    ///
+    /// If the memory for them is refused.
+    pub(crate) fn hold(&mut self, cards: &[Card]) -> Result<(), AllocError>
+        ensures ok { OnOk result (self.new ≡ held cards.now self.old) }
+        ensures err { OnErr result (self.new ≡ self.old) }
+    {
+        self.deck.extend_from_slice(cards)?;
+        Ok(())
+    }
+
+    /// Of a command that gets this place in the journal: if it feeds a card of the hand, that card is in hand no longer.
+    ///
+    /// # Errors
+    ///
+    /// If the memory for the place is refused.
+    pub(crate) fn give(&mut self, command: &Command, place: usize) -> Result<(), AllocError>
+        ensures ok { OnOk result (self.new ≡ given (feed_at place command.now) self.old) }
+        ensures err { OnErr result (self.new ≡ self.old) }
+    {
+        if matches!(*command, Command::Feed { .. }) {
+            self.given.push(place)?;
+        }
+        Ok(())
+    }
+
+    /// How many cards were fed.
+    pub(crate) fn count_given(&self) -> usize
+        ensures { result ≡ length self.now.given }
+    {
+        self.given.len()
+    }
+
+    /// All cards that were fed after these are in hand again.
+    pub(crate) fn take_back(&mut self, given: usize)
+        ensures { self.new ≡ record self.old { given = take given self.old.given } }
+    {
+        self.given.truncate(given);
+    }
+
+    /// Where the last lines began, this many, of those that recorded something in a journal with this many entries.
+    pub(crate) fn undo_place(&self, count: usize, entries: usize) -> Option<usize>
+        ensures { result ≡ undo_place count entries self.now.marks }
+    {
+        let lines = count_lines(self.marks.as_slice(), entries);
+        if count > lines {
+            return None;
+        }
+        let line = lines - count;
+        if line < lines {
+            Some(self.marks[line].entries)
+        } else {
+            Some(entries)
+        }
+    }
+
+    /// The notes that go with an earlier journal, which has this many entries.
+    pub(crate) fn go_back(&mut self, origin: Origin, entries: usize)
+        ensures { self.new ≡ notes_after origin entries self.old }
+    {
+        match origin {
+            Origin::Own => self.cut(entries),
+            Origin::Other => self.forget(entries),
+        }
+    }
+
+    /// The notes on the first entries alone.
+    fn cut(&mut self, entries: usize)
+        ensures { self.new ≡ cut entries self.old }
+    {
+        let cards = cards_by(self.marks.as_slice(), entries, self.deck.len());
+        let lines = count_lines(self.marks.as_slice(), entries);
+        let given = count_given(self.given.as_slice(), entries);
+        self.marks.truncate(lines);
+        self.deck.truncate(cards);
+        self.given.truncate(given);
+        self.loaded = self.loaded.min(entries);
+    }
+
+    /// The notes that go with another journal.
+    fn forget(&mut self, entries: usize)
+        ensures { self.new ≡ no_notes entries }
+    {
+        self.marks.clear();
+        self.deck.clear();
+        self.given.clear();
+        self.loaded = entries;
+    }
+}
+
+/// How many lines recorded something in the first entries.
+fn count_lines(marks: &[Mark], entries: usize) -> usize
+    ensures count { result ≡ length (lines_in entries marks.now) }
+    ensures lines { take result marks.now ≡ lines_in entries marks.now }
+    ensures bound { result ≤ length marks.now }
+{
+    let mut count = 0;
+    for mark in marks {
+        if mark.entries >= entries {
+            return count;
+        }
+        count += 1;
+    }
+    count
+}
+
+/// How many of the cards that were fed are among the first entries.
+fn count_given(given: &[usize], entries: usize) -> usize
+    ensures { take result given.now ≡ take_while (λ place. nat_lt place entries) given.now }
+{
+    let mut count = 0;
+    for place in given {
+        if *place >= entries {
+            return count;
+        }
+        count += 1;
+    }
+    count
+}
+
+/// How many cards had come into the hand when the first line began that recorded nothing in the first entries.
+fn cards_by(marks: &[Mark], entries: usize, cards: usize) -> usize
+    ensures { result ≡ cards_by entries marks.now cards }
+{
+    for mark in marks {
+        if mark.entries >= entries {
+            return mark.cards;
+        }
+    }
+    cards
+}

@@ -1,0 +1,382 @@
+//! A person's room.
+ghost use Rattle.std.specs.Prelude.{◌≡◌, ◌+◌, ◌<◌, ◌≤◌, ◌↔◌, ℕ, [], ◌∷◌, ◌++◌, true, false, length, take, None, Some};
+ghost use Rattle.std.specs.Prelude.{option_map, IsOk, IfOk, IfErr, OnOk, OnErr, ◌≢◌};
+ghost use Rattle.std.specs.Io.KnownBytes.{Appends};
+ghost use Rattle.cpu_1401.specs.Run.{most_steps};
+ghost use Rattle.room_alone.specs.Journal.{IsLegal, answer_to, entry, is_full, most_entries, pairs_of, refusal_of};
+ghost use Rattle.room_alone.specs.Kept.{kept_text};
+ghost use Rattle.operate_scout.specs.RunOf.{answer_of, run_of};
+ghost use Rattle.operate_scout.specs.Search.{memory_after, search};
+ghost use Rattle.operate_past.specs.Back.{back_of};
+ghost use Rattle.operate_sitting.specs.Notes.{begun, hand_of, held, no_notes, notes_after};
+ghost use Rattle.operate_sitting.specs.Sitting.{journal_of, machine_of, tending_of, undone_at, watching};
+ghost use Rattle.operate_sitting.specs.Tending.{CarriedAll, CarriedPart};
+
+use crate::cutter::Cutter;
+use crate::earlier::{Earlier, Origin, PastFault};
+use crate::notes::Notes;
+use crate::tending::tend;
+use core_1401::CoreFault;
+use cpu_1401::Machine;
+use devices_1401::Card;
+use machine_execution::Command;
+use operate_past::{BackFault, carry_back};
+use operate_scout::{FullDevices, OneOf, Paired, RunEnd, SearchEnd, Test, scout_of};
+use room_alone::{Carried, Entry, Keeper, KeptRoom, Room, RoomFault, Unkept};
+use room_journal::carry_chosen;
+use std::alloc::{AllocError, Global};
+use std::marker::Model;
+
+/// A room at which a person sits, with its scout. It also notes where each line began that recorded something, and which
+/// cards of decks are in hand. Whatever is called, the journal is legal, and it explains the machine.
+#[derive(Drop)]
+pub struct Sitting<K: Keeper + Drop> {
+    paired: Paired<K>,
+    notes: Notes,
+}
+
+impl<K: Keeper + Drop> Model for Sitting<K> {
+    ghost use Rattle.operate_sitting.specs.Sitting.{SittingAccount};
+
+    ghost Value = { SittingAccount };
+
+    ghost view = { λ it. record { account = it.paired; notes = it.notes } };
+}
+
+/// Whether the keeper has each entry of what was done at the devices. If not, nothing of it may be shown.
+#[derive(Clone, Copy, Debug, PartialEq, Eq)]
+pub struct Tended {
+    /// Whether it has.
+    pub kept: bool,
+}
+
+impl<K: Keeper + Drop> Sitting<K> {
+    /// A sitting at a room. All that its journal has by now loaded the program, and no cards are in hand.
+    ///
+    /// # Errors
+    ///
+    /// `Memory` if there is no room for the scout.
+    pub fn new(alloc: Global, room: KeptRoom<K>) -> Result<Sitting<K>, CoreFault>
+        ensures account { IfOk result (λ sitting. sitting.account ≡ room) }
+        ensures notes { IfOk result (λ sitting. sitting.notes ≡ no_notes (length room.room.journal)) }
+        ensures fault { IfErr result (λ fault. fault ≡ CoreFault.Memory) }
+    {
+        let scout = match scout_of(alloc, room.room()) {
+            Ok(scout) => scout,
+            Err(fault) => return Err(fault),
+        };
+        let notes = Notes::new(alloc, room.room().journal().len());
+        Ok(Sitting {
+            paired: Paired::new(room, scout),
+            notes,
+        })
+    }
+
+    /// The machine, which the journal explains.
+    pub fn machine(&self) -> &Machine
+        ensures { result.now ≡ machine_of self.now }
+    {
+        self.paired.machine()
+    }
+
+    /// The room.
+    pub fn room(&self) -> &Room
+        ensures { result.now ≡ self.now.account.room }
+    {
+        self.paired.room().room()
+    }
+
+    /// The journal, oldest entry first. It is legal: each recorded answer is the sequential machine's.
+    pub fn journal(&self) -> &[Entry]
+        ensures journal { result.now ≡ journal_of self.now }
+        ensures legal { IsLegal self.now.account.room.size (journal_of self.now) }
+        ensures bound { length (journal_of self.now) ≤ most_entries }
+    {
+        self.room().journal()
+    }
+
+    /// Whether an entry wasn't kept. The sitting is over then.
+    pub fn has_failed(&self) -> bool
+        ensures { result ≡ self.now.account.failed }
+    {
+        self.paired.room().has_failed()
+    }
+
+    /// How many cards are in hand.
+    pub fn hand(&self) -> usize
+        ensures { result ≡ length (hand_of self.now.notes) }
+    {
+        self.notes.hand().len()
+    }
+
+    /// A line begins, to which `undone` comes back if it records something.
+    ///
+    /// # Errors
+    ///
+    /// If the memory for its mark is refused.
+    pub fn begin_line(&mut self) -> Result<(), AllocError>
+        ensures account { self.new.account ≡ self.old.account }
+        ensures ok { OnOk result (self.new.notes ≡ begun (length (journal_of self.old)) self.old.notes) }
+        ensures err { OnErr result (self.new.notes ≡ self.old.notes) }
+    {
+        let entries = self.paired.room().room().journal().len();
+        self.notes.begin_line(entries)
+    }
+
+    /// Takes the cards of a deck into the hand, after those that are there.
+    ///
+    /// # Errors
+    ///
+    /// If the memory for them is refused.
+    pub fn hold(&mut self, cards: Vec<Card>) -> Result<(), AllocError>
+        ensures account { self.new.account ≡ self.old.account }
+        ensures ok { OnOk result (self.new.notes ≡ held cards.items self.old.notes) }
+        ensures err { OnErr result (self.new.notes ≡ self.old.notes) }
+    {
+        self.notes.hold(cards.as_slice())
+    }
+
+    /// Carries a command out at the room, which records and keeps it, and at the scout.
+    ///
+    /// # Errors
+    ///
+    /// As those of `KeptRoom::carry`. Nothing has changed.
+    pub fn carry(&mut self, command: Command) -> Result<Carried, RoomFault>
+        ensures answer { IfOk result (λ carried.
+            carried.answer ≡ answer_to self.old.account.room.size (journal_of self.old) command) }
+        ensures recorded { IfOk result (λ carried.
+            journal_of self.new ≡ journal_of self.old ++ entry 0 command carried.answer ∷ []) }
+        ensures size { self.new.account.room.size ≡ self.old.account.room.size }
+        ensures notes { self.new.notes ≡ self.old.notes }
+
+        // If the answer may go out, the keeper has the whole journal; if it may not, no later command is taken.
+        ensures kept { IfOk result (λ carried. carried.kept ≡ true → self.new.account.failed ≡ false) }
+        ensures unkept { IfOk result (λ carried. carried.kept ≡ false → self.new.account.failed ≡ true) }
+
+        // A refusal changes nothing.
+        ensures failed { (result ≡ Err RoomFault.Unkept) ↔ (self.old.account.failed ≡ true) }
+        ensures full { self.old.account.failed ≡ false
+            → ((result ≡ Err RoomFault.JournalFull) ↔ (is_full (journal_of self.old) ≡ true)) }
+        ensures fault { IfErr result (λ fault.
+            self.old.account.failed ≡ false → fault ≡ refusal_of (journal_of self.old)) }
+        ensures err { OnErr result ((journal_of self.new ≡ journal_of self.old)
+            × (self.new.account.failed ≡ self.old.account.failed) × (self.new.account.kept ≡ self.old.account.kept)) }
+        ensures reserved { self.old.account.failed ≡ false → 0 < self.old.account.room.spare
+            → is_full (journal_of self.old) ≡ false → IsOk result }
+        ensures spare { self.old.account.room.spare ≤ self.new.account.room.spare + 1 }
+    {
+        self.paired.carry(command)
+    }
+
+    /// One slice of a run: until a step meets the test or stops the machine, until the devices want hands after it, or
+    /// until this many steps were carried out, 1 to 1,000,000. The second part of the test is set here.
+    ///
+    /// # Errors
+    ///
+    /// As those of `KeptRoom::carry`. Neither machine has moved.
+    pub fn run_until<T: Test>(
+        &mut self,
+        test: &mut OneOf<T, FullDevices>,
+        most: u32,
+    ) -> Result<RunEnd, RoomFault>
+        requires some { 0 < most }
+        requires most { most ≤ most_steps }
+
+        // The room's machine goes as far as the search with both parts of the test.
+        ensures search { IfOk result (λ end. let machine = machine_of self.old in
+            let with_devices = record test.old { second = watching (hand_of self.old.notes) } in
+            search ⟦<OneOf<T, FullDevices> as Test>⟧.seen ⟦<OneOf<T, FullDevices> as Test>⟧.is_met most
+            (⟦<OneOf<T, FullDevices> as Test>⟧.begun with_devices machine) machine ≡ record {
+              state = machine_of self.new;
+              memory = test.new;
+              found = end.found;
+            }) }
+
+        // One command is recorded, with the steps and the stop that were found.
+        ensures recorded { IfOk result (λ end. journal_of self.new ≡ journal_of self.old
+            ++ entry 0 (run_of end.found) (answer_of end.found (machine_of self.new)) ∷ []) }
+        ensures size { self.new.account.room.size ≡ self.old.account.room.size }
+        ensures notes { self.new.notes ≡ self.old.notes }
+
+        // No step before the last one meets it.
+        ensures first { IfOk result (λ end. let machine = machine_of self.old in
+            let with_devices = record test.old { second = watching (hand_of self.old.notes) } in
+            (k : ℕ) → 0 < k → k < end.found.steps → ⟦<OneOf<T, FullDevices> as Test>⟧.is_met
+            (memory_after ⟦<OneOf<T, FullDevices> as Test>⟧.seen k
+            (⟦<OneOf<T, FullDevices> as Test>⟧.begun with_devices machine) machine) ≡ false) }
+        ensures met { IfOk result (λ end. end.found.end ≡ SearchEnd.Met
+            → ⟦<OneOf<T, FullDevices> as Test>⟧.is_met test.new ≡ true) }
+        ensures limit { IfOk result (λ end. end.found.end ≡ SearchEnd.Limit → end.found.steps ≡ most) }
+
+        ensures kept { IfOk result (λ end. end.kept ≡ true → self.new.account.failed ≡ false) }
+        ensures unkept { IfOk result (λ end. end.kept ≡ false → self.new.account.failed ≡ true) }
+
+        // A refusal changes nothing.
+        ensures failed { (result ≡ Err RoomFault.Unkept) ↔ (self.old.account.failed ≡ true) }
+        ensures full { self.old.account.failed ≡ false
+            → ((result ≡ Err RoomFault.JournalFull) ↔ (is_full (journal_of self.old) ≡ true)) }
+        ensures fault { IfErr result (λ fault.
+            self.old.account.failed ≡ false → fault ≡ refusal_of (journal_of self.old)) }
+        ensures err { OnErr result ((journal_of self.new ≡ journal_of self.old)
+            × (self.new.account.failed ≡ self.old.account.failed) × (self.new.account.kept ≡ self.old.account.kept)) }
+        ensures test { OnErr result (test.new.first ≡ test.old.first) }
+        ensures reserved { self.old.account.failed ≡ false → 0 < self.old.account.room.spare
+            → is_full (journal_of self.old) ≡ false → IsOk result }
+    {
+        test.second = watching(self.notes.hand());
+        self.paired.run_until(test, most)
+    }
+
+    /// Does what devices want: takes all lines of a full paper and all cards of a full stacker, and fills an empty
+    /// hopper with cards in hand. What was done before a command that is refused stays.
+    ///
+    /// # Errors
+    ///
+    /// As those of `carry`, and `Memory` if there is no room for the place of a card.
+    pub fn tend(&mut self) -> Result<Tended, RoomFault>
+        ensures part { CarriedPart self.old.account.room.size (tending_of self.old)
+            (journal_of self.old) (journal_of self.new) self.old.notes.given self.new.notes.given }
+        ensures all { IfOk result (λ tended. tended.kept ≡ true
+            → CarriedAll self.old.account.room.size (tending_of self.old)
+            (journal_of self.old) (journal_of self.new) self.old.notes.given self.new.notes.given) }
+        ensures size { self.new.account.room.size ≡ self.old.account.room.size }
+        ensures notes { self.new.notes ≡ record self.old.notes { given = self.new.notes.given } }
+        ensures kept { IfOk result (λ tended. tended.kept ≡ true
+            → self.old.account.failed ≡ false → self.new.account.failed ≡ false) }
+        ensures unkept { IfOk result (λ tended. tended.kept ≡ false → self.new.account.failed ≡ true) }
+        ensures failed { result ≡ Err RoomFault.Unkept → self.old.account.failed ≡ true }
+    {
+        match tend(&mut self.paired, &mut self.notes) {
+            Ok(kept) => Ok(Tended { kept }),
+            Err(fault) => Err(fault),
+        }
+    }
+
+    /// The room as it was before the last lines that recorded something, this many.
+    ///
+    /// # Errors
+    ///
+    /// `NothingToUndo` if there are fewer, else `Memory`.
+    pub fn undone(&self, alloc: Global, lines: u32) -> Result<Earlier, PastFault>
+        ensures journal { IfOk result (λ earlier. Some earlier.room.journal
+            ≡ option_map (λ at. take at (journal_of self.now)) (undone_at lines self.now)) }
+        ensures size { IfOk result (λ earlier. earlier.room.size ≡ self.now.account.room.size) }
+        ensures origin { IfOk result (λ earlier. earlier.origin ≡ Origin.Own) }
+        ensures nothing { (result ≡ Err PastFault.NothingToUndo) ↔ (undone_at lines self.now ≡ None) }
+        ensures fault { result ≢ Err PastFault.TooFew }
+    {
+        match self.notes.undo_place(lines as usize, self.journal().len()) {
+            Some(entries) => self.first_entries(alloc, entries),
+            None => Err(PastFault::NothingToUndo),
+        }
+    }
+
+    /// The room as it was this many instructions ago.
+    ///
+    /// # Errors
+    ///
+    /// `TooFew` if fewer instructions were carried out, else `Memory`.
+    pub fn earlier(&self, alloc: Global, instructions: u64) -> Result<Earlier, PastFault>
+        ensures commands { IfOk result (λ earlier.
+            Some (pairs_of earlier.room.journal) ≡ back_of instructions (journal_of self.now)) }
+        ensures size { IfOk result (λ earlier. earlier.room.size ≡ self.now.account.room.size) }
+        ensures origin { IfOk result (λ earlier. earlier.origin ≡ Origin.Own) }
+        ensures too_few { (result ≡ Err PastFault.TooFew) ↔ (back_of instructions (journal_of self.now) ≡ None) }
+        ensures fault { result ≢ Err PastFault.NothingToUndo }
+    {
+        match carry_back(alloc, self.room(), instructions) {
+            Ok(room) => Earlier::new(alloc, room, Origin::Own),
+            Err(BackFault::TooFew) => Err(PastFault::TooFew),
+            Err(BackFault::Memory) => Err(PastFault::Memory),
+        }
+    }
+
+    /// The room as it was when the program was loaded.
+    ///
+    /// # Errors
+    ///
+    /// `Memory` alone.
+    pub fn restarted(&self, alloc: Global) -> Result<Earlier, PastFault>
+        ensures journal { IfOk result (λ earlier.
+            earlier.room.journal ≡ take self.now.notes.loaded (journal_of self.now)) }
+        ensures size { IfOk result (λ earlier. earlier.room.size ≡ self.now.account.room.size) }
+        ensures origin { IfOk result (λ earlier. earlier.origin ≡ Origin.Own) }
+        ensures fault { IfErr result (λ fault. fault ≡ PastFault.Memory) }
+    {
+        self.first_entries(alloc, self.notes.loaded())
+    }
+
+    /// The room of another journal, at which all that it has loaded the program.
+    ///
+    /// # Errors
+    ///
+    /// `Memory` alone.
+    pub fn restored(alloc: Global, room: Room) -> Result<Earlier, PastFault>
+        ensures room { IfOk result (λ earlier. earlier.room ≡ room) }
+        ensures origin { IfOk result (λ earlier. earlier.origin ≡ Origin.Other) }
+        ensures fault { IfErr result (λ fault. fault ≡ PastFault.Memory) }
+    {
+        Earlier::new(alloc, room, Origin::Other)
+    }
+
+    /// Goes on with an earlier room, to whose journal the keeper's text is cut.
+    ///
+    /// # Errors
+    ///
+    /// If an entry wasn't kept, or the text couldn't be cut. The sitting is over.
+    pub fn take_over<C: Cutter<K>>(
+        self,
+        earlier: Earlier,
+        cutter: &mut C,
+    ) -> Result<Sitting<K>, Unkept>
+        ensures room { IfOk result (λ sitting. sitting.account.room ≡ earlier.room) }
+        ensures notes { IfOk result (λ sitting.
+            sitting.notes ≡ notes_after earlier.origin (length earlier.room.journal) self.notes) }
+        ensures failed { IfOk result (λ sitting. sitting.account.failed ≡ false) }
+        ensures good { IfOk result (λ sitting. self.account.failed ≡ false) }
+
+        // The keeper has the text of the earlier journal.
+        ensures kept { IfOk result (λ sitting. Appends K.first sitting.account.kept
+            (kept_text K.form earlier.room.size earlier.room.journal)) }
+    {
+        let Sitting { paired, mut notes } = self;
+        let (_, keeper) = paired.into_room().into_parts();
+        if keeper.has_failed() {
+            return Err(Unkept);
+        }
+        notes.go_back(earlier.origin(), earlier.room().journal().len());
+        let (room, scout) = earlier.into_parts();
+        let keeper = match cutter.cut(keeper, &room) {
+            Ok(keeper) => keeper,
+            Err(fault) => return Err(fault),
+        };
+        Ok(Sitting {
+            paired: Paired::new(KeptRoom::new(room, keeper), scout),
+            notes,
+        })
+    }
+
+    /// The room as it was after the first entries, this many.
+    fn first_entries(&self, alloc: Global, entries: usize) -> Result<Earlier, PastFault>
+        ensures journal { IfOk result (λ earlier.
+            earlier.room.journal ≡ take entries (journal_of self.now)) }
+        ensures size { IfOk result (λ earlier. earlier.room.size ≡ self.now.account.room.size) }
+        ensures origin { IfOk result (λ earlier. earlier.origin ≡ Origin.Own) }
+        ensures fault { IfErr result (λ fault. fault ≡ PastFault.Memory) }
+    {
+        let size = self.room().machine().core().size();
+        let Ok(room) = carry_chosen(alloc, size, self.journal(), entries as u64, &[]) else {
+            // Its journal is never full: it has no entry more than the room's.
+            return Err(PastFault::Memory);
+        };
+        let _legal = room.journal();
+        Earlier::new(alloc, room, Origin::Own)
+    }
+}
+
+/// The devices are looked at after each step, with these cards in hand.
+fn watching(hand: &[Card]) -> FullDevices
+    ensures { result ≡ watching hand.now }
+{
+    FullDevices::new(!hand.is_empty())
+}
