@@ -57,7 +57,7 @@ def rows(text):
 
 def option_of(left, right):
     """A row of options or arguments."""
-    found = re.fullmatch(r"(?:(-\w)(?:, )?)?(--[\w-]+)?(?: ?<(.*)>)?", left)
+    found = re.fullmatch(r"(?:(-\w)(?:, )?)?(--[\w-]+)?(?: ?[<[](.*)[]>])?", left)
     return Option(found[1] or "", found[2] or "", found[3] or "", right)
 
 

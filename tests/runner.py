@@ -5,6 +5,7 @@ line for each module.
 
 `python3 -m unittest -k WORD` runs single tests."""
 import os
+import queue
 import re
 import subprocess
 import sys
@@ -12,7 +13,7 @@ import time
 import unittest
 from concurrent.futures import ThreadPoolExecutor, as_completed
 
-from tests.support import TESTS, TOP
+from tests.support import FIRST_PORT, LAST_PORT, TESTS, TOP
 
 # The modules that take longest, which begin first: none is waited for alone at the end.
 LONGEST = "test_browser", "test_running", "test_served_journals", "test_serving"
@@ -86,10 +87,21 @@ def count_module(name):
     print(f"{name}: {counts.passed} passed, {counts.failed} failed, in {took:.0f} seconds", flush=True)
 
 
-def run_module(name):
+def bands_of_ports(many):
+    """The ports to listen at, shared among so many modules at once."""
+    bands, each = queue.SimpleQueue(), (LAST_PORT + 1 - FIRST_PORT) // many
+    for first in range(FIRST_PORT, FIRST_PORT + many * each, each):
+        bands.put(f"{first} {first + each - 1}")
+    return bands
+
+
+def run_module(name, bands):
     """Runs the tests of a module in a process of its own: what it printed, and how many passed and failed."""
     call = [sys.executable, "-m", "tests.runner", "--here", name]
-    ran = subprocess.run(call, cwd=TOP, stdin=subprocess.DEVNULL, stdout=subprocess.PIPE, stderr=subprocess.STDOUT)
+    band = bands.get()
+    ran = subprocess.run(call, cwd=TOP, env={**os.environ, "IBM1401_PORTS": band}, stdin=subprocess.DEVNULL,
+                         stdout=subprocess.PIPE, stderr=subprocess.STDOUT)
+    bands.put(band)
     text = ran.stdout.decode(errors="replace")
     counts = re.search(rf"^{name}: (\d+) passed, (\d+) failed, .*\n\Z", text, re.MULTILINE)
     if ran.returncode != 0 or counts is None:
@@ -108,8 +120,10 @@ def run_modules(names=()):
     names = list(names) or sorted(file.stem for file in TESTS.glob("test_*.py"))
     names.sort(key=lambda name: name not in LONGEST)
     counts = {}
-    with ThreadPoolExecutor(len(os.sched_getaffinity(0))) as pool:
-        running = {pool.submit(run_module, name): kind_of(name) for name in names}
+    many = len(os.sched_getaffinity(0))
+    bands = bands_of_ports(many)
+    with ThreadPoolExecutor(many) as pool:
+        running = {pool.submit(run_module, name, bands): kind_of(name) for name in names}
         for ended in as_completed(running):
             text, good, bad = ended.result()
             print(text, end="", flush=True)

@@ -11,8 +11,8 @@ A file of tests/sessions/ has a remark on its theme, and then sessions, each at 
     |~AB |
     2 entries
 
-'==' begins a session, with its name. 'size' is how many places of core storage it has, where it hasn't 4,000. A remark
-begins with '#', in any place. Each typed line begins with '>', and its reply follows, if it has one. The last line says
+'==' begins a session, with its name. 'size' is how many places of core storage it has, where it hasn't 4,000, and 'fit'
+names the features that it is fitted with, if it is. A remark begins with '#', in any place. Each typed line begins with '>', and its reply follows, if it has one. The last line says
 how many entries the journal has. '500 times' gives the line above, with its reply, so often in all; 'no line feed'
 leaves out that of the last line.
 
@@ -33,8 +33,8 @@ class Session:
     """Lines for a machine of its own, each with its reply or none, and how many entries the journal has afterwards, if
     that is looked at."""
 
-    def __init__(self, name, size=4000, given=()):
-        self.name, self.size, self.given = name, size, list(given)
+    def __init__(self, name, size=4000, given=(), features=None):
+        self.name, self.size, self.given, self.features = name, size, list(given), features
         self.end, self.entries = "\n", None
 
     def take(self, line):
@@ -43,6 +43,8 @@ class Session:
             return False
         if said := re.fullmatch(r"size (\d+)", line):
             self.size = int(said[1])
+        elif said := re.fullmatch(r"fit (\S+)", line):
+            self.features = said[1]
         elif line.startswith("> "):
             self.given.append((bare(line[2:]), None))
         elif not self.given:
@@ -81,12 +83,27 @@ def read_sessions(text):
     return read
 
 
+def fitted_with_all(session):
+    """The same session on a machine with each feature, up to where the basic one stops as LENGTH or NOTFITTED. The
+    command that fits it is one more, which a glance counts."""
+    fitted = Session(f"{session.name}, with each feature", session.size)
+    for line, reply in session.given:
+        if re.match("STOP (08|12) ", reply or ""):
+            break
+        if said := re.match(r"AFTER (\d+)", reply or ""):
+            reply = f"AFTER {int(said[1]) + 1}{reply[said.end():]}"
+        fitted.given.append((line, reply))
+    fitted.features, fitted.end = "all", session.end if len(fitted.given) == len(session.given) else "\n"
+    return fitted
+
+
 def wrong_in(session):
     """What is wrong with a session: by itself, or else where its journal is kept, whose entries are counted."""
     with tempfile.TemporaryDirectory() as folder:
         lines, kept = Path(folder) / "lines", Path(folder) / "journal"
         lines.write_text("\n".join(line for line, _ in session.given) + session.end)
         words = ["console", "--size", str(session.size)]
+        words += ["--fit", session.features] if session.features else []
         wrong = wrong_run(session, words, lines)
         if wrong or session.entries is None:
             return wrong

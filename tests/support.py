@@ -3,6 +3,7 @@
 The program is the built one, or the one that the environment variable IBM1401 names."""
 import http.client
 import inspect
+import itertools
 import os
 import random
 import re
@@ -39,6 +40,10 @@ REPLY_SECONDS = 20
 PAUSE = 0.02
 # How many ports are tried, where somebody else has just taken one.
 PORTS_TRIED = 20
+# The ports that are handed out: those of the module, which the runner sets, beginning by chance.
+FIRST_PORT, LAST_PORT = map(int, os.environ.get("IBM1401_PORTS", "20000 31999").split())
+BEGIN_AT = random.randint(FIRST_PORT, LAST_PORT)
+PORTS = itertools.cycle([*range(BEGIN_AT, LAST_PORT + 1), *range(FIRST_PORT, BEGIN_AT)])
 # What a call says that lacks its file.
 NO_FILE = "the following required arguments were not provided:\n  <FILE>"
 
@@ -272,15 +277,18 @@ def a_port():
 
 
 def free_ports(many):
-    """The first of this many ports in a row that are free, below those that the system gives to connections."""
+    """The first of this many ports in a row that are free, below those that the system gives to connections. Each
+    has its turn, so a client of a room that has ended doesn't find the next one."""
     while True:
-        first = random.randrange(20_000, 32_000)
+        first = next(PORTS)
+        ports = [first, *itertools.islice(PORTS, many - 1)]
         taken = []
         try:
             for port in range(first, first + many):
                 taken.append(socket.socket())
                 taken[-1].bind(("127.0.0.1", port))
-            return first
+            if ports[-1] == first + many - 1:
+                return first
         except OSError:
             continue
         finally:

@@ -62,6 +62,15 @@ HIGH = """\
 """
 # A card that branches to a place beyond a small core.
 DECK = "BV00\n"
+# A program that multiplies 12 by 34.
+TIMES = """\
+               ORG  400
+     START     M    A,PROD
+               H
+     A         DCW  12
+     PROD      DCW  34000
+               END  START
+"""
 JOURNAL = "JOURNAL1 1400\n1\t1\tDEPOSIT 0500 ~A\tOK\n2\t2\tDEPOSIT 0500 ~B\tOK\n3\t1\tEXAMINE 0500 1\t~B\n"
 
 
@@ -79,7 +88,7 @@ class Room:
         test.addCleanup(folder.cleanup)
         self.path = Path(folder.name)
         texts = {"source": SOURCE, "wide": WIDE, "faulty": FAULTY, "job": JOB, "high": HIGH, "journal": JOURNAL}
-        texts.update({"marked": MARKED, "simhs": SIMHS, "plus": "A+B\n"})
+        texts.update({"marked": MARKED, "simhs": SIMHS, "plus": "A+B\n", "lines": "evaluate 400\n", "times": TIMES})
         for name, text in {**texts, "cards": "FIRST\nSECOND\n", "deck": DECK}.items():
             (self.path / name).write_text(text)
         shutil.copy(TOP / "examples/five_and_five.image", self.path / "image")
@@ -120,7 +129,14 @@ LAST_PLACE = "EXAMINE 1400\nQUIT\n"
 CELL = "EXAMINE 0500\nQUIT\n"
 SHOWN = ["1 seat 1  DEPOSIT 0500 ~A              OK\n", "2 seat 2  DEPOSIT 0500 ~B              OK\n",
          "3 seat 1  EXAMINE 0500 1               ~B\n"]
+EACH_FEATURE = "FIT MULTIPLY MOVE-RECORD MODIFY-ADDRESS BIT-TEST LENGTHS READ-PUNCH-RELEASE"
+TIMES_IMAGE = "IMAGE2 04000\n00400 15 ~@409414~.~12~34000\nEND 00400\n"
+TIMES_HALTED = f"ibm1401: HALT at 0407 (line 3, H) after 2 steps; {NONE}"
 WITHOUT_2 = "JOURNAL1 1400\n1\t1\tDEPOSIT 0500 ~A\tOK\n2\t1\tEXAMINE 0500 1\t~A\n3\t0\tEXAMINE 0500 1\t~A\n"
+
+AT_POWER_ON = "4000 places; next is 0000; help lists the words\n"
+JOB_READY = "job: 4000 places; next is 0400 (line 2, START SW 1); help lists the words\n"
+SOURCE_READY = "source: 4000 places; next is 0333 (line 1, START MLC A,B); help lists the words\n"
 
 # A call, the lines that it is given, and its status, output, standard error (None: some) and files. The first row of a
 # block is a call without the option that each next row adds.
@@ -129,6 +145,17 @@ ROWS = [
     ("console --size 1400", LAST_PLACE, 0, "REFUSED 1 ADDRESS\nBYE\n", "", {}),
     ("console --journal new", LAST_PLACE, 0, " \nBYE\n", "", {"new": "JOURNAL1 4000\n1\t0\tEXAMINE 1400 1\t \n"}),
     ("console --sync", LAST_PLACE, MISUSE, "", None, {}),
+    ("console --fit lengths,multiply --journal new", CELL, 0, " \nBYE\n", "",
+     {"new": "JOURNAL1 4000\n1\t0\tFIT MULTIPLY LENGTHS\tOK\n2\t0\tEXAMINE 0500 1\t \n"}),
+    ("console --fit all --journal new", "", 0, "", "", {"new": f"JOURNAL1 4000\n1\t0\t{EACH_FEATURE}\tOK\n"}),
+    ("console --fit all", "DEPOSIT 0400 ~.700800~.\nSTART 0400\nRUN 1\n", 0,
+     "OK\nOK\nSTOP 02 HALT STEPS 1 I 00407\n", "", {}),
+    ("console --fit lengths,lengths", "", MISUSE, "", None, {}),
+    ("console --fit all,lengths", "", MISUSE, "", None, {}),
+    ("console --fit lengths --fit multiply", "", MISUSE, "", None, {}),
+    ("console --fit print-edit", "", MISUSE, "", None, {}),
+    ("console --fit LENGTHS", "", MISUSE, "", None, {}),
+    ("console --fit", "", MISUSE, "", None, {}),
     ("assemble source", "", 0, IMAGE, "", {}),
     ("assemble --output new source", "", 0, "", "", {"new": IMAGE}),
     ("assemble -o new source", "", 0, "", "", {"new": IMAGE}),
@@ -150,6 +177,11 @@ ROWS = [
     ("load image", LAST_PLACE, 0, " \nBYE\n", "", {}),
     ("load --journal new image", LAST_PLACE, 0, " \nBYE\n", "",
      {"new": f"JOURNAL1 4000\n{LOADED}3\t0\tEXAMINE 1400 1\t \n"}),
+    ("load --fit bit-test --journal new image", "", 0, "", "",
+     {"new": "JOURNAL1 4000\n1\t0\tFIT BIT-TEST\tOK\n2\t0\tDEPOSIT 0400 ~?423420~A423420~.414~   ~HI~E\tOK\n"
+             "3\t0\tSTART 0400\tOK\n"}),
+    ("load --fit bit-test image", LAST_PLACE, 0, " \nBYE\n", "", {}),
+    ("load --fit all,all image", "", MISUSE, "", None, {}),
     ("load --sync image", LAST_PLACE, MISUSE, "", None, {}),
     ("run job", "", 1, "", NO_CARD, {}),
     ("disassemble --load deck", "", 0, "00001*BV00     B    1500\n01500          END  1500\n", "", {}),
@@ -179,6 +211,16 @@ ROWS = [
     ("run high", "", 0, "", f"ibm1401: HALT at 1400 (line 3, HIGH H) after 2 steps; {NONE}", {}),
     ("run --size 1400 high", "", 1, "", "high:3:1: OUT OF CORE: its last place is 1400, 1 past the last place in "
      "core, 1399, which --size sets\nibm1401: line 3: 9 OUT OF CORE\n", {}),
+    ("run --language ibm times", "", 1, "", None, {}),
+    ("run --language ibm --fit multiply times", "", 0, "", TIMES_HALTED, {}),
+    ("run --language ibm --fit lengths times", "", 1, "", None, {}),
+    ("run --fit multiply,multiply job", "", MISUSE, "", None, {}),
+    ("assemble --language ibm --all times", "", 0, TIMES_IMAGE,
+     "times:2:16: WARNING: this machine has no instruction of this operation and length\n", {}),
+    ("assemble --language ibm --all --fit lengths,multiply times", "", 0, TIMES_IMAGE, "", {}),
+    ("assemble --fit multiply,multiply source", "", MISUSE, "", None, {}),
+    ("serve --port 1401 --seats 2 --fit all,all", "", MISUSE, "", None, {}),
+    ("resume --fit all journal", "", MISUSE, "", None, {}),
     ("journal journal", "", 0, "".join(SHOWN), "", {}),
     ("journal --seat 1 journal", "", 0, SHOWN[0] + SHOWN[2], "", {}),
     ("journal --from 3 journal", "", 0, SHOWN[2], "", {}),
@@ -205,6 +247,34 @@ ROWS = [
     ("resume --port 1401 --seats 2 --renew-after 5 journal", "", MISUSE, "", None, {}),
     ("resume --renew-after 5 journal", "", MISUSE, "", None, {}),
     ("assemble -o new --deck new source", "", MISUSE, "", None, {}),
+    ("operate", "evaluate 400\n", 0, f"{AT_POWER_ON}400, spelled 400\n", "", {}),
+    ("operate --echo", "evaluate 400\n", 0, f"{AT_POWER_ON}1401> evaluate 400\n400, spelled 400\n", "", {}),
+    ("operate --size 1400", "", 0, AT_POWER_ON.replace("4000", "1400"), "", {}),
+    ("operate --size 1401", "", 1, "",
+     "ibm1401: size refused: core storage has 1400, 2000, 4000, 8000, 12000 or 16000 places\n", {}),
+    ("operate --do lines", "", 0, f"{AT_POWER_ON}400, spelled 400\n", "", {}),
+    ("operate --limit 5", "deposit 600 ~B600~.\ngo 600\n", 0, f"{AT_POWER_ON}00600  ~B600~.\nLIMIT: 5 steps were "
+     "carried out, and nobody is at a terminal to stop it\nnext is 0600 (B 600)\n", "", {}),
+    ("operate --journal new", "deposit 500 ~A\n", 0, f"{AT_POWER_ON}00500  ~A\n", "",
+     {"new": "JOURNAL1 4000\n1\t0\tDEPOSIT 0500 ~A\tOK\n"}),
+    ("operate --switches B --journal new", "", 0, AT_POWER_ON, "", {"new": "JOURNAL1 4000\n1\t0\tSWITCH B ON\tOK\n"}),
+    ("operate --switches H", "", MISUSE, "", None, {}),
+    ("operate --fit lengths --journal new", "", 0, AT_POWER_ON, "", {"new": "JOURNAL1 4000\n1\t0\tFIT LENGTHS\tOK\n"}),
+    ("operate --fit lengths,lengths", "", MISUSE, "", None, {}),
+    ("operate --resume journal --fit all", "", MISUSE, "", None, {}),
+    ("operate --sync", "", MISUSE, "", None, {}),
+    ("operate --resume journal", "deposit 500 ~C\n", 0,
+     "journal: 1400 places; next is 0000; help lists the words\n00500  ~C\n", "",
+     {"journal": f"{JOURNAL}4\t0\tDEPOSIT 0500 ~C\tOK\n"}),
+    ("operate --resume journal --journal new", "", MISUSE, "", None, {}),
+    ("operate job", "", 0, JOB_READY, "", {}),
+    ("operate --cards cards job", "", 0, f"cards: 2 cards; hopper: 2\n{JOB_READY}", "", {}),
+    ("operate --load deck", "", 0,
+     "deck: 1 card; hopper: 1\ndeck: 4000 places; next is 0001 (B 1500); help lists the words\n", "", {}),
+    ("operate --load", "", MISUSE, "", None, {}),
+    ("operate --language ibm wide", "", 0, SOURCE_READY.replace("source", "wide").replace("MLC", "mlc"), "", {}),
+    ("operate --graphics simh simhs", "", 0, SOURCE_READY.replace("source", "simhs"), "", {}),
+    ("operate --source-graphics simh simhs", "", 0, SOURCE_READY.replace("source", "simhs"), "", {}),
 ]
 
 # The calls that read a file. What those of an image or a source alone say is shorter, and as old as they are.
@@ -212,6 +282,7 @@ UNREAD = [
     "assemble FILE", "load FILE", "serve --port 1401 --seats 1 --image FILE",
     "disassemble FILE", "disassemble --load FILE", "run FILE", "run --load FILE", "run --cards FILE job",
     "serve --port 1401 --seats 1 --cards FILE",
+    "operate FILE", "operate --load FILE", "operate --cards FILE job", "operate --resume FILE", "operate --do FILE",
     "journal FILE", "journal --check FILE", "resume FILE", "resume --journal new FILE",
 ]
 UNREAD_FILES = [("nothing", "no such file"), ("folder", "is a folder"), ("job/nothing", "no such file"),
@@ -342,9 +413,26 @@ class Options(unittest.TestCase):
         served.end("QUIT\n")
         self.assertEqual((room.path / "new").read_text(), "JOURNAL1 4000\n1\t1\tEXAMINE 0500 1\t \n")
 
+    def test_a_room_is_fitted_before_all_else(self):
+        room = Room(self)
+        served = Served(self, room, "serve --port PORT --seats 1 --fit lengths --image image --journal new")
+        self.assertEqual(served.say("DEPOSIT 0600 ~.700800~.\nSTART 0600\nRUN 1\nQUIT\n"),
+                         "OK\nOK\nSTOP 02 HALT STEPS 1 I 00607\nBYE\n")
+        served.end("QUIT\n")
+        kept = (room.path / "new").read_text()
+        self.assertTrue(kept.startswith("JOURNAL1 4000\n1\t1\tFIT LENGTHS\tOK\n2\t1\tDEPOSIT 0400 "), kept)
+
+    def test_a_fitted_machine_is_taken_up_as_it_was(self):
+        room = Room(self)
+        room.run("console --fit lengths --journal new".split(), "DEPOSIT 0600 ~.700800~.\nSTART 0600\n")
+        for words, reply in (("resume --until 3 new", "STOP 02 HALT STEPS 1 I 00607\n"),
+                             ("resume --without 1 --journal other new", "STOP 08 LENGTH STEPS 0 I 00600\n")):
+            with self.subTest(words):
+                self.assertEqual(room.run(words.split(), "RUN 1\n")[:3], (0, reply, ""))
+
     def test_no_file_is_left_if_a_new_journal_cannot_begin(self):
         for words in ("console --journal new", "load --journal new image", "resume --journal new journal",
-                      f"serve --port {free_ports(1)} --seats 1 --journal new"):
+                      "operate --journal new", f"serve --port {free_ports(1)} --seats 1 --journal new"):
             with self.subTest(words):
                 room = Room(self)
                 ran = subprocess.run([PROGRAM, *words.split()], cwd=room.path, stdin=subprocess.DEVNULL,

@@ -59,6 +59,19 @@ class ClosedStreamsTest(ProgramTest):
         """Nothing is reported, and nothing is lost."""
         self.sessions("2>&-", ENTRIES, 0, REPLIES, b"")
 
+    def test_a_persons_console(self):
+        """It greets, and ends at its first read; nothing is carried out if it can't greet; errors aren't missed."""
+        greeting = b"4000 places; next is 0000; help lists the words\n"
+        for closed, status, output, error, kept in [
+            ("<&-", 1, greeting, READ, b""), (">&-", 1, b"", CANNOT, b""), ("<&- >&-", 1, b"", CANNOT, b""),
+            ("2>&-", 0, greeting + b"00700  ~999\n", b"", FIRST), ("<&- >&- 2>&-", 1, b"", b"", b""),
+        ]:
+            journal = self.folder / "a journal"
+            journal.unlink(missing_ok=True)
+            ran = shell(f'"$0" operate --journal "$1" {closed}', journal, lines=b"deposit 700 ~999\nquit\n")
+            self.expect(f"operate {closed}", ran, status, output, error)
+            self.holds(f"operate {closed}: the journal", journal, HEAD + kept)
+
     def test_what_is_reported_of_a_cut_line_goes_into_no_file(self):
         """With standard error closed, resume cuts an unfinished line off and writes only entries."""
         journal = self.folder / "a journal"

@@ -48,9 +48,12 @@ class Statuses(ProgramTest):
     def test_misuse_ends_with_2(self):
         """It says why, and nothing is written to standard output."""
         usage, number, tip = "console [OPTIONS]", "'--size <N>'", "  tip: a similar subcommand exists: 'console'"
+        near = "  tip: a similar argument exists: '--fit'"
         for words, error in [
             (["console", "--bad"], misuse("unexpected argument '--bad' found", usage)),
-            (["console", "--list"], misuse("unexpected argument '--list' found", usage)),
+            (["console", "--xref"], misuse("unexpected argument '--xref' found", usage)),
+            (["console", "--list"],
+             misuse(f"unexpected argument '--list' found\n\n{near}", "console --fit <FEATURES>")),
             (["console", "extra"], misuse("unexpected argument 'extra' found", usage)),
             (["console", "--size", "-1"], misuse("unexpected argument '-1' found", usage)),
             (["console", "--size"], misuse(f"a value is required for {number} but none was supplied")),

@@ -114,6 +114,21 @@ class Pages(ProgramTest):
         self.expect("it", run(["bash", "-c", block[1]], cwd=self.top), 0, replies)
 
 
+class Features(ProgramTest):
+    """The program that FEATURES.md shows."""
+
+    def test_what_it_prints_with_its_features_and_without(self):
+        source, call, paper, fault = re.findall(r"```(?:text|sh)\n(.*?)```", (TOP / "docs/FEATURES.md").read_text(),
+                                                re.DOTALL)[:4]
+        (self.folder / "interest.source").write_text(source)
+        (self.folder / "interest.cards").write_text("12500\n00380\n")
+        words = call.split()[1:]
+        ran = program(*words, cwd=self.folder)
+        self.same("with them", (ran.returncode, ran.stdout.decode()), (0, paper))
+        at = words.index("--fit")
+        self.expect("without", program(*words[:at], *words[at + 2:], cwd=self.folder), 1, "", fault)
+
+
 class Autocoder(ProgramTest):
     """The sources that AUTOCODER.md shows."""
 

@@ -23,13 +23,14 @@ class Examples(ProgramTest):
         self.assertEqual([], [each for each in others if each.split(".")[0].removesuffix("_version_1") not in known])
 
     def test_sessions(self):
-        """Each session, on the image of its name where there is one: its replies, to the byte."""
+        """Each session, on the image of its name where there is one: its replies, to the byte, whatever is fitted."""
         self.assertTrue(examples(".console"))
         for lines in examples(".console"):
             image = lines.with_suffix(".image")
             call = ["load", image] if image.exists() else ["console"]
-            ran = program(*call, lines=lines.read_bytes())
-            self.expect(lines.name, ran, 0, lines.with_suffix(".out").read_bytes())
+            for fitted in [], ["--fit", "all"]:
+                ran = program(call[0], *fitted, *call[1:], lines=lines.read_bytes())
+                self.expect(" ".join([lines.name, *fitted]), ran, 0, lines.with_suffix(".out").read_bytes())
 
     def test_sources(self):
         """Each source: its image and its listing, to the byte."""

@@ -2,7 +2,7 @@
 the console '~' before a graphic is its word mark."""
 import unittest
 
-from tests.session_texts import GRAPHICS, Session, registers, wrong_in
+from tests.session_texts import GRAPHICS, Session, fitted_with_all, registers, wrong_in
 from tests.support import ProgramTest
 
 # The operation, the A field, the B field, the B field afterwards, and whether it overflows.
@@ -262,12 +262,13 @@ def refused():
 
 
 class Fields(ProgramTest):
-    """The operations of the tables, each row at a machine of its own."""
+    """The operations of the tables, each row at a machine of its own, and once more at one with each feature."""
 
     def hold(self, sessions):
-        """A subtest for each session."""
+        """Two subtests for each session."""
         for session in sessions:
-            self.check(session.name, wrong_in(session))
+            for each in session, fitted_with_all(session):
+                self.check(each.name, wrong_in(each))
 
     def test_sums_and_differences(self):
         self.hold(sums())

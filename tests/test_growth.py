@@ -140,6 +140,26 @@ class Growth(ProgramTest):
     def test_a_run_in_the_wider_language(self):
         self.hold_run("ibm")
 
+    def test_a_persons_console(self):
+        """What is shown is a beginning of what is shown with ample memory, up to a fault of a line, or to the end."""
+        sales = EXAMPLES / "sales.source"
+        words = ["operate", sales, "--cards", sales.with_suffix(".cards"), "--switches", "A"]
+        lines = b"until NEXT\nset TOTAL = -5\nbreak 427\nstep 2\nback 1\ndeposit 600 = MLC HEAD,237\nlist\nundo\nprint TOTAL\n"
+        whole = program(*words, lines=lines).stdout
+
+        def operate(how):
+            ran = program(*words, lines=lines, **how)
+            before, fault, _ = ran.stdout.partition(b"? ")
+            if not whole.startswith(before if fault else ran.stdout):
+                return "", f"{ran}"
+            if ran.returncode == 1 and ran.stderr in (MEMORY, NO_LINES, b"ibm1401: session ended: MEMORY\n"):
+                return ran.stderr.decode().split(": ", 1)[1].strip(), ""
+            if (ran.returncode, ran.stderr) == (1, b"") and fault:
+                return "a fault", ""
+            return "without an effect", "" if (ran.returncode, ran.stdout, ran.stderr) == (0, whole, b"") else f"{ran}"
+
+        self.each(operate, "memory refused", "line 0: 1 MEMORY", "session ended: MEMORY", "a fault")
+
 
 if __name__ == "__main__":
     unittest.main()

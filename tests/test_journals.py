@@ -188,6 +188,23 @@ class Synced(ProgramTest):
                 self.hold(f"console {' '.join(words)}, {number}{turned}", ["console", *call], order)
                 self.holds(f"its text, {number}{turned}", path, TEXT)
 
+    def test_a_persons_console(self):
+        """Each entry is synced before its answer; a refused sync ends the console, and the line is in the file."""
+        lines = b"deposit 400 ~A\ndeposit 401 B\n"
+        answers = b"4000 places; next is 0000; help lists the words\n00400  ~A\n00401  B\n"
+        path = self.folder / "kept"
+        for words, order in ([], b"w" + 2 * b"w"), (["--sync"], b"fws" + 2 * b"ws"):
+            path.unlink(missing_ok=True)
+            ran, events = self.noted(["operate", "--journal", path, *words], lines)
+            self.expect(f"operate {' '.join(words)}", ran, 0, answers)
+            self.same(f"operate {' '.join(words)}: its writes and syncs", events.replace(b"r", b""), order)
+        whole = path.read_bytes()
+        path.unlink()
+        ran, _ = self.noted(["operate", "--journal", path, "--sync"], lines, refused=4)
+        self.expect("a sync that is refused", ran, 1, b"...", "ibm1401: session ended: UNKEPT\n")
+        self.check("its answer isn't shown", "00401" if b"00401" in ran.stdout else "")
+        self.holds("its line is in the file", path, whole)
+
     def test_an_image(self):
         image = self.folder / "an image"
         image.write_bytes(b"IMAGE1 4000\n0400 02 ~HI\nEND 0400\n")

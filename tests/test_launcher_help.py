@@ -11,7 +11,7 @@ from pathlib import Path
 sys.dont_write_bytecode = True
 TOP = Path(__file__).resolve().parent.parent
 PROGRAM = Path(os.environ.get("IBM1401", TOP / "crates/ibm1401/out/ibm1401"))
-COMMANDS = ["console", "assemble", "load", "disassemble", "run", "serve", "journal", "resume"]
+COMMANDS = ["console", "assemble", "load", "disassemble", "run", "operate", "serve", "journal", "resume"]
 HELP = [["--help"], ["-h"], ["help"]]
 HELP += [words for name in COMMANDS for words in ([name, "--help"], [name, "-h"], ["help", name])]
 

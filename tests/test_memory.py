@@ -75,10 +75,8 @@ SAYING = {
     "EQUs": (0, lambda number: f"     {label(number):10}EQU  1\n"),
     "short statements": (0, lambda number: "               ORG  0\n"),
 }
-# Literals that differ, and the memory that they take: more than the others, and it doesn't grow. So do the labels of a
-# run, which looks for warnings.
+# Literals that differ, and the memory that they take: more than the others, and it doesn't grow.
 LITERALS_EACH = 18
-LABELS_OF_A_RUN_EACH = 17
 
 
 def with_literals(number):
@@ -89,6 +87,9 @@ def with_literals(number):
 
 # What is done with these.
 OF_STATEMENTS = (["assemble"], ["assemble", "--language", "ibm"])
+# What some of them take at most, by the call, where it is more: for the table of their labels. A run of labels alone
+# looks once more for where they are declared.
+OF_LABELS = {("labelled instructions", "assemble"): 9, ("labelled instructions", "run"): 9, ("labels alone", "run"): 12}
 
 # Calls that hold one segment of an image at a time, each with its status and the image.
 OF_IMAGES = {
@@ -207,11 +208,19 @@ class MemoryTest(unittest.TestCase):
             small, large = again(SHORTER_BYTES // 4, line), again(SHORTER_BYTES, line)
             for call in OF_STATEMENTS:
                 with self.subTest(f"{name}: {' '.join(call)}"):
-                    self.expect_few(status, small, large, *call, "file")
+                    most = OF_LABELS.get((name, call[0]), MOST_EACH)
+                    self.expect_few(status, small, large, *call, "file", most=most)
 
-    def test_the_labels_of_a_run_take_no_more_than_they_do(self):
-        small, large = again(SHORTER_BYTES // 4, labelled), again(SHORTER_BYTES, labelled)
-        self.expect_few(0, small, large, "run", "file", most=LABELS_OF_A_RUN_EACH)
+    def test_a_run_of_them_reports_faults_a_page_after_the_other(self):
+        for name, (status, line) in SAYING.items():
+            small, large = again(SHORTER_BYTES // 4, line), again(SHORTER_BYTES, line)
+            with self.subTest(name):
+                self.expect_few(status, small, large, "run", "file", most=OF_LABELS.get((name, "run"), MOST_EACH))
+
+    def test_all_faults_take_a_few_bytes_a_byte(self):
+        status, line = SAYING["lines of one byte"]
+        small, large = again(SHORTER_BYTES // 4, line), again(SHORTER_BYTES, line)
+        self.expect_few(status, small, large, "assemble", "--all", "file")
 
     def test_literals_take_no_more_than_they_do(self):
         small, large = again(1_000, with_literals), again(SHORTER_BYTES, with_literals)

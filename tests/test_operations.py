@@ -22,6 +22,15 @@ def rows(module):
     return re.findall(r"^    \(b'.', (\w+)", text[text.index("static ROWS"):], re.MULTILINE)
 
 
+def unfeatured():
+    """The names of the mnemonics whose operations no feature has."""
+    text = (TABLE / "unfitted.rt").read_text()
+    named = dict(re.findall(r"^    \(b'(.)', (\w+)\)", text[text.index("static ROWS"):], re.MULTILINE))
+    fitted = (TABLE / "fitted.rt").read_text()
+    claimed = set(re.findall(r"\(\s*b'(.)',", fitted[fitted.index("static ROWS"):]))
+    return {name for graphic, name in named.items() if graphic not in claimed}
+
+
 def words(language):
     """The mnemonics for which the page has a word in this language, in its order."""
     text = (TOP / f"page/script/texts_{language}.js").read_text()
@@ -47,9 +56,10 @@ class Operations(ProgramTest):
         self.same("mnemonics", len(set(mnemonics().values())), 50)
 
     def test_the_page_has_a_word_for_each_operation(self):
-        """It shows what the machine carries out, so it needs no word for what isn't fitted."""
-        unfitted = set(rows("unfitted"))
-        wanted = [columns for name, columns in mnemonics().items() if name not in unfitted]
+        """It shows what a machine carries out, so it needs no word for what no feature has: units and `X`."""
+        without = unfeatured()
+        self.same("of no feature", sorted(without), ["CONTROL_UNIT", "MOVE_AND_INSERT_ZEROS"])
+        wanted = [columns for name, columns in mnemonics().items() if name not in without]
         for language in ("english", "german"):
             self.same(language, missing_and_extra(words(language), wanted), ([], [], []))
 

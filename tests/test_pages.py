@@ -278,7 +278,8 @@ class Ends(Pages):
         self.holds("but the line is kept", new, b"JOURNAL1 4000\n1\t1\tSTART 0002\tOK\n")
 
     def test_a_console_that_takes_the_last_handle(self):
-        room = self.pages(1, **at_most(6))
+        # Five are open, and the system sets one aside for each port whose next client is waited for.
+        room = self.pages(1, **at_most(7))
         room.settle(5)
         with room.console() as console:
             self.same("it is answered", console.say(b"EXAMINE 0\n"), b" \n")

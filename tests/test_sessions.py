@@ -1,7 +1,7 @@
 """Sessions at a console: those of tests/sessions/, a test each, and what each character does as an instruction."""
 import unittest
 
-from tests.session_texts import GRAPHICS, Session, read_sessions, registers, wrong_in
+from tests.session_texts import GRAPHICS, Session, fitted_with_all, read_sessions, registers, wrong_in
 from tests.support import TESTS, ProgramTest
 from tests.texts import add_cases
 
@@ -26,6 +26,20 @@ DOES = {
     "@%U89PXW#": "FFFFFFFF",
 }
 NO_OPERATION = "OOOOOOOO"
+# What those do that features change, on a machine with each of them. One field alone leaves no place for a multiplier or
+# a quotient, and has no end of a record.
+DOES_WITH_ALL = {
+    "B": "cLLbcLLc",
+    "V": "cLLLLLLb",
+    "Q": "ALLcLLLL",
+    "H": "ALLcLLcL",
+    ".": "hhhjhhhh",
+    "@": "ALLoLLoL",
+    "%P": "ALLALLAL",
+    "#": "ALLcLLcL",
+    "W": "cLLLLLLc",
+    "89": "cLLLLLLL",
+}
 # The stop of each letter, and where the machine goes on: after the instruction, after seven characters, at 700 or at
 # 600.
 OUTCOMES = {
@@ -37,6 +51,7 @@ OUTCOMES = {
     "r": ("03 READER STEPS 0", 600),
     "O": ("07 OPCODE STEPS 0", 600),
     "L": ("08 LENGTH STEPS 0", 600),
+    "A": ("09 ADDRESS STEPS 0", 600),
     "o": ("10 OVERLAP STEPS 0", 600),
     "g": ("11 CARRIAGE STEPS 0", 600),
     "F": ("12 NOTFITTED STEPS 0", 600),
@@ -44,9 +59,10 @@ OUTCOMES = {
 }
 
 
-def outcomes(char):
+def outcomes(char, features=None):
     """The character as an instruction of each length, with a word mark after it."""
-    row = next((row for chars, row in DOES.items() if char in chars), NO_OPERATION)
+    rows = [*(DOES_WITH_ALL.items() if features else ()), *DOES.items()]
+    row = next((row for chars, row in rows if char in chars), NO_OPERATION)
     for length, letter in zip(range(1, 9), row, strict=True):
         stop, place = OUTCOMES[letter]
         place = 600 + length if place == "after" else place
@@ -54,7 +70,7 @@ def outcomes(char):
         given = [f"DEPOSIT {at} ~5" for at in (0, 700, 710)]
         given += [f"DEPOSIT 601 {text[: length - 1]}~{text[length - 1 :]}", f"DEPOSIT 600 ~{char}", "START 600"]
         given = [*((line, "OK") for line in given), ("RUN 1", f"STOP {stop} I {place:05}")]
-        yield Session(f"{char!r}, {length} characters", 1400, given)
+        yield Session(f"{char!r}, {length} characters", 1400, given, features)
 
 
 def channels():
@@ -85,6 +101,17 @@ class SessionsOfTables(ProgramTest):
         for char in GRAPHICS:
             for session in outcomes(char):
                 self.check(session.name, wrong_in(session))
+
+    def test_the_same_on_a_machine_with_each_feature(self):
+        for char in GRAPHICS:
+            for session in outcomes(char, "all"):
+                self.check(session.name, wrong_in(session))
+
+    def test_the_sessions_of_the_basic_machine_on_one_with_each_feature(self):
+        for file in FILES:
+            for session in read_sessions(file.read_text()):
+                if not session.features:
+                    self.check(f"{file.name}: {session.name}", wrong_in(fitted_with_all(session)))
 
     def test_the_channels_are_met_at_their_lines_alone(self):
         self.assertEqual([], wrong_in(channels()))

@@ -16,14 +16,15 @@
 
 pub mod assembly; // the passes, in their order
 pub mod tables; // an assembly with its symbol table and its cross-reference
-pub mod rows; // an image with the rows of its listing
-pub mod program; // the same with the symbols
+pub mod program; // an image with the rows of its listing and its symbols
+pub mod placing_line; // the line that placed cells
 pub mod listed; // the listing, ready to be written
 pub mod all_faults; // all faults of a source
 pub mod explaining; // all faults of a source, each with what is wrong
 pub mod outside; // what of a line isn't in core
 pub mod warning; // likely mistakes in a source without a fault
-pub mod messages; // faults and warnings as editors read them
+pub mod messages; // what is wrong at a fault, and warnings as editors read them
+pub mod fault_texts; // faults as editors read them
 
 pub use all_faults::faults;
 pub use assembly::{Assembly, assemble, assemble_image, assemble_in};
@@ -32,12 +33,16 @@ pub use autocoder_listing::listing::{Listing, ListingLine};
 pub use autocoder_listing::rows::{Row, Rows};
 pub use autocoder_listing::symbol_table::Symbol;
 pub use autocoder_listing::writing::{ReadyListing, write_listing};
+pub use autocoder_statements::Language;
 pub use autocoder_symbols::fault::{AsmFault, AsmKind};
 pub use explaining::explained_faults;
+pub use fault_texts::{FaultPages, fault_help, fault_lines};
 pub use listed::assemble_listing;
-pub use machine_image::{Image, ImageFault, Segment, Segments, read_image, write_image};
-pub use messages::{fault_help, fault_lines, warning_lines};
+pub use machine_image::{
+    Image, ImageFault, LentImage, Segment, Segments, lend_image, read_image, write_image,
+};
+pub use messages::warning_lines;
+pub use placing_line::line_placing;
 pub use program::{AssemblyProgram, assemble_program};
-pub use rows::{AssemblyRows, assemble_rows};
 pub use tables::{AssemblyTables, assemble_with_tables};
-pub use warning::{Warning, WarningKind, warnings};
+pub use warning::{Asked, Warning, WarningKind, asked_warnings, warnings};

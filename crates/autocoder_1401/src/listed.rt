@@ -15,29 +15,12 @@ ghost use Rattle.autocoder_1401.specs.Assembly.{assembly_in, assembly_of};
 ghost use Rattle.autocoder_1401.specs.Languages.{AgreesWithPlain};
 
 use autocoder_faults::FaultlessLines;
-use autocoder_image::make_image;
+use autocoder_image::check_places;
 use autocoder_listing::{ReadyListing, ready_listing};
 use autocoder_placing::{Placing, place_all};
 use autocoder_statements::Language;
 use autocoder_symbols::{AsmFault, Chains, Lines, SourceHashing};
 use std::alloc::Global;
-
-/// Looks whether all of lines is in core storage of this size, once all is placed.
-fn check_places(
-    alloc: Global,
-    all: &Placing<'_>,
-    lines: &Lines<'_>,
-    size: u16,
-) -> Result<(), AsmFault>
-    requires few { length lines.now < 2 ^ 32 }
-    requires placed { places_of all.now ≡ placed lines.now }
-    ensures inside { OnOk result (first_outside size lines.now ≡ None) }
-    ensures outside { IfErr result (λ fault. IsMemory fault
-        ⊎ ((first_outside size lines.now ≡ Some fault) × IsFirstOutside size lines.now fault)) }
-{
-    let _image = make_image(alloc, all, lines, size)?;
-    Ok(())
-}
 
 /// The listing of the lines of this source, once all is placed.
 fn placed_listing(

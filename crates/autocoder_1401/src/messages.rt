@@ -1,9 +1,8 @@
-//! The faults and the warnings of a source, as editors read them.
+//! What is wrong at a fault in a few words, and the warnings of a source, as editors read them.
 
 use crate::outside::{Outside, OutsidePart, outside_of};
 use autocoder_diagnostics::{Cause, Explanation};
-use autocoder_statements::{LABEL_LENGTH, Language, OperandFlaw, Stretch, split_line};
-use autocoder_symbols::AsmFault;
+use autocoder_statements::{LABEL_LENGTH, Language, OperandFlaw, Stretch};
 use autocoder_warnings::{Loss, Overlap, Warning, WarningKind};
 use std::alloc::{AllocError, Global};
 use std::str;
@@ -179,7 +178,7 @@ fn suffix_below(line: &[u8], suffix: Option<u8>) -> Option<u8> {
 }
 
 /// The same in this language: the plain one has no SFX.
-fn suffix_in(language: Language, line: &[u8], suffix: Option<u8>) -> Option<u8> {
+pub(crate) fn suffix_in(language: Language, line: &[u8], suffix: Option<u8>) -> Option<u8> {
     match language {
         Language::Plain => None,
         Language::Ibm => suffix_below(line, suffix),
@@ -226,7 +225,7 @@ fn outside_text(alloc: Global, size: u16, outside: Outside) -> Result<String, Al
 }
 
 /// What isn't in core of this size in a source of this language.
-fn outside_help(
+pub(crate) fn outside_help(
     alloc: Global,
     language: Language,
     source: &[u8],
@@ -242,7 +241,7 @@ fn outside_help(
 }
 
 /// What is wrong at a fault of this line, in a few words.
-fn help_of(
+pub(crate) fn help_of(
     alloc: Global,
     language: Language,
     explanation: Explanation,
@@ -314,75 +313,6 @@ fn help_of(
         Cause::AfterEnd => "only comments may follow END",
     };
     String::from_str(alloc, help)
-}
-
-/// What is wrong at a fault of this line of a source, in a few words.
-fn help_at(
-    alloc: Global,
-    language: Language,
-    source: &[u8],
-    size: u16,
-    explanation: Explanation,
-    line: &[u8],
-    suffix: Option<u8>,
-) -> Result<String, AllocError> {
-    match explanation.cause {
-        Cause::OutOfCore => outside_help(alloc, language, source, size),
-        _ => help_of(alloc, language, explanation, line, suffix),
-    }
-}
-
-/// What is wrong at a fault of a source, for core storage of this size, in a few words: `MLL isn't an operation; did you
-/// mean MLC?`.
-pub fn fault_help(
-    alloc: Global,
-    language: Language,
-    source: &[u8],
-    size: u16,
-    explanation: Explanation,
-) -> Result<String, AllocError> {
-    let mut line: &[u8] = &[];
-    let mut suffix = None;
-    let mut rest = source;
-    for _ in 0..explanation.fault.line {
-        suffix = suffix_in(language, line, suffix);
-        (line, rest) = split_line(rest).unwrap_or((&[], &[]));
-    }
-    help_at(alloc, language, source, size, explanation, line, suffix)
-}
-
-/// A line for each fault of the source of this file, for core storage of this size: `sales.source:4:16: OPERATION: ..`.
-pub fn fault_lines(
-    alloc: Global,
-    file: &str,
-    language: Language,
-    source: &[u8],
-    size: u16,
-    faults: &[Explanation],
-) -> Result<String, AllocError> {
-    let mut lines = String::new(alloc);
-    let mut text: &[u8] = &[];
-    let mut suffix = None;
-    let (mut passed, mut rest) = (0, source);
-    for explanation in faults {
-        let AsmFault { line, kind } = explanation.fault;
-        for _ in passed..line {
-            suffix = suffix_in(language, text, suffix);
-            (text, rest) = split_line(rest).unwrap_or((&[], &[]));
-        }
-        passed = line;
-        let Stretch { column, .. } = explanation.columns;
-        // A kind is printed as its number and its name.
-        let kind = format!(in alloc; "{kind}")?;
-        let name = kind
-            .as_str()
-            .split_once(' ')
-            .map_or(kind.as_str(), |(_, name)| name);
-        let help = help_at(alloc, language, source, size, *explanation, text, suffix)?;
-        let shown = format!(in alloc; "{file}:{line}:{column}: {name}: {help}\n")?;
-        lines.push_str(shown.as_str())?;
-    }
-    Ok(lines)
 }
 
 /// The column of a line at which a warning of the kind is reported: the first of the field that it is about.

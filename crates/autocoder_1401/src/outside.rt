@@ -7,7 +7,7 @@ ghost use Rattle.autocoder_symbols.specs.View.{chains_view};
 ghost use Rattle.autocoder_placing.specs.Values.{is_in_core};
 
 use autocoder_faults::FaultlessLines;
-use autocoder_placing::{Placing, contents_length, may_name_unit, place_all};
+use autocoder_placing::{LiteralKey, Placing, contents_length, may_name_unit, place_all};
 use autocoder_statements::{
     Address, Addressing, Base, Description, Language, Literal, Next, Operand, OperandField, Point,
 };
@@ -129,10 +129,9 @@ fn pending_length(so_far: &Placing<'_>) -> Result<i64, AsmFault>
     ensures err { IfErr result IsMemory }
 {
     let mut length = 0;
-    for i in so_far.addresses.len()..so_far.literals.len() {
-        if let Some(literal) = so_far.literals.get_index(i) {
-            length = checked_sum(length, i64::from(literal.len()))?;
-        }
+    for i in so_far.literals_placed()..so_far.literals_used() {
+        let literal = LiteralKey::from_literal(so_far.literal(i));
+        length = checked_sum(length, i64::from(literal.len()))?;
     }
     Ok(length)
 }
@@ -239,7 +238,7 @@ fn outside_in(
     ensures err { IfErr result IsMemory }
 {
     let all = place_all(alloc, hashing, chains, lines)?;
-    let mut so_far = Placing::new(alloc, hashing, chains);
+    let mut so_far = all.again(alloc);
     for i in 0..lines.len() {
         let line = lines.line(i);
         let Some(statement) = &line.statement else {

@@ -41,7 +41,6 @@ pub struct AssemblyProgram {
 /// The image, the rows and the symbols of lines, once all is placed.
 fn make_assembly_program(
     alloc: Global,
-    hashing: SourceHashing,
     all: &Placing<'_>,
     lines: &Lines<'_>,
     size: u16,
@@ -57,7 +56,7 @@ fn make_assembly_program(
 {
     let image = make_image(alloc, all, lines, size)?;
     let rows = make_rows(alloc, all, lines)?;
-    let symbols = make_symbols(alloc, hashing, all, lines)?;
+    let symbols = make_symbols(alloc, all, lines)?;
     Ok(AssemblyProgram {
         image,
         rows,
@@ -83,11 +82,11 @@ fn faultless_program(
         ⊎ ((first_outside size lines.now ≡ Some fault) × IsFirstOutside size lines.now fault)) }
 {
     let all = place_all(alloc, hashing, chains, lines)?;
-    make_assembly_program(alloc, hashing, &all, lines, size)
+    make_assembly_program(alloc, &all, lines, size)
 }
 
 /// The core image of a source in this language, as `assemble_image` answers it, with the rows of its listing that have
-/// an address, as `assemble_rows` makes them, and with its symbols: what a person names places of the program by.
+/// an address and with its symbols: what a person names places of the program by.
 ///
 /// # Errors
 ///

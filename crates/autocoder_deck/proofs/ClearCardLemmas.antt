@@ -19,13 +19,13 @@ use Rattle.machine_operations.specs.declared.operation.Operation.TheVariants as 
 use Rattle.cpu_1401.specs.RegisterStep.{stored}
 use Rattle.cpu_1401.specs.State.{State, power_on}
 use Rattle.cpu_1401.specs.Stepped.{step_to}
-use Rattle.autocoder_deck.specs.Loading.{Leads, loaded}
+use Rattle.autocoder_deck.specs.Loading.{loaded}
 use Rattle.autocoder_deck.proofs.AddressLemmas.{effective_is, tens_again, value_again}
 use Rattle.autocoder_deck.proofs.PlacesLemmas.{blanks_cleared, chars_over, with_marks}
 use Rattle.autocoder_deck.proofs.ProgramLemmas.{in_front, instruction, pair_len_by, set_two, spelled, with_card}
 use Rattle.autocoder_deck.proofs.StepLemmas.{Leaves, both_true, clear_step, cleared_down, compare_step, is_there}
 use Rattle.autocoder_deck.proofs.StepLemmas.{machine}
-use Rattle.autocoder_deck.proofs.StepLemmas.{one_step, store_step, unequal_read}
+use Rattle.autocoder_deck.proofs.StepLemmas.{LeadsPlainly, one_step, store_step, unequal_read}
 
 -- the first card: the columns in front of the address in the instruction that clears, and those after it
 abbrev pub clear_front : List ℕ
@@ -149,8 +149,8 @@ looked unequal low high = record (power_on 0) { unequal = unequal; low = low; hi
 
 -- a hundred is cleared, and the place of the next one is stored
 round : (last : State) (m : State) (hopper : List Card) (n k a b : ℕ) → 100 * k + 199 < 81 + n → 100 * k + 199 < 16000
-    → ((c d : ℕ) → Leads (machine m hopper (with_first_card first_marks (100 * k + 99) n) 44 c d) last)
-    → Leads (machine m hopper (with_first_card first_marks (100 * k + 199) n) 36 a b) last
+    → ((c d : ℕ) → LeadsPlainly (machine m hopper (with_first_card first_marks (100 * k + 99) n) 44 c d) last)
+    → LeadsPlainly (machine m hopper (with_first_card first_marks (100 * k + 199) n) 36 a b) last
 unfolding graphics
 round last m hopper n k a b few fits more =
     let y = 100 * k + 199 in
@@ -211,7 +211,7 @@ others_differ x n other =
 -- at 099 the machine goes on after the branch
 goes_on : (last : State) (hopper : List Card) (n c d : ℕ) → Leaves last hopper (with_first_card first_marks 99 n) 56
     → (unequal low high : Bool)
-    → Leads (machine (looked unequal low high) hopper (with_first_card first_marks 99 n) 44 c d) last
+    → LeadsPlainly (machine (looked unequal low high) hopper (with_first_card first_marks 99 n) 44 c d) last
 unfolding graphics
 goes_on last hopper n c d more unequal low high =
     let here = with_marks first_marks 0 (0 ∷ clear_chars 99) in
@@ -229,9 +229,9 @@ goes_on last hopper n c d more unequal low high =
 -- at any other place it goes back
 goes_back : (last : State) (hopper : List Card) (n x c d : ℕ) → (x ≡ 99 → ⊥)
     → ((unequal low high : Bool) (a b : ℕ)
-    → Leads (machine (looked unequal low high) hopper (with_first_card first_marks x n) 36 a b) last)
+    → LeadsPlainly (machine (looked unequal low high) hopper (with_first_card first_marks x n) 36 a b) last)
     → (unequal low high : Bool)
-    → Leads (machine (looked unequal low high) hopper (with_first_card first_marks x n) 44 c d) last
+    → LeadsPlainly (machine (looked unequal low high) hopper (with_first_card first_marks x n) 44 c d) last
 unfolding graphics
 goes_back last hopper n x c d other more unequal low high =
     let here = with_marks first_marks 0 (0 ∷ clear_chars x) in
@@ -252,7 +252,7 @@ goes_back last hopper n x c d other more unequal low high =
 -- all hundreds from one down to 100
 all_hundreds : (last : State) (hopper : List Card) (n k : ℕ) → 100 * k + 199 < 81 + n → 100 * k + 199 < 16000
     → Leaves last hopper (with_first_card first_marks 99 n) 56 → (unequal low high : Bool) (a b : ℕ)
-    → Leads (machine (looked unequal low high) hopper (with_first_card first_marks (100 * k + 199) n) 36 a b) last
+    → LeadsPlainly (machine (looked unequal low high) hopper (with_first_card first_marks (100 * k + 199) n) 36 a b) last
 all_hundreds last hopper n zero few fits more unequal low high a b =
     round last (looked unequal low high) hopper n 0 a b few fits
     (λ c d. goes_on last hopper n c d more unequal low high)
@@ -260,7 +260,7 @@ all_hundreds last hopper n (suc k) few fits more unequal low high a b =
     let next : 100 * k + 199 ≡ 100 * suc k + 99 = omega arith in
     round last (looked unequal low high) hopper n (suc k) a b few fits
     (subst (λ (x : ℕ). (c d : ℕ)
-    → Leads (machine (looked unequal low high) hopper (with_first_card first_marks x n) 44 c d) last) next
+    → LeadsPlainly (machine (looked unequal low high) hopper (with_first_card first_marks x n) 44 c d) last) next
     (λ c d. goes_back last hopper n (100 * k + 199) c d (λ e. omega arith)
     (all_hundreds last hopper n k (omega arith) (omega arith) more) unequal low high))
 
@@ -277,8 +277,8 @@ program_card address n =
 -- the first card, from the load key to the read of the next card
 pub first_card : (last : State) (hopper : List Card) (n k : ℕ) → 81 + n ≡ 100 * k + 200 → 81 + n ≤ 16000
     → Leaves last hopper (with_first_card first_marks 99 n) 56
-    → Leads (loaded (81 + n) (record { 0 = clear_chars (100 * k + 199) } ∷ hopper)) last
+    → LeadsPlainly (loaded (81 + n) (record { 0 = clear_chars (100 * k + 199) } ∷ hopper)) last
 first_card last hopper n k size most more =
-    subst (λ (s : Storage). Leads (machine (power_on 0) hopper s 1 0 0) last) (sym (program_card (100 * k + 199) n))
+    subst (λ (s : Storage). LeadsPlainly (machine (power_on 0) hopper s 1 0 0) last) (sym (program_card (100 * k + 199) n))
     (marks_set last hopper (100 * k + 199) n
     (all_hundreds last hopper n k (omega arith) (omega arith) more false false false) 0 0)

@@ -13,12 +13,12 @@ use Rattle.devices_1401.specs.declared.card.Card.{Card}
 use Rattle.devices_1401.specs.Devices.{no_cards}
 use Rattle.fields_1401.specs.Marks.{cleared}
 use Rattle.machine_operations.specs.declared.operation.Operation.TheVariants as op
-use Rattle.cpu_1401.specs.Run.{run_for}
+use Rattle.cpu_1401.specs.Run.{plain_run_for}
 use Rattle.cpu_1401.specs.State.{State, power_on}
 use Rattle.cpu_1401.specs.Stepped.{step_to}
 use Rattle.autocoder_deck.specs.Card.{CellCard, cards_from, fitting, more_columns, most_marks}
 use Rattle.autocoder_deck.specs.Contents.{is_blank}
-use Rattle.autocoder_deck.specs.Loading.{Leads, loaded}
+use Rattle.autocoder_deck.specs.Loading.{loaded}
 use Rattle.autocoder_deck.proofs.AddressLemmas.{effective_is}
 use Rattle.autocoder_deck.proofs.BroughtLemmas.{blank_next, covered_next, fitting_most, only_blanks, part_filled}
 use Rattle.autocoder_deck.proofs.BroughtLemmas.{same_blank}
@@ -28,7 +28,7 @@ use Rattle.autocoder_deck.proofs.FittingLemmas.{fitting_columns, fitting_marks}
 use Rattle.autocoder_deck.proofs.LoaderCardLemmas.{loader_card, loader_chars, loader_left, loader_marks}
 use Rattle.autocoder_deck.proofs.PlacesLemmas.{cells_in_front, chars_over, with_marks}
 use Rattle.autocoder_deck.proofs.ProgramLemmas.{in_front, instruction, read_next, spelled, with_card}
-use Rattle.autocoder_deck.proofs.StepLemmas.{Leaves, clear_and_branch_step, cleared_down, machine, one_step}
+use Rattle.autocoder_deck.proofs.StepLemmas.{LeadsPlainly, Leaves, clear_and_branch_step, cleared_down, machine, one_step}
 
 -- what follows the cards, with one cell more
 abbrev Filled : State → List Card → ℕ → Storage → Cell → List Cell → Type 0
@@ -108,8 +108,8 @@ card_cleared start rest =
     cells_in_front (with_marks loader_marks 0 (0 ∷ start_chars start)) rest 80 81 (λ i. blank) (omega arith)
 
 no_more_steps : (storage : Storage) (start : ℕ) (beyond : List Card) (a b : ℕ)
-    → Leads (machine (power_on 0) beyond storage start a b) (ready storage start beyond)
-unfolding run_for
+    → LeadsPlainly (machine (power_on 0) beyond storage start a b) (ready storage start beyond)
+unfolding plain_run_for
 no_more_steps storage start beyond a b = record { steps = 0; a = a; b = b; run = refl }
 
 -- it clears the places of the card and branches
@@ -163,14 +163,14 @@ deck_cards size cells start =
 -- there, and the cards after it in the hopper.
 pub deck_loads : (size : ℕ) (cells : List Cell) (start k : ℕ) → size ≡ 100 * k + 200 → size ≤ 16000
     → size ≡ 81 + length cells → (beyond : List Card)
-    → Leads (loaded size (deck_cards size cells start ++ beyond)) (ready (blanks 81 ++ cells) start beyond)
+    → LeadsPlainly (loaded size (deck_cards size cells start ++ beyond)) (ready (blanks 81 ++ cells) start beyond)
 deck_loads size cells start k hundreds most all beyond =
     let last = ready (blanks 81 ++ cells) start beyond in
     let later : List Card = later_cards cells start ++ beyond in
     let deck : ℕ → List Card = λ (address : ℕ). record { 0 = clear_chars address } ∷ record { 0 = loader_chars } ∷ later in
     let top : 100 * k + 199 ≡ size - 1 = omega (arith, hundreds) in
-    subst (λ (n : ℕ). Leads (loaded n (deck (size - 1))) last) (sym all)
-    (subst (λ (address : ℕ). Leads (loaded (81 + length cells) (deck address)) last) top
+    subst (λ (n : ℕ). LeadsPlainly (loaded n (deck (size - 1))) last) (sym all)
+    (subst (λ (address : ℕ). LeadsPlainly (loaded (81 + length cells) (deck address)) last) top
     (first_card last (record { 0 = loader_chars } ∷ later) (length cells) k (omega (arith, hundreds, all))
     (omega (arith, all, most))
     (loader_card last later (length cells) (length cells - 119) (omega (arith, hundreds, all))

@@ -29,21 +29,40 @@ use Rattle.cpu_1401.specs.FieldStep.{after_clear, after_comparison, after_field}
 use Rattle.cpu_1401.specs.Instruction.{begins_at, instruction_of, length_at}
 use Rattle.machine_operations.specs.Operation.{form_of, has_length, is_unfitted_length, operation_of}
 use Rattle.cpu_1401.specs.RegisterStep.{stored}
-use Rattle.cpu_1401.specs.Run.{one_more, run_for, run_on}
+use Rattle.cpu_1401.specs.FittingLaw.{FittingLaw}
+use Rattle.cpu_1401.specs.Run.{one_more, plain_run_for, run_on}
 use Rattle.cpu_1401.specs.State.{State, power_on}
 use Rattle.cpu_1401.specs.Step.{check_length, check_operation, perform, step}
 use Rattle.cpu_1401.specs.Stepped.{Stepped, step_to, stopped}
+use Rattle.machine_panel.specs.Features.{no_features}
 use Rattle.autocoder_deck.specs.Loading.{Leads, all_carried_out}
 
+-- the same of the steps of a machine without features
+pub record LeadsPlainly (first last : State) : Type 0 where
+  pub steps : ℕ
+  pub a : ℕ
+  pub b : ℕ
+  pub run : plain_run_for steps first ≡ all_carried_out steps (record last { a = a; b = b })
+
+-- with nothing fitted they are those of the machine
+pub leads : FittingLaw → (first last : State) → first.features ≡ no_features → LeadsPlainly first last
+    → Leads first last
+leads law first last none plain = record {
+  steps = plain.steps;
+  a = plain.a;
+  b = plain.b;
+  run = law.plain_run plain.steps first none ∙ plain.run;
+}
+
 -- one step and those after it
-pub one_step : (s t last : State) → step s ≡ step_to t → Leads t last → Leads s last
-unfolding run_for
+pub one_step : (s t last : State) → step s ≡ step_to t → LeadsPlainly t last → LeadsPlainly s last
+unfolding plain_run_for
 one_step s t last e more = record {
   steps = suc more.steps;
   a = more.a;
   b = more.b;
   run =
-      ap (λ (done : Stepped). run_on done (run_for more.steps done.state)) e ∙ ap one_more more.run
+      ap (λ (done : Stepped). run_on done (plain_run_for more.steps done.state)) e ∙ ap one_more more.run
       ∙ ap (λ (n : ℕ). all_carried_out n (record last { a = more.a; b = more.b })) (omega arith);
 }
 
@@ -61,7 +80,7 @@ machine m hopper storage i a b = record m {
 
 -- from a place on, with all indicators off and whatever is in the A and B registers, steps lead to a state
 abbrev pub Leaves : State → List Card → Storage → ℕ → Type 0
-Leaves last hopper storage i = (a b : ℕ) → Leads (machine (power_on 0) hopper storage i a b) last
+Leaves last hopper storage i = (a b : ℕ) → LeadsPlainly (machine (power_on 0) hopper storage i a b) last
 
 -- an instruction of this operation and of this length begins at a place
 pub record IsInstruction (storage : Storage) (at : ℕ) (operation : Operation) (len : ℕ) : Type 0 where

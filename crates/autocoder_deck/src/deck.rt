@@ -14,6 +14,7 @@ use crate::cards::{put_address, put_cards};
 use crate::contents::{CARD_PLACES, first_taken, storage_of};
 use crate::fault::DeckFault;
 use bcd_1401::Cell;
+use cpu_1401::fitting_law;
 use machine_image::Image;
 use std::alloc::{AllocError, Global};
 
@@ -73,6 +74,7 @@ fn checked_deck(alloc: Global, storage: &[Cell], start: u16) -> Result<Vec<u8>, 
     ensures loads { IfOk result (λ text. LoadsItself text.items (length storage.now) storage.now start) }
     ensures err { IfErr result (IsWhyNoDeck storage.now) }
 {
+    fitting_law();
     let (card_area, cells) = storage.split_at(CARD_PLACES);
     if let Some(place) = first_taken(card_area) {
         return Err(DeckFault::Place(place));

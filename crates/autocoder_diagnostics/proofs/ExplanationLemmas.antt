@@ -1,8 +1,8 @@
 -- What is explained is what is told.
-use Rattle.std.proofs.Common.{◌≡◌, ℕ, List, [], ◌∷◌, ◌++◌, length, map, Option, None, Some, refl, sym, ap, ◌∙◌, arith}
-use Rattle.std.proofs.lemmas.List.{map-append}
+use Rattle.std.proofs.Common.{◌≡◌, ℕ, ◌≤◌, List, [], ◌∷◌, ◌++◌, length, map, Option, None, Some, refl, sym, ap, ◌∙◌, arith}
+use Rattle.std.proofs.lemmas.List.{at_drop_all, map-append}
 use Rattle.autocoder_statements.specs.Context.{lines_said}
-use Rattle.autocoder_statements.specs.SourceLine.{columns_of}
+use Rattle.autocoder_statements.specs.SourceLine.{columns_of, lines_of}
 use Rattle.autocoder_statements.specs.declared.language.Language.{Language}
 use Rattle.autocoder_statements.specs.declared.statement.Line.{Line}
 use Rattle.autocoder_statements.proofs.SourceLineLemmas
@@ -13,9 +13,11 @@ use Rattle.autocoder_symbols.specs.declared.fault.AsmKind.{AsmKind}
 use Rattle.autocoder_symbols.proofs.ReadingLemmas.{as_many_said}
 use Rattle.autocoder_diagnostics.specs.ToldFaults.{told_faults, told_end, faults_from, line_faults}
 use Rattle.autocoder_diagnostics.specs.Explanation.{explained, whole_line, explained_from, explained_lines, faults_of}
+use Rattle.autocoder_diagnostics.specs.Explanation.{explained_beyond}
 use Rattle.autocoder_diagnostics.specs.OwnFault.{before_next, nothing_before, told}
 use Rattle.autocoder_diagnostics.specs.declared.explanation.Cause.{Cause}
 use Rattle.autocoder_diagnostics.specs.declared.explanation.Cause.TheVariants as causes
+use Rattle.autocoder_diagnostics.specs.declared.explained_lines.Reached.{Reached}
 use Rattle.autocoder_diagnostics.specs.declared.explanation.Explanation.{Explanation}
 use Rattle.autocoder_diagnostics.specs.declared.own_fault.Before.{Before}
 
@@ -59,3 +61,12 @@ told_lines language sources =
 pub none_told : (language : Language) (sources : List (List ℕ)) → explained_lines language sources ≡ []
     → line_faults language (lines_said language sources) ≡ []
 none_told language sources none = sym (told_lines language sources) ∙ ap faults_of none
+
+-- beyond the last line there is only that no END was found
+pub none_beyond : (language : Language) (declared : Declared) (anywhere : Sites) (lines : List Line) (reached : Reached)
+    → length lines ≤ reached.above
+    → explained_beyond language declared anywhere lines reached
+    ≡ map (whole_line causes.NoEnd) (told_end reached.before)
+none_beyond language declared anywhere lines reached few =
+    at_drop_all (λ (left : List Line). explained_from language declared anywhere lines reached.before left
+    (lines_of reached.rest.now)) lines reached.above few

@@ -1,5 +1,5 @@
 -- What is noted of lines, one by one.
-use Rattle.std.proofs.Common.{◌≡◌, ℕ, ◌+◌, ◌≤◌, Bool, true, false, List, [], ◌∷◌, length, drop, refl, sym, ap, ◌∙◌}
+use Rattle.std.proofs.Common.{◌≡◌, ℕ, ◌+◌, ◌≤◌, Bool, true, false, List, ◌∷◌, length, drop, refl, sym, ap, ◌∙◌}
 use Rattle.std.proofs.lemmas.List.{drop_all}
 use Rattle.std.specs.Prelude.{◌||◌}
 use Rattle.std.specs.List.{list_any}

@@ -1,6 +1,6 @@
 -- What is wrong at a fault, and in which columns (own).
-use Rattle.std.specs.Prelude.{ℕ, ◌-◌, Bool, false, not, ◌&&◌, ◌||◌, nat_lt, if◌then◌else◌, List, [], ◌∷◌, ◌++◌, length}
-use Rattle.std.specs.Prelude.{map, unwrap_or, slice_get, is_some, Option, None, Some}
+use Rattle.std.specs.Prelude.{◌≡◌, ℕ, ◌+◌, ◌-◌, ◌≤◌, Bool, false, not, ◌&&◌, ◌||◌, nat_lt, if◌then◌else◌, List, [], ◌∷◌}
+use Rattle.std.specs.Prelude.{◌++◌, length, map, drop, unwrap_or, slice_get, is_some, Option, None, Some}
 use Rattle.std.specs.Option.{option_map_or, option_or, option_and_then}
 use Rattle.autocoder_statements.specs.AreaLiterals.{DeclaredAreas, areas_of_line}
 use Rattle.autocoder_statements.specs.Description.{describe}
@@ -9,7 +9,7 @@ use Rattle.autocoder_statements.specs.Context.{lines_said}
 use Rattle.autocoder_statements.specs.LanguageFlaw.{columns_in_language, foreign_column_in, operand_flaw_in}
 use Rattle.autocoder_statements.specs.LanguageFlaw.{operation_flaw_in}
 use Rattle.autocoder_statements.specs.Nearness.{is_near, word_in}
-use Rattle.autocoder_statements.specs.SourceLine.{columns_in}
+use Rattle.autocoder_statements.specs.SourceLine.{columns_in, lines_of}
 use Rattle.autocoder_statements.specs.Statement.{label_of_line}
 use Rattle.autocoder_statements.specs.declared.description.Addressing.{Addressing}
 use Rattle.autocoder_statements.specs.declared.description.Addressing.TheVariants as addressing
@@ -43,6 +43,7 @@ use Rattle.autocoder_diagnostics.specs.OwnFault.{before_next, nothing_before, to
 use Rattle.autocoder_diagnostics.specs.declared.explanation.Cause.{Cause}
 use Rattle.autocoder_diagnostics.specs.declared.explanation.Cause.TheVariants as causes
 use Rattle.autocoder_diagnostics.specs.declared.explanation.Explanation.{Explanation}
+use Rattle.autocoder_diagnostics.specs.declared.explained_lines.Reached.{Reached}
 use Rattle.autocoder_diagnostics.specs.declared.own_fault.Before.{Before}
 
 -- in a longer source no label is looked for that a symbol may have been meant for
@@ -285,3 +286,19 @@ explained_lines language sources =
 -- the faults alone
 abbrev pub faults_of : List Explanation → List AsmFault
 faults_of explanations = map (λ (this : Explanation). this.fault) explanations
+
+-- those lines of a source are explained, and the others have these texts
+abbrev pub IsReached : List Line → Reached → Type 0
+IsReached lines reached =
+    (reached.above ≤ length lines) × (reached.before.at.number ≡ reached.above + 1)
+    × (length (drop reached.above lines) ≡ length (lines_of reached.rest.now))
+
+-- the faults of the lines beyond those that are explained
+abbrev pub explained_beyond : Language → Declared → Sites → List Line → Reached → List Explanation
+explained_beyond language declared anywhere lines reached =
+    explained_from language declared anywhere lines reached.before (drop reached.above lines) (lines_of reached.rest.now)
+
+-- those that are left, unless the end has been reached
+abbrev pub explanations_left : Bool → Language → Declared → Sites → List Line → Reached → List Explanation
+explanations_left is_ended language declared anywhere lines reached =
+    if is_ended then [] else explained_beyond language declared anywhere lines reached

@@ -1,3 +1,4 @@
+pub mod Declarations
 pub mod Explanation
 pub mod Noted
 pub mod Notes

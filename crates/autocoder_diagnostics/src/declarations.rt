@@ -1,22 +1,26 @@
-//! What the lines of a source declare: those up to END, and all of them.
+//! What the lines of a source declare: those up to END, and those after it.
 ghost use Rattle.std.specs.Prelude.{◌≡◌, ◌<◌, ◌^◌, length, IfOk, IfErr};
-ghost use Rattle.indexmap.specs.IndexMap.{get};
 ghost use Rattle.autocoder_symbols.specs.Fault.{IsMemory};
 ghost use Rattle.autocoder_symbols.specs.Known.{declared_at};
-ghost use Rattle.autocoder_symbols.specs.Symbols.{same_label, sites_anywhere};
+ghost use Rattle.autocoder_symbols.specs.Symbols.{sites_anywhere};
 ghost use Rattle.autocoder_symbols.specs.View.{symbols_view};
+ghost use Rattle.autocoder_faults.specs.FirstFault.{is_undefined};
+ghost use Rattle.autocoder_diagnostics.specs.Declarations.{anywhere_of};
 
-use autocoder_statements::Language;
-use autocoder_symbols::{AsmFault, Lines, Sites, SourceHashing, Symbols, declared, sites_anywhere};
+use autocoder_faults::first_fault::symbol_in;
+use autocoder_statements::{Label, Language, OperandField};
+use autocoder_symbols::{
+    AsmFault, Declaration, Lines, Sites, SourceHashing, Symbols, declared, sites_beyond_end,
+};
 use std::alloc::Global;
 
-/// What is declared: by the lines up to END, and by all of them.
+/// What is declared.
 #[derive(Drop)]
 pub(crate) struct Declarations {
     /// What the lines up to END declare.
     pub symbols: Symbols,
-    /// Where each symbol is declared, by those after END too.
-    pub anywhere: Sites,
+    /// Where the lines after END declare symbols.
+    pub beyond_end: Sites,
 }
 
 impl Declarations {
@@ -29,11 +33,34 @@ impl Declarations {
     ) -> Result<Declarations, AsmFault>
         requires { length lines.now < 2 ^ 32 }
         ensures symbols { IfOk result (λ this. symbols_view this.symbols ≡ declared_at language lines.now) }
-        ensures anywhere { IfOk result (λ this. get same_label this.anywhere ≡ sites_anywhere lines.now) }
+        ensures anywhere { IfOk result (λ this. anywhere_of this ≡ sites_anywhere lines.now) }
         ensures err { IfErr result IsMemory }
     {
         let symbols = declared(alloc, hashing, language, lines)?;
-        let anywhere = sites_anywhere(alloc, hashing, lines)?;
-        Ok(Declarations { symbols, anywhere })
+        let beyond_end = sites_beyond_end(alloc, hashing, lines)?;
+        Ok(Declarations {
+            symbols,
+            beyond_end,
+        })
+    }
+
+    /// Where a symbol is declared, by the lines after END too.
+    pub(crate) fn anywhere(&self, label: Label) -> Option<Declaration>
+        ensures { result ≡ anywhere_of self.now label }
+    {
+        match self.symbols.sites.get(&label).copied() {
+            Some(declaration) => Some(declaration),
+            None => self.beyond_end.get(&label).copied(),
+        }
+    }
+
+    /// Whether an operand's symbol is declared by no line, one after END included.
+    pub(crate) fn is_undefined_anywhere(&self, field: OperandField) -> bool
+        ensures { result ≡ is_undefined (anywhere_of self.now) field }
+    {
+        match symbol_in(field) {
+            Some(label) => self.anywhere(label).is_none(),
+            None => false,
+        }
     }
 }

@@ -1,13 +1,12 @@
 //! The faults of a source's lines, each with what is wrong.
-ghost use Rattle.std.specs.Prelude.{◌≡◌, ◌++◌, ◌<◌, ◌^◌, length, map, IfOk, IfErr, OnOk};
-ghost use Rattle.indexmap.specs.IndexMap.{get};
-ghost use Rattle.autocoder_statements.specs.Context.{lines_said};
+ghost use Rattle.std.specs.Prelude.{◌≡◌, ◌+◌, ◌++◌, ◌<◌, ◌≤◌, ◌^◌, length, map, IfOk, IfErr, OnOk};
 ghost use Rattle.autocoder_statements.specs.SourceLine.{lines_of};
 ghost use Rattle.autocoder_symbols.specs.Fault.{IsMemory};
-ghost use Rattle.autocoder_symbols.specs.Symbols.{same_label};
 ghost use Rattle.autocoder_symbols.specs.View.{symbols_view};
+ghost use Rattle.autocoder_diagnostics.specs.Declarations.{anywhere_of};
 ghost use Rattle.autocoder_diagnostics.specs.Explanation.{explained, explained_from, explained_lines, whole_line};
-ghost use Rattle.autocoder_diagnostics.specs.OwnFault.{nothing_before, told};
+ghost use Rattle.autocoder_diagnostics.specs.Explanation.{explained_beyond, IsReached};
+ghost use Rattle.autocoder_diagnostics.specs.OwnFault.{told};
 ghost use Rattle.autocoder_diagnostics.specs.ToldFaults.{told_end};
 ghost use Rattle.autocoder_diagnostics.specs.declared.explanation.Cause.TheVariants.{NoEnd};
 
@@ -15,10 +14,47 @@ use crate::declarations::Declarations;
 use crate::explanation::{Cause, Explanation, WHOLE_LINE, explain};
 use crate::own_fault::{Before, told_of};
 use autocoder_statements::{Language, Line, split_line};
-use autocoder_symbols::{AsmFault, AsmKind, Lines, SourceHashing, read_lines};
+use autocoder_symbols::{AsmFault, AsmKind, KeptLines, Lines, SourceHashing, read_lines};
 use std::alloc::Global;
+use std::marker::Model;
 
-/// Adds the fault of a line with what is wrong, if one is told of it.
+/// Up to where the lines of a source are explained.
+#[derive(Clone, Copy)]
+pub(crate) struct Reached<'s> {
+    /// How many lines are.
+    pub above: usize,
+    /// What these say of the next.
+    pub before: Before,
+    /// The text of the others.
+    pub rest: &'s [u8],
+}
+
+/// The faults of a source that aren't taken yet, each with what is wrong. Contracts see the list of them.
+#[derive(Drop)]
+pub struct ExplanationPages<'s> {
+    language: Language,
+    lines: KeptLines<'s>,
+    this: Declarations,
+    reached: Reached<'s>,
+    is_ended: bool,
+}
+
+impl<'s> Model for ExplanationPages<'s> {
+    ghost use Rattle.std.specs.Prelude.{◌<◌, ◌^◌, List, length};
+    ghost use Rattle.autocoder_symbols.specs.View.{symbols_view};
+    ghost use Rattle.autocoder_diagnostics.specs.Declarations.{anywhere_of};
+    ghost use Rattle.autocoder_diagnostics.specs.Explanation.{explanations_left, IsReached};
+    ghost use Rattle.autocoder_diagnostics.specs.declared.explanation.Explanation.{Explanation};
+
+    ghost Value = { List Explanation };
+
+    ghost view = { λ pages. explanations_left pages.is_ended pages.language (symbols_view pages.this.symbols)
+        (anywhere_of pages.this) pages.lines pages.reached };
+
+    ghost invariant = { λ pages. IsReached pages.lines pages.reached × (length pages.lines < 2 ^ 32) };
+}
+
+/// Adds the fault of a line with what is wrong, if one is reported.
 fn put_explained(
     language: Language,
     this: &Declarations,
@@ -29,31 +65,22 @@ fn put_explained(
     explanations: &mut Vec<Explanation>,
 ) -> Result<(), AsmFault>
     ensures ok { OnOk result (explanations.new.items ≡ explanations.old.items
-        ++ explained language (symbols_view this.now.symbols) (get same_label this.now.anywhere) lines.now
+        ++ explained language (symbols_view this.now.symbols) (anywhere_of this.now) lines.now
         before.at.number source.now line.now
-        (told (symbols_view this.now.symbols) (get same_label this.now.anywhere) before line.now)) }
+        (told (symbols_view this.now.symbols) (anywhere_of this.now) before line.now)) }
     ensures err { IfErr result IsMemory }
 {
-    if let Some(kind) = told_of(&this.symbols, &this.anywhere, before, line) {
+    if let Some(kind) = told_of(this, before, line) {
         let fault = AsmFault {
             line: before.at.number,
             kind,
         };
-        let explanation = explain(
-            language,
-            &this.symbols,
-            &this.anywhere,
-            lines,
-            fault,
-            source,
-            line,
-        );
-        explanations.push(explanation)?;
+        explanations.push(explain(language, this, lines, fault, source, line))?;
     }
     Ok(())
 }
 
-/// Adds that there is no END, if that is told.
+/// Adds that there is no END, if that is reported.
 fn put_explained_end(before: Before, explanations: &mut Vec<Explanation>) -> Result<(), AsmFault>
     ensures ok { OnOk result (explanations.new.items ≡ explanations.old.items
         ++ map (whole_line NoEnd) (told_end before)) }
@@ -73,71 +100,138 @@ fn put_explained_end(before: Before, explanations: &mut Vec<Explanation>) -> Res
     Ok(())
 }
 
-/// Adds the faults of a source's lines, each with what is wrong.
-fn put_all_explained(
+/// Adds the faults of the next lines, this many at most, and says up to where these are.
+fn put_some<'s>(
     language: Language,
     this: &Declarations,
-    source: &[u8],
     lines: &Lines<'_>,
+    reached: Reached<'s>,
+    most: usize,
     explanations: &mut Vec<Explanation>,
-) -> Result<(), AsmFault>
-    requires as_many { length lines.now ≡ length (lines_of source.now) }
+) -> Result<Reached<'s>, AsmFault>
+    requires reached { IsReached lines.now reached }
     requires few { length lines.now < 2 ^ 32 }
-    ensures ok { OnOk result (explanations.new.items ≡ explanations.old.items
-        ++ explained_from language (symbols_view this.now.symbols) (get same_label this.now.anywhere) lines.now
-        nothing_before lines.now (lines_of source.now)) }
+    ensures ok { IfOk result (λ further. explanations.new.items
+        ++ explained_beyond language (symbols_view this.now.symbols) (anywhere_of this.now) lines.now further
+        ≡ explanations.old.items
+        ++ explained_beyond language (symbols_view this.now.symbols) (anywhere_of this.now) lines.now
+        reached.entry) }
+    ensures reached { IfOk result (IsReached lines.now) }
+    ensures all { length lines.now ≤ reached.entry.above + most
+        → IfOk result (λ further. length lines.now ≤ further.above) }
     ensures err { IfErr result IsMemory }
 {
-    let mut before = Before::NOTHING;
-    let mut sources = source;
-    for i in 0..lines.len() {
+    let Reached {
+        above,
+        mut before,
+        mut rest,
+    } = reached;
+    let to = lines.len().min(above.saturating_add(most));
+    for i in above..to {
         let line = &lines.line(i);
-        let Some((text, beyond)) = split_line(sources) else {
+        let Some((text, beyond)) = split_line(rest) else {
             unreachable!()
         };
         put_explained(language, this, lines, before, text, line, explanations)?;
         before = before.next(&this.symbols, line);
-        sources = beyond;
+        rest = beyond;
     }
-    put_explained_end(before, explanations)
+    Ok(Reached {
+        above: to,
+        before,
+        rest,
+    })
 }
 
-/// The faults of a source's lines that declare this, each with what is wrong.
-fn explanations_by(
-    alloc: Global,
-    language: Language,
-    this: &Declarations,
-    source: &[u8],
-    lines: &Lines<'_>,
-) -> Result<Vec<Explanation>, AsmFault>
-    requires as_many { length lines.now ≡ length (lines_of source.now) }
-    requires few { length lines.now < 2 ^ 32 }
-    ensures ok { IfOk result (λ v. v.items
-        ≡ explained_from language (symbols_view this.now.symbols) (get same_label this.now.anywhere) lines.now
-        nothing_before lines.now (lines_of source.now)) }
-    ensures err { IfErr result IsMemory }
-{
-    let mut explanations = Vec::new(alloc);
-    put_all_explained(language, this, source, lines, &mut explanations)?;
-    Ok(explanations)
+impl<'s> ExplanationPages<'s> {
+    /// Adds the faults of the next lines, this many at most.
+    ///
+    /// # Errors
+    ///
+    /// `Memory` if there is no room for them.
+    #[tactic(auto, using(crate::proofs::ExplanationLemmas::none_beyond))]
+    pub fn put_page(
+        &mut self,
+        most: usize,
+        explanations: &mut Vec<Explanation>,
+    ) -> Result<(), AsmFault>
+        ensures ok { OnOk result (explanations.new.items ++ self.new ≡ explanations.old.items ++ self.old) }
+        ensures err { IfErr result IsMemory }
+    {
+        if self.is_ended {
+            return Ok(());
+        }
+        let lines = self.lines.lend();
+        let further = put_some(
+            self.language,
+            &self.this,
+            &lines,
+            self.reached,
+            most,
+            explanations,
+        )?;
+        if further.above >= lines.len() {
+            put_explained_end(further.before, explanations)?;
+            self.is_ended = true;
+        }
+        self.reached = further;
+        Ok(())
+    }
+
+    /// Adds all that are left.
+    #[tactic(auto, using(crate::proofs::ExplanationLemmas::none_beyond))]
+    fn put_all(&mut self, explanations: &mut Vec<Explanation>) -> Result<(), AsmFault>
+        ensures ok { OnOk result (explanations.new.items ≡ explanations.old.items ++ self.old) }
+        ensures err { IfErr result IsMemory }
+    {
+        if self.is_ended {
+            return Ok(());
+        }
+        let lines = self.lines.lend();
+        let further = put_some(
+            self.language,
+            &self.this,
+            &lines,
+            self.reached,
+            lines.len(),
+            explanations,
+        )?;
+        put_explained_end(further.before, explanations)
+    }
+
+    /// How many lines the source has.
+    pub fn count(&self) -> usize {
+        self.lines.lend().len()
+    }
 }
 
-/// The faults of a source's lines, each with what is wrong.
-fn line_explanations(
+/// The faults of a source, each with what is wrong, but for what isn't in core. They are taken a page after the other.
+///
+/// # Errors
+///
+/// `Memory` if memory is refused or the source is too long.
+pub fn explanation_pages(
     alloc: Global,
-    hashing: SourceHashing,
     language: Language,
     source: &[u8],
-    lines: &Lines<'_>,
-) -> Result<Vec<Explanation>, AsmFault>
-    requires lines { lines.now ≡ lines_said language (lines_of source.now) }
-    requires as_many { length lines.now ≡ length (lines_of source.now) }
-    requires few { length lines.now < 2 ^ 32 }
-    ensures ok { IfOk result (λ v. v.items ≡ explained_lines language (lines_of source.now)) }
+) -> Result<ExplanationPages<'_>, AsmFault>
+    ensures ok { IfOk result (λ pages. pages ≡ explained_lines language (lines_of source.now)) }
     ensures err { IfErr result IsMemory }
 {
-    let this = Declarations::new(alloc, hashing, language, lines)?;
-    explanations_by(alloc, language, &this, source, lines)
+    let lines = read_lines(alloc, language, source)?;
+    let hashing = SourceHashing::from_source(source);
+    let this = Declarations::new(alloc, hashing, language, &lines.lend())?;
+    Ok(ExplanationPages {
+        language,
+        lines,
+        this,
+        reached: Reached {
+            above: 0,
+            before: Before::NOTHING,
+            rest: source,
+        },
+        is_ended: false,
+    })
 }
 
 /// The faults of a source, each with what is wrong, but for what isn't in core.
@@ -153,12 +247,8 @@ pub fn source_explanations(
     ensures ok { IfOk result (λ v. v.items ≡ explained_lines language (lines_of source.now)) }
     ensures err { IfErr result IsMemory }
 {
-    let lines = read_lines(alloc, language, source)?;
-    line_explanations(
-        alloc,
-        SourceHashing::from_source(source),
-        language,
-        source,
-        &lines.lend(),
-    )
+    let mut pages = explanation_pages(alloc, language, source)?;
+    let mut explanations = Vec::new(alloc);
+    pages.put_all(&mut explanations)?;
+    Ok(explanations)
 }

@@ -4,6 +4,7 @@
 //! ```text
 //! source_faults(alloc, language, source)?                     // all that don't only follow from one told before
 //! source_explanations(alloc, language, source)?               // each with what is wrong, and in which columns
+//! explanation_pages(alloc, language, source)?                 // the same, taken a page after the other
 //! ```
 //!
 //! The lowest kind of fault on a line: see `autocoder_faults`. `notes` collects what the lines say of labels, for
@@ -17,7 +18,7 @@ pub mod explanation; // what is wrong at a fault, and in which columns
 pub mod explained_lines; // the same faults, each with what is wrong
 pub mod notes; // what lines say of labels, and which indicators they can set
 
-pub use explained_lines::source_explanations;
+pub use explained_lines::{ExplanationPages, explanation_pages, source_explanations};
 pub use explanation::{Cause, Explanation, WHOLE_LINE};
 pub use notes::{LabelSet, Notes};
 pub use told_faults::source_faults;

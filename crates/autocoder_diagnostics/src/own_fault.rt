@@ -1,19 +1,19 @@
 //! The faults of a line that don't only follow from one told before.
 ghost use Rattle.std.specs.Prelude.{◌≡◌, ◌<◌, ◌^◌, ◌&&◌, ◌||◌, not, is_none};
-ghost use Rattle.indexmap.specs.IndexMap.{get};
-ghost use Rattle.autocoder_symbols.specs.Symbols.{same_label};
 ghost use Rattle.autocoder_symbols.specs.View.{symbols_view};
 ghost use Rattle.autocoder_faults.specs.FirstFault.{is_field, undefined_in};
+ghost use Rattle.autocoder_diagnostics.specs.Declarations.{anywhere_of};
 ghost use Rattle.autocoder_diagnostics.specs.OwnFault.{loses_areas, before_next, is_late, undefined_anywhere, own_in};
 ghost use Rattle.autocoder_diagnostics.specs.OwnFault.{told};
 
+use crate::declarations::Declarations;
 use autocoder_faults::first_fault::{
     LineContext, has_double, has_undefined, is_undefined, lowest_kind,
 };
 use autocoder_statements::{
     Addressing, AreaRole, DeclaredAreas, Description, Line, LineCheck, OperandField, Statement,
 };
-use autocoder_symbols::{AsmKind, Sites, Symbols};
+use autocoder_symbols::{AsmKind, Symbols};
 
 /// What the lines before a line tell of its faults.
 #[derive(Clone, Copy)]
@@ -90,65 +90,63 @@ impl Before {
 }
 
 /// Whether an operand's symbol is the label of lines after END alone.
-fn is_late(symbols: &Symbols, anywhere: &Sites, field: OperandField) -> bool
-    ensures { result ≡ is_late (symbols_view symbols.now) (get same_label anywhere.now) field }
+fn is_late(this: &Declarations, field: OperandField) -> bool
+    ensures { result ≡ is_late (symbols_view this.now.symbols) (anywhere_of this.now) field }
 {
-    is_undefined(&symbols.sites, field) && !is_undefined(anywhere, field)
+    is_undefined(&this.symbols.sites, field) && !this.is_undefined_anywhere(field)
 }
 
 /// Whether a symbol here is the label of no line, those after END included.
-fn is_undefined_anywhere(symbols: &Symbols, anywhere: &Sites, addressing: &Addressing) -> bool
-    ensures { result ≡ undefined_anywhere (symbols_view symbols.now) (get same_label anywhere.now) addressing.now }
+fn is_undefined_anywhere(this: &Declarations, addressing: &Addressing) -> bool
+    ensures { result ≡ undefined_anywhere (symbols_view this.now.symbols) (anywhere_of this.now) addressing.now }
 {
     match *addressing {
         Addressing::Nothing => false,
         Addressing::Addresses(operands) => {
-            is_undefined(anywhere, operands.a) || is_undefined(anywhere, operands.b)
+            this.is_undefined_anywhere(operands.a) || this.is_undefined_anywhere(operands.b)
         },
-        Addressing::EarlierValue(operands) | Addressing::Equal(operands) => !is_late(
-            symbols, anywhere, operands.a,
-        ),
+        Addressing::EarlierValue(operands) | Addressing::Equal(operands) => {
+            !is_late(this, operands.a)
+        },
         Addressing::Value(operands) | Addressing::Entry(operands) => {
-            is_undefined(anywhere, operands.a)
+            this.is_undefined_anywhere(operands.a)
         },
     }
 }
 
 /// Whether a line here with these operands names a symbol that it can't, and not because END is too early.
-fn has_own_undefined(
-    symbols: &Symbols,
-    anywhere: &Sites,
-    number: u64,
-    addressing: &Addressing,
-) -> bool
-    ensures { result ≡ (undefined_in (symbols_view symbols.now) number addressing.now
-        && undefined_anywhere (symbols_view symbols.now) (get same_label anywhere.now) addressing.now) }
+fn has_own_undefined(this: &Declarations, number: u64, addressing: &Addressing) -> bool
+    ensures { result ≡ (undefined_in (symbols_view this.now.symbols) number addressing.now
+        && undefined_anywhere (symbols_view this.now.symbols) (anywhere_of this.now) addressing.now) }
 {
-    has_undefined(symbols, number, addressing)
-        && is_undefined_anywhere(symbols, anywhere, addressing)
+    has_undefined(&this.symbols, number, addressing) && is_undefined_anywhere(this, addressing)
 }
 
 /// The lowest kind of a line's own faults, of a statement up to END with these area literals.
 fn own_in_statement(
-    symbols: &Symbols,
-    anywhere: &Sites,
+    this: &Declarations,
     before: Before,
     areas: DeclaredAreas,
     statement: &Statement,
 ) -> Option<AsmKind>
-    ensures { result ≡ own_in (symbols_view symbols.now) (get same_label anywhere.now) before areas statement.now }
+    ensures { result ≡ own_in (symbols_view this.now.symbols) (anywhere_of this.now) before areas statement.now }
 {
     let row = statement.body.describe();
     if before.at.has_bad_label(statement, &row) {
         return Some(AsmKind::Label);
     }
-    if has_double(&symbols.sites, before.at.number, areas, statement.label) {
+    if has_double(
+        &this.symbols.sites,
+        before.at.number,
+        areas,
+        statement.label,
+    ) {
         return Some(AsmKind::DoubleLabel);
     }
     if before.has_own_bad_operation(&row) {
         return Some(AsmKind::Operation);
     }
-    if has_own_undefined(symbols, anywhere, before.at.number, &row.addressing) {
+    if has_own_undefined(this, before.at.number, &row.addressing) {
         return Some(AsmKind::Undefined);
     }
     if before.at.has_bad_operands(&row) {
@@ -158,16 +156,11 @@ fn own_in_statement(
 }
 
 /// What is told of a line.
-pub(crate) fn told_of(
-    symbols: &Symbols,
-    anywhere: &Sites,
-    before: Before,
-    line: &Line,
-) -> Option<AsmKind>
-    ensures { result ≡ told (symbols_view symbols.now) (get same_label anywhere.now) before line.now }
+pub(crate) fn told_of(this: &Declarations, before: Before, line: &Line) -> Option<AsmKind>
+    ensures { result ≡ told (symbols_view this.now.symbols) (anywhere_of this.now) before line.now }
 {
     if before.is_clean {
-        return lowest_kind(symbols, before.at, line);
+        return lowest_kind(&this.symbols, before.at, line);
     }
     match (line.bytes, &line.statement) {
         (LineCheck::Long, _) => Some(AsmKind::LongLine),
@@ -181,7 +174,7 @@ pub(crate) fn told_of(
             }
         },
         (LineCheck::Good, Some(statement)) => {
-            own_in_statement(symbols, anywhere, before, line.areas(), statement)
+            own_in_statement(this, before, line.areas(), statement)
         },
     }
 }

@@ -1,17 +1,16 @@
 //! The faults of lines, but for those that only follow from one told before.
 ghost use Rattle.std.specs.Prelude.{◌≡◌, ◌++◌, ◌<◌, ◌^◌, length, IfOk, IfErr, OnOk};
-ghost use Rattle.indexmap.specs.IndexMap.{get};
 ghost use Rattle.autocoder_symbols.specs.Fault.{IsMemory};
 ghost use Rattle.autocoder_symbols.specs.Reading.{lines_in};
-ghost use Rattle.autocoder_symbols.specs.Symbols.{same_label};
 ghost use Rattle.autocoder_symbols.specs.View.{symbols_view};
+ghost use Rattle.autocoder_diagnostics.specs.Declarations.{anywhere_of};
 ghost use Rattle.autocoder_diagnostics.specs.OwnFault.{nothing_before};
 ghost use Rattle.autocoder_diagnostics.specs.ToldFaults.{told_faults, told_end, faults_from, line_faults};
 
 use crate::declarations::Declarations;
 use crate::own_fault::{Before, told_of};
 use autocoder_statements::Language;
-use autocoder_symbols::{AsmFault, AsmKind, Lines, Sites, SourceHashing, Symbols, read_lines};
+use autocoder_symbols::{AsmFault, AsmKind, Lines, SourceHashing, read_lines};
 use std::alloc::Global;
 
 /// Adds what is told of a line.
@@ -39,25 +38,20 @@ fn put_end(faults: &mut Vec<AsmFault>, before: Before) -> Result<(), AsmFault>
 
 /// Adds the faults of lines that these declare.
 fn put_faults(
-    symbols: &Symbols,
-    anywhere: &Sites,
+    this: &Declarations,
     lines: &Lines<'_>,
     faults: &mut Vec<AsmFault>,
 ) -> Result<(), AsmFault>
     requires { length lines.now < 2 ^ 32 }
     ensures ok { OnOk result (faults.new.items ≡ faults.old.items
-        ++ faults_from (symbols_view symbols.now) (get same_label anywhere.now) nothing_before lines.now) }
+        ++ faults_from (symbols_view this.now.symbols) (anywhere_of this.now) nothing_before lines.now) }
     ensures err { IfErr result IsMemory }
 {
     let mut before = Before::NOTHING;
     for i in 0..lines.len() {
         let line = &lines.line(i);
-        put_told(
-            faults,
-            before.at.number,
-            told_of(symbols, anywhere, before, line),
-        )?;
-        before = before.next(symbols, line);
+        put_told(faults, before.at.number, told_of(this, before, line))?;
+        before = before.next(&this.symbols, line);
     }
     put_end(faults, before)
 }
@@ -70,11 +64,11 @@ fn faults_by(
 ) -> Result<Vec<AsmFault>, AsmFault>
     requires { length lines.now < 2 ^ 32 }
     ensures ok { IfOk result (λ faults. faults.items
-        ≡ faults_from (symbols_view this.now.symbols) (get same_label this.now.anywhere) nothing_before lines.now) }
+        ≡ faults_from (symbols_view this.now.symbols) (anywhere_of this.now) nothing_before lines.now) }
     ensures err { IfErr result IsMemory }
 {
     let mut faults = Vec::new(alloc);
-    put_faults(&this.symbols, &this.anywhere, lines, &mut faults)?;
+    put_faults(this, lines, &mut faults)?;
     Ok(faults)
 }
 

@@ -104,7 +104,7 @@ pub(crate) fn make_segments(
         ⊎ (first_outside_from size (places_of all.now) 1 (unplaced (places_of all.now)) lines.now ≡ Some fault)) }
 {
     let mut made = SegmentsSoFar {
-        so_far: Placing::new(alloc, all.hashing, all.chains),
+        so_far: all.again(alloc),
         builder: Builder::new(alloc),
     };
     made.put_lines(alloc, all, size, lines)?;

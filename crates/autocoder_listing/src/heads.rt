@@ -1,5 +1,5 @@
 //! What the lines of a listing have besides the lines of the source. It is made before the first of them is written.
-ghost use Rattle.std.specs.Prelude.{◌≡◌, ◌++◌, ◌<◌, ◌^◌, length, None, Some, IfOk, IfErr, OnOk};
+ghost use Rattle.std.specs.Prelude.{◌≡◌, ◌++◌, ◌<◌, ◌^◌, drop, length, None, Some, IfOk, IfErr, OnOk};
 ghost use Rattle.std.specs.List.{flat_map};
 ghost use Rattle.autocoder_symbols.specs.Fault.{IsMemory};
 ghost use Rattle.autocoder_placing.specs.Cells.{literal_cells};
@@ -9,7 +9,7 @@ ghost use Rattle.autocoder_placing.specs.View.{places_of};
 ghost use Rattle.autocoder_listing.specs.Heads.{literals_text, headed, heads_at, heads_from, literals_from};
 ghost use Rattle.autocoder_listing.specs.Listing.{literal_lines, literal_spelling, line_text, listing_line};
 
-use crate::listing::{ListingLine, literal_line, literals_by};
+use crate::listing::{ListingLine, first_literal, literal_line};
 use crate::rows::{Row, row_of};
 use autocoder_placing::{LiteralKey, Placing};
 use autocoder_statements::{Line, Literal};
@@ -64,22 +64,24 @@ fn put_literal(
     put_text(text, &line)
 }
 
-/// Adds the lines of literals that are placed one after the other from a place on.
+/// Adds the lines of the literals that are used here from one on, placed one after the other from a place on.
 fn put_literals(
     alloc: Global,
     all: &Placing<'_>,
     from: i64,
-    literals: &[Literal],
+    so_far: &Placing<'_>,
+    first: usize,
     text: &mut Vec<u8>,
 ) -> Result<(), AsmFault>
-    ensures ok { OnOk result (text.new.items
-        ≡ text.old.items ++ flat_map line_text (literal_lines (places_of all.now) from literals.now)) }
+    ensures ok { OnOk result (text.new.items ≡ text.old.items
+        ++ flat_map line_text (literal_lines (places_of all.now) from (drop first (places_of so_far.now).spellings))) }
     ensures err { IfErr result IsMemory }
 {
     let mut next = from;
-    for literal in literals {
-        put_literal(alloc, all, next, *literal, text)?;
-        next = checked_sum(next, i64::from(LiteralKey::from_literal(*literal).len()))?;
+    for i in first..so_far.literals_used() {
+        let literal = so_far.literal(i);
+        put_literal(alloc, all, next, literal, text)?;
+        next = checked_sum(next, i64::from(LiteralKey::from_literal(literal).len()))?;
     }
     Ok(())
 }
@@ -101,7 +103,8 @@ fn put_literals_of(
     };
     let row = statement.body.describe();
     let from = so_far.start_by(&row)?;
-    put_literals(alloc, all, from, literals_by(so_far, row.next), text)
+    let first = first_literal(so_far, row.next);
+    put_literals(alloc, all, from, so_far, first, text)
 }
 
 /// Adds the head of a row after literals whose lines have this many bytes, if there is a row.
@@ -181,7 +184,7 @@ pub(crate) fn make_heads(
         heads: Vec::with_capacity(alloc, most)?,
         literals: Vec::new(alloc),
     };
-    let mut so_far = Placing::new(alloc, all.hashing, all.chains);
+    let mut so_far = all.again(alloc);
     made.put_lines(alloc, all, &mut so_far, lines)?;
     Ok(made)
 }

@@ -7,7 +7,8 @@
 //! let ready = ready_listing(alloc, &all, source, lines)?;     // the same, made a page after the other
 //! write_listing(ready, source, &mut writer)?
 //! make_rows(alloc, &all, lines)?.line_of(alloc, at, &cells)?  // the line that placed cells
-//! make_symbols(alloc, hashing, &all, lines)?                  // each label with its address
+//! last_placing(alloc, &all, lines, at, &cells)?               // the same, without the rows
+//! make_symbols(alloc, &all, lines)?                           // each label with its address
 //! make_tables(alloc, hashing, &all, lines)?.symbols           // a line for each label
 //! ```
 //!
@@ -18,6 +19,7 @@ mod printing; // the parts of a line of the listing
 pub mod listing; // the source with its addresses and cells
 pub mod source_listing; // the same, line by line
 pub mod rows; // what has an address in it
+pub mod placing_line; // the line that placed cells
 mod heads; // what the lines have besides the source
 pub mod writing; // the listing, written as it is made
 pub mod symbol_table; // each label with its address, its length and its line
@@ -25,6 +27,7 @@ mod cross_reference; // the lines that name each label
 pub mod tables; // both as texts
 
 pub use listing::{Listing, ListingLine};
+pub use placing_line::last_placing;
 pub use rows::{Row, Rows, make_rows};
 pub use source_listing::make_listing;
 pub use symbol_table::{Symbol, make_symbols};

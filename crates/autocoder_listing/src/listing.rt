@@ -110,22 +110,24 @@ fn listing_line(
     Ok(ListingLine { text })
 }
 
-/// Adds the lines of literals that are placed one after the other from a place on.
+/// Adds the lines of the literals that are used here from one on, placed one after the other from a place on.
 fn put_literal_lines(
     alloc: Global,
     all: &Placing<'_>,
     from: i64,
-    literals: &[Literal],
+    so_far: &Placing<'_>,
+    first: usize,
     lines: &mut Vec<ListingLine>,
 ) -> Result<(), AsmFault>
-    ensures ok { OnOk result
-        (lines.new.items ≡ lines.old.items ++ literal_lines (places_of all.now) from literals.now) }
+    ensures ok { OnOk result (lines.new.items ≡ lines.old.items
+        ++ literal_lines (places_of all.now) from (drop first (places_of so_far.now).spellings)) }
     ensures err { IfErr result IsMemory }
 {
     let mut next = from;
-    for literal in literals {
-        lines.push(literal_line(alloc, all, next, *literal)?)?;
-        next = checked_sum(next, i64::from(LiteralKey::from_literal(*literal).len()))?;
+    for i in first..so_far.literals_used() {
+        let literal = so_far.literal(i);
+        lines.push(literal_line(alloc, all, next, literal)?)?;
+        next = checked_sum(next, i64::from(LiteralKey::from_literal(literal).len()))?;
     }
     Ok(())
 }
@@ -148,26 +150,14 @@ pub(crate) fn literal_line(
     listing_line(alloc, None, Some(from), &cells, &source)
 }
 
-/// The literals that are used and not yet placed, as they were first written.
-fn pending_spellings<'b>(so_far: &'b Placing<'_>) -> &'b [Literal]
-    ensures { result.now ≡ drop (length (places_of so_far.now).addresses) (places_of so_far.now).spellings }
-{
-    let first = so_far.addresses.len();
-    let all = so_far.spellings.as_slice();
-    if all.len() < first {
-        &[]
-    } else {
-        all.split_at(first).1
-    }
-}
-
-/// The literals that a statement with this effect on the location counter places, as they were first written.
-pub(crate) fn literals_by<'b>(so_far: &'b Placing<'_>, next: Next) -> &'b [Literal]
-    ensures { result.now ≡ literals_by (places_of so_far.now) next }
+/// The first of the literals that a statement with this effect on the location counter places: they are all that are
+/// used here from this one on.
+pub(crate) fn first_literal(so_far: &Placing<'_>, next: Next) -> usize
+    ensures { drop result (places_of so_far.now).spellings ≡ literals_by (places_of so_far.now) next }
 {
     match next {
-        Next::Literals | Next::LiteralsAtValue => pending_spellings(so_far),
-        Next::Beyond | Next::Value | Next::Elsewhere => &[],
+        Next::Literals | Next::LiteralsAtValue => so_far.literals_placed(),
+        Next::Beyond | Next::Value | Next::Elsewhere => so_far.literals_used(),
     }
 }
 
@@ -245,7 +235,8 @@ fn put_literals_of(
     };
     let row = statement.body.describe();
     let from = so_far.start_by(&row)?;
-    put_literal_lines(alloc, all, from, literals_by(so_far, row.next), lines)
+    let first = first_literal(so_far, row.next);
+    put_literal_lines(alloc, all, from, so_far, first, lines)
 }
 
 /// The line of the listing for a line of the source here, with these lines after it.

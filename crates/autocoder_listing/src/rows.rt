@@ -66,7 +66,7 @@ fn text_of(alloc: Global, cells: &[Cell]) -> Result<Vec<u8>, AsmFault>
 }
 
 /// The characters that a line shows of cells.
-fn characters_of(alloc: Global, cells: &[Cell]) -> Result<[u8; 8], AsmFault>
+pub(crate) fn characters_of(alloc: Global, cells: &[Cell]) -> Result<[u8; 8], AsmFault>
     ensures ok { IfOk result (λ characters. characters ≡ characters_text cells.now) }
     ensures err { IfErr result IsMemory }
 {
@@ -164,13 +164,13 @@ pub fn make_rows(alloc: Global, all: &Placing<'_>, lines: &Lines<'_>) -> Result<
     ensures err { IfErr result IsMemory }
 {
     let mut rows = Vec::new(alloc);
-    let mut so_far = Placing::new(alloc, all.hashing, all.chains);
+    let mut so_far = all.again(alloc);
     put_rows(alloc, all, &mut so_far, lines, &mut rows)?;
     Ok(Rows { rows })
 }
 
 /// Whether a row shows these characters at a place.
-fn is_at(row: &Row, at: u16, characters: &[u8; 8]) -> bool
+pub(crate) fn is_at(row: &Row, at: u16, characters: &[u8; 8]) -> bool
     ensures { result ≡ is_at at characters.now row.now }
 {
     row.address == i64::from(at) && row.characters == *characters

@@ -101,7 +101,7 @@ pub fn make_listing(
     ensures err { IfErr result IsMemory }
 {
     let mut made = ListingSoFar {
-        so_far: Placing::new(alloc, all.hashing, all.chains),
+        so_far: all.again(alloc),
         listing: Vec::new(alloc),
     };
     made.put_lines(alloc, all, source, lines)?;

@@ -12,9 +12,9 @@ ghost use Rattle.autocoder_listing.specs.SymbolTable.{shown_value, symbol_line};
 use crate::printing::put_address;
 use autocoder_placing::{LiteralKey, Placing, contents_length};
 use autocoder_statements::{
-    AreaLiteral, AreaRole, Description, Label, LabelField, Line, Point, Span, Statement,
+    AreaLiteral, AreaRole, Description, Label, LabelField, Line, Literal, Point, Span, Statement,
 };
-use autocoder_symbols::{AsmFault, Lines, SourceHashing};
+use autocoder_symbols::{AsmFault, Lines};
 use machine_notation::put_digits;
 use std::alloc::Global;
 
@@ -135,7 +135,8 @@ fn put_area(
     let Some(literal) = literal else {
         return Ok(());
     };
-    if !so_far.literals.contains(&LiteralKey::Area(literal)) {
+    let is_used = so_far.is_used(Literal::Area(literal))?;
+    if !is_used {
         let value = all.symbol(literal.label)?.value;
         symbols.push(Symbol {
             label: literal.label,
@@ -174,7 +175,6 @@ fn put_symbols(
 /// `Memory` if there is no room for them.
 pub(crate) fn symbols_of(
     alloc: Global,
-    hashing: SourceHashing,
     all: &Placing<'_>,
     lines: &Lines<'_>,
 ) -> Result<Vec<Symbol>, AsmFault>
@@ -184,7 +184,7 @@ pub(crate) fn symbols_of(
     ensures err { IfErr result IsMemory }
 {
     let mut symbols = Vec::new(alloc);
-    let mut so_far = Placing::new(alloc, hashing, all.chains);
+    let mut so_far = all.again(alloc);
     for i in 0..lines.len() {
         let line = &lines.line(i);
         put_symbols(all, &so_far, i as u64 + 1, line, &mut symbols)?;
@@ -200,7 +200,6 @@ pub(crate) fn symbols_of(
 /// `Memory` if there is no room for them.
 pub fn make_symbols(
     alloc: Global,
-    hashing: SourceHashing,
     all: &Placing<'_>,
     lines: &Lines<'_>,
 ) -> Result<Vec<Symbol>, AsmFault>
@@ -209,7 +208,7 @@ pub fn make_symbols(
     ensures symbols { IfOk result (λ symbols. symbols.items ≡ symbols_in lines.now) }
     ensures err { IfErr result IsMemory }
 {
-    symbols_of(alloc, hashing, all, lines)
+    symbols_of(alloc, all, lines)
 }
 
 /// Adds a length, or blanks if there is none.

@@ -76,6 +76,6 @@ pub fn make_tables(
     ensures references { IfOk result (λ made. made.references.items ≡ references_text lines.now) }
     ensures err { IfErr result IsMemory }
 {
-    let symbols = symbols_of(alloc, hashing, all, lines)?;
+    let symbols = symbols_of(alloc, all, lines)?;
     tables_of(alloc, hashing, lines, &symbols)
 }

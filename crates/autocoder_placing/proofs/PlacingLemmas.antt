@@ -1,25 +1,21 @@
 -- One literal more; a statement passed.
-use Rattle.std.proofs.Common.{◌≡◌, ℕ, ◌+◌, ◌<◌, List, [], ◌∷◌, ◌++◌, length, drop, get_or, ℤ, pos, negsuc, ◌+ℤ◌, Option}
-use Rattle.std.proofs.Common.{refl, sym, ap, ◌∙◌, add-one, drop-cons}
+use Rattle.std.proofs.Common.{◌≡◌, List, [], ◌∷◌, ◌++◌, ℤ, negsuc, ◌+ℤ◌, Option}
+use Rattle.std.proofs.Common.{refl, sym, ap, ◌∙◌}
 use Rattle.std.proofs.lemmas.List.{append_assoc}
 use Rattle.autocoder_statements.specs.declared.description.Description.{Description}
 use Rattle.autocoder_placing.specs.Placement.{Placement, units_from, gone_on, with_ends, first_of_two, end_of_two}
-use Rattle.autocoder_placing.specs.Placement.{beyond_row}
-use Rattle.autocoder_placing.specs.Literals.{key_length}
+use Rattle.autocoder_placing.specs.Placement.{beyond_literal, beyond_row}
 use Rattle.autocoder_placing.specs.declared.literals.LiteralKey.{LiteralKey}
 
 -- with the units place of one literal more, what is placed and what is left to place are all units places
-pub one_more_placed : (from : ℤ) (literals : List LiteralKey) (i : ℕ) (d : LiteralKey) (so_far put whole : List ℤ)
-    (size beyond units given : ℤ) → i < length literals → so_far ++ units_from from (drop i literals) ≡ whole
-    → put ≡ so_far ++ units ∷ [] → size ≡ pos (key_length (get_or literals i d)) → beyond ≡ from +ℤ size
-    → units ≡ beyond +ℤ negsuc 0 → given ≡ beyond → put ++ units_from given (drop (i + 1) literals) ≡ whole
-one_more_placed from literals i d so_far put whole size beyond units given inside left one long past last same =
-    let first : drop i literals ≡ get_or literals i d ∷ drop (i + 1) literals =
-    rw add-one (drop-cons literals i d inside) in
-    let next : units_from from (drop i literals) ≡ units ∷ units_from given (drop (i + 1) literals) =
-    ap (units_from from) first ∙ rw (last, same, past, long) refl in
-    ap (λ places. places ++ units_from given (drop (i + 1) literals)) one
-    ∙ append_assoc so_far (units ∷ []) (units_from given (drop (i + 1) literals))
+pub one_more_placed : (from : ℤ) (keys rest : List LiteralKey) (key : LiteralKey) (so_far put whole : List ℤ)
+    (units given : ℤ) → keys ≡ key ∷ rest → so_far ++ units_from from keys ≡ whole → put ≡ so_far ++ units ∷ []
+    → units ≡ beyond_literal from key +ℤ negsuc 0 → given ≡ beyond_literal from key
+    → put ++ units_from given rest ≡ whole
+one_more_placed from keys rest key so_far put whole units given first left one last same =
+    let next : units_from from keys ≡ units ∷ units_from given rest = rw (first, last, same) refl in
+    ap (λ places. places ++ units_from given rest) one
+    ∙ append_assoc so_far (units ∷ []) (units_from given rest)
     ∙ ap (λ places. so_far ++ places) (sym next) ∙ left
 
 -- what is placed after a statement, of which the first instruction and the place before END are noted last

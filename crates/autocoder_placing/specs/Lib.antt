@@ -2,11 +2,14 @@ pub mod Built
 pub mod Cells
 pub mod Characters
 pub mod Filling
+pub mod KeptLiteral
+pub mod LabelValues
 pub mod Laws
 pub mod Literals
 pub mod PlacedImage
 pub mod Placement
 pub mod PlacementLaws
 pub mod Segments
+pub mod UsedLiterals
 pub mod Values
 pub mod View

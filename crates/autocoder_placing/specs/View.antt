@@ -1,5 +1,7 @@
 -- What the code holds of what is placed, without where it lies in memory.
+use Rattle.std.specs.Prelude.{map}
 use Rattle.autocoder_symbols.specs.View.{chains_view}
+use Rattle.autocoder_placing.specs.Literals.{key_of}
 use Rattle.autocoder_placing.specs.Placement.{Placement}
 use Rattle.autocoder_placing.specs.declared.placing.Placing.{Placing}
 
@@ -14,9 +16,8 @@ places_of this =
       fields_index = this.fields_index;
       first_instruction = this.first_instruction;
       before_end = this.before_end;
-      values = this.values.entries;
-      literals =
-          this.literals.keys;
-      spellings = this.spellings.items;
-      addresses = this.addresses.items;
+      values = this.values;
+      literals = map key_of this.literals.spellings;
+      spellings = this.literals.spellings;
+      addresses = this.literals.addresses;
     }

@@ -12,7 +12,8 @@ ghost use Rattle.autocoder_placing.specs.Cells.{areas_cells, unit_codes, chain_c
 ghost use Rattle.autocoder_placing.specs.Cells.{signed_place, signed_address, field_cells, address_constant_cells};
 ghost use Rattle.autocoder_placing.specs.Cells.{group_mark, record_mark};
 ghost use Rattle.autocoder_placing.specs.Cells.{unit_or_address_codes};
-ghost use Rattle.autocoder_placing.specs.Placement.{address_unit, start_by, symbols_of};
+ghost use Rattle.autocoder_placing.specs.Literals.{key_of};
+ghost use Rattle.autocoder_placing.specs.Placement.{address_unit, pending, start_by, symbols_of};
 ghost use Rattle.autocoder_placing.specs.View.{places_of};
 
 use crate::characters::{Characters, char_of, char_with};
@@ -21,7 +22,7 @@ use crate::literals::LiteralKey;
 use crate::placing::Placing;
 use autocoder_statements::{
     Address, AddressConstant, AreaRole, Areas, Chain, Constant, Contents, Description, Instruction,
-    Next, Operand, OperandField, Operands, Span, Unit,
+    Literal, Next, Operand, OperandField, Operands, Span, Unit,
 };
 use autocoder_symbols::{AsmFault, Lines};
 use bcd_1401::{Cell, Char};
@@ -115,13 +116,13 @@ fn address_chars(address: u16, index: u8) -> [Char; 3]
 
 impl Placing<'_> {
     /// The units place of a literal, once all is placed.
-    fn literal_value(&self, literal: LiteralKey) -> i64
-        ensures { result ≡ literal_value (places_of self.now) literal }
+    #[tactic(auto, using(crate::proofs::UsedLemmas::value_placed))]
+    fn literal_value(&self, literal: Literal) -> Result<i64, AsmFault>
+        ensures value { IfOk result (λ value. value ≡ literal_value (places_of self.now) (key_of literal)) }
+        ensures err { IfErr result IsMemory }
     {
-        let Some(i) = self.literals.get_index_of(&literal) else {
-            return 0;
-        };
-        self.addresses.get(i).copied().unwrap_or(0)
+        let units = self.literals.units_of(literal)?;
+        Ok(units.unwrap_or(0))
     }
 
     /// Puts an address of an instruction, or the unit that it names.
@@ -155,7 +156,7 @@ impl Placing<'_> {
                 here, address, out,
             ),
             OperandField::Operand(Operand::Literal(literal)) => {
-                let value = self.literal_value(LiteralKey::from_literal(literal));
+                let value = self.literal_value(literal)?;
                 put_chars(out, &encode(address_or_zero(value)))
             },
             OperandField::Operand(Operand::Unit(unit)) => put_chars(out, &unit_chars(unit)),
@@ -326,18 +327,18 @@ pub fn put_literal(
     }
 }
 
-/// Puts literals, once all is placed.
+/// Puts the literals that are used here and not placed, once all is placed.
 fn put_literals(
     all: &Placing<'_>,
-    literals: &[LiteralKey],
+    so_far: &Placing<'_>,
     out: &mut Vec<Cell>,
 ) -> Result<(), AsmFault>
-    ensures ok { OnOk result
-        (out.new.items ≡ out.old.items ++ flat_map (literal_cells (places_of all.now)) literals.now) }
+    ensures ok { OnOk result (out.new.items ≡ out.old.items
+        ++ flat_map (literal_cells (places_of all.now)) (pending (places_of so_far.now))) }
     ensures err { IfErr result IsMemory }
 {
-    for literal in literals {
-        put_literal(all, *literal, out)?;
+    for i in so_far.literals_placed()..so_far.literals_used() {
+        put_literal(all, LiteralKey::from_literal(so_far.literal(i)), out)?;
     }
     Ok(())
 }
@@ -505,7 +506,7 @@ pub fn put_row(
         Next::Beyond | Next::Elsewhere => {
             put_contents(alloc, all, so_far, &row.contents, lines, out)
         },
-        Next::Literals | Next::LiteralsAtValue => put_literals(all, so_far.pending(), out),
+        Next::Literals | Next::LiteralsAtValue => put_literals(all, so_far, out),
         Next::Value => Ok(()),
     }
 }

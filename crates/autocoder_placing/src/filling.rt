@@ -154,7 +154,7 @@ pub fn fill(
     ensures err { IfErr result IsMemory }
 {
     let mut storage = vec![in alloc; Cell::BLANK; usize::from(size)]?;
-    let mut so_far = Placing::new(alloc, all.hashing, all.chains);
+    let mut so_far = all.again(alloc);
     put_lines(alloc, all, &mut so_far, lines, &mut storage)?;
     Ok(storage)
 }

@@ -1,5 +1,6 @@
 //! Where statements and literals are placed.
-ghost use Rattle.std.specs.Prelude.{◌≡◌, ◌+◌, ◌++◌, Some, drop, fold, IfOk, IfErr, OnOk};
+ghost use Rattle.std.specs.Prelude.{◌≡◌, ◌+◌, ◌∷◌, ◌<◌, [], Some, drop, fold, length, IfOk, IfErr, OnOk};
+ghost use Rattle.std.specs.List.{list_any};
 ghost use Rattle.autocoder_statements.specs.Description.{describe};
 ghost use Rattle.autocoder_statements.specs.Statement.{well_formed};
 ghost use Rattle.autocoder_symbols.specs.Chains.{chains_of};
@@ -8,7 +9,8 @@ ghost use Rattle.autocoder_symbols.specs.Symbols.{sites_of};
 ghost use Rattle.autocoder_symbols.specs.View.{chains_view};
 ghost use Rattle.autocoder_placing.specs.Placement.{nothing_placed, with_literal, with_operand, with_pending};
 ghost use Rattle.autocoder_placing.specs.Placement.{with_uses};
-ghost use Rattle.autocoder_placing.specs.Placement.{pending, beyond_literals, units_from, with_area, with_area_labels};
+ghost use Rattle.autocoder_placing.specs.Literals.{key_of, same_key};
+ghost use Rattle.autocoder_placing.specs.Placement.{pending, beyond_literals, unplaced, with_area, with_area_labels};
 ghost use Rattle.autocoder_placing.specs.Placement.{contents_length, value_so_far, index_so_far, asked_value};
 ghost use Rattle.autocoder_placing.specs.Placement.{first_of_two};
 ghost use Rattle.autocoder_placing.specs.Placement.{end_of_two, counted_from, index_of_fields, with_areas, own_value};
@@ -17,18 +19,20 @@ ghost use Rattle.autocoder_placing.specs.Placement.{next_moved};
 ghost use Rattle.autocoder_placing.specs.Placement.{highest_with, taken_up_to, label_unit};
 ghost use Rattle.autocoder_placing.specs.Placement.{gone_on, beyond_row, with_label, placed_after, after_statement};
 ghost use Rattle.autocoder_placing.specs.Placement.{placed};
+ghost use Rattle.autocoder_placing.specs.UsedLiterals.{all_placed, none_used, pending_of};
 ghost use Rattle.autocoder_placing.specs.Values.{last_place};
 ghost use Rattle.autocoder_placing.specs.View.{places_of};
 
+use crate::label_values::LabelValues;
 use crate::lengths::{contents_length, last_place};
 use crate::literals::LiteralKey;
-use crate::symbol_values::{SymbolValue, Values};
+use crate::symbol_values::SymbolValue;
+use crate::used_literals::UsedLiterals;
 use autocoder_statements::{
     Addressing, AreaRole, Areas, Body, Contents, Description, Label, LabelField, Line, Literal,
     Next, Operand, OperandField, Point, Statement, Unit,
 };
 use autocoder_symbols::{AsmFault, Chains, Lines, SourceHashing, checked_sum};
-use indexmap::{IndexMap, IndexSet};
 use std::alloc::Global;
 
 /// Where a program is placed without ORG.
@@ -54,13 +58,9 @@ pub struct Placing<'a> {
     /// The next place as it was before END.
     pub before_end: i64,
     /// The values of labels.
-    pub values: Values,
-    /// The literals in the order of their first use.
-    pub literals: IndexSet<LiteralKey, SourceHashing>,
-    /// How each of them was first written.
-    pub spellings: Vec<Literal>,
-    /// The units places of those that are placed.
-    pub addresses: Vec<i64>,
+    pub values: LabelValues<'a>,
+    /// The literals in the order of their first use, and the units places of those that are placed.
+    pub literals: UsedLiterals<'a>,
     /// How labels and literals are hashed.
     pub hashing: SourceHashing,
 }
@@ -147,21 +147,9 @@ fn highest_with(highest: Option<i64>, first: i64, beyond: i64) -> Option<i64>
     }
 }
 
-/// The place after literals that begin at a place.
-pub(crate) fn beyond_literals(from: i64, literals: &[LiteralKey]) -> Result<i64, AsmFault>
-    ensures value { IfOk result (λ beyond. beyond ≡ beyond_literals from literals.now) }
-    ensures err { IfErr result IsMemory }
-{
-    let mut next = from;
-    for literal in literals {
-        next = checked_sum(next, i64::from(literal.len()))?;
-    }
-    Ok(next)
-}
-
 /// Gives the label of an area literal its units place.
-fn give_area(values: &mut Values, units: i64, literal: LiteralKey) -> Result<(), AsmFault>
-    ensures ok { OnOk result (values.new.entries ≡ with_area values.old.entries units literal) }
+fn give_area(values: &mut LabelValues<'_>, units: i64, literal: LiteralKey) -> Result<(), AsmFault>
+    ensures ok { OnOk result (values.new ≡ with_area values.old units literal) }
     ensures err { IfErr result IsMemory }
 {
     match literal {
@@ -178,56 +166,72 @@ fn give_area(values: &mut Values, units: i64, literal: LiteralKey) -> Result<(),
     Ok(())
 }
 
-/// Gives the labels of area literals that begin at a place their units places.
-fn give_areas(values: &mut Values, from: i64, literals: &[LiteralKey]) -> Result<(), AsmFault>
-    ensures ok { OnOk result (values.new.entries ≡ with_area_labels values.old.entries from literals.now) }
+/// Gives the labels of the area literals that are used and not placed their units places, from a place on.
+fn give_areas(
+    values: &mut LabelValues<'_>,
+    from: i64,
+    literals: &UsedLiterals<'_>,
+) -> Result<(), AsmFault>
+    ensures ok { OnOk result (values.new ≡ with_area_labels values.old from (pending_of literals.now)) }
     ensures err { IfErr result IsMemory }
 {
     let mut next = from;
-    for literal in literals {
+    for i in literals.placed()..literals.len() {
+        let literal = LiteralKey::from_literal(literals.literal(i));
         let beyond = checked_sum(next, i64::from(literal.len()))?;
         let units = checked_sum(beyond, -1)?;
-        give_area(values, units, *literal)?;
+        give_area(values, units, literal)?;
         next = beyond;
     }
     Ok(())
 }
 
-/// Places literals from a place on, and says which place is next.
-fn place_literals(
-    from: i64,
-    literals: &[LiteralKey],
-    addresses: &mut Vec<i64>,
-) -> Result<i64, AsmFault>
-    ensures next { IfOk result (λ next. next ≡ beyond_literals from literals.now) }
-    ensures addresses { OnOk result (addresses.new.items ≡ addresses.old.items ++ units_from from literals.now) }
+/// Places the literals that are used and not placed from a place on, and says which place is next.
+fn place_literals(from: i64, literals: &mut UsedLiterals<'_>) -> Result<i64, AsmFault>
+    ensures next { IfOk result (λ next. next ≡ beyond_literals from (pending_of literals.old)) }
+    ensures literals { OnOk result (literals.new ≡ all_placed literals.old from) }
     ensures err { IfErr result IsMemory }
 {
+    let first = literals.placed();
     let mut next = from;
-    for literal in literals {
+    for i in first..literals.len() {
+        let literal = LiteralKey::from_literal(literals.literal(i));
         let beyond = checked_sum(next, i64::from(literal.len()))?;
-        addresses.push(checked_sum(beyond, -1)?)?;
+        literals.place(checked_sum(beyond, -1)?)?;
         next = beyond;
     }
     Ok(next)
-}
-
-/// The literals from an index on.
-fn beyond(literals: &IndexSet<LiteralKey, SourceHashing>, first: usize) -> &[LiteralKey]
-    ensures { result.now ≡ drop first literals.now.keys }
-{
-    let all = literals.as_slice();
-    if all.len() < first {
-        &[]
-    } else {
-        all.split_at(first).1
-    }
 }
 
 impl<'a> Placing<'a> {
     /// Before the first line, with these chains of EQUs.
     pub fn new(alloc: Global, hashing: SourceHashing, chains: &'a Chains) -> Placing<'a>
         ensures { places_of result ≡ nothing_placed (chains_view chains.now) }
+    {
+        let values = LabelValues::new(alloc, hashing);
+        let literals = UsedLiterals::new(alloc, hashing);
+        Placing::before_lines(hashing, chains, values, literals)
+    }
+
+    /// Before the first line, where the lines that are placed here are expected to be placed again: what they give then
+    /// takes no memory.
+    pub fn again(&self, alloc: Global) -> Placing<'_>
+        ensures { places_of result ≡ unplaced (places_of self.now) }
+    {
+        let values = self.values.again(alloc, self.hashing);
+        let literals = self.literals.again(self.hashing);
+        Placing::before_lines(self.hashing, self.chains, values, literals)
+    }
+
+    /// Before the first line, with these chains of EQUs.
+    fn before_lines(
+        hashing: SourceHashing,
+        chains: &'a Chains,
+        values: LabelValues<'a>,
+        literals: UsedLiterals<'a>,
+    ) -> Placing<'a>
+        ensures { values.entry ≡ [] → literals.entry ≡ none_used
+            → places_of result ≡ nothing_placed (chains_view chains.now) }
     {
         Placing {
             chains,
@@ -238,19 +242,61 @@ impl<'a> Placing<'a> {
             fields_index: 0,
             first_instruction: None,
             before_end: USUAL_PLACE,
-            values: IndexMap::with_hasher(alloc, hashing),
-            literals: IndexSet::with_hasher(alloc, hashing),
-            spellings: Vec::new(alloc),
-            addresses: Vec::new(alloc),
+            values,
+            literals,
             hashing,
         }
     }
 
-    /// The literals that are used and not placed.
-    pub(crate) fn pending(&self) -> &[LiteralKey]
-        ensures { result.now ≡ pending (places_of self.now) }
+    /// How many literals are used.
+    pub fn literals_used(&self) -> usize
+        ensures { result ≡ length (places_of self.now).spellings }
     {
-        beyond(&self.literals, self.addresses.len())
+        self.literals.len()
+    }
+
+    /// How many literals are placed.
+    pub fn literals_placed(&self) -> usize
+        ensures { result ≡ length (places_of self.now).addresses }
+    {
+        self.literals.placed()
+    }
+
+    /// The literal with this index in the order of first use, as it was first written.
+    pub fn literal(&self, i: usize) -> Literal
+        requires { i < length (places_of self.now).spellings }
+        ensures spelling { drop i (places_of self.now).spellings
+            ≡ result ∷ drop (i + 1) (places_of self.now).spellings }
+        ensures key { drop i (places_of self.now).literals
+            ≡ key_of result ∷ drop (i + 1) (places_of self.now).literals }
+    {
+        self.literals.literal(i)
+    }
+
+    /// Whether a literal is used.
+    ///
+    /// # Errors
+    ///
+    /// `Memory` if there is no room for a long one.
+    pub fn is_used(&self, literal: Literal) -> Result<bool, AsmFault>
+        ensures ok { IfOk result
+            (λ used. used ≡ list_any (same_key (key_of literal)) (places_of self.now).literals) }
+        ensures err { IfErr result IsMemory }
+    {
+        self.literals.contains(literal)
+    }
+
+    /// The place after the literals that are used and not placed, if they begin at a place.
+    pub(crate) fn beyond_pending(&self, from: i64) -> Result<i64, AsmFault>
+        ensures value { IfOk result (λ beyond. beyond ≡ beyond_literals from (pending (places_of self.now))) }
+        ensures err { IfErr result IsMemory }
+    {
+        let mut next = from;
+        for i in self.literals.placed()..self.literals.len() {
+            let literal = LiteralKey::from_literal(self.literals.literal(i));
+            next = checked_sum(next, i64::from(literal.len()))?;
+        }
+        Ok(next)
     }
 
     /// The place that a statement's point names, with its operand by the labels of what is placed by others.
@@ -310,17 +356,12 @@ impl<'a> Placing<'a> {
     }
 
     /// Notes that a literal is used.
+    #[tactic(auto, using(crate::proofs::UsedLemmas::literal_noted))]
     fn note_literal(&mut self, literal: Literal) -> Result<(), AsmFault>
         ensures ok { OnOk result (places_of self.new ≡ with_literal (places_of self.old) literal) }
         ensures err { IfErr result IsMemory }
     {
-        let key = LiteralKey::from_literal(literal);
-        if self.literals.contains(&key) {
-            return Ok(());
-        }
-        self.literals.insert(key)?;
-        self.spellings.push(literal)?;
-        Ok(())
+        self.literals.note(literal)
     }
 
     /// Notes the literal that an operand is, if it is one.
@@ -349,10 +390,8 @@ impl<'a> Placing<'a> {
         ensures ok { OnOk result (places_of self.new ≡ with_pending (places_of self.old)) }
         ensures err { IfErr result IsMemory }
     {
-        let first = self.addresses.len();
-        let literals = beyond(&self.literals, first);
-        give_areas(&mut self.values, self.next, literals)?;
-        let beyond = place_literals(self.next, literals, &mut self.addresses)?;
+        give_areas(&mut self.values, self.next, &self.literals)?;
+        let beyond = place_literals(self.next, &mut self.literals)?;
         self.take_up_to(beyond);
         Ok(())
     }

@@ -1,6 +1,5 @@
 //! What symbols and operands stand for, by what is placed so far.
 ghost use Rattle.std.specs.Prelude.{◌≡◌, ◌+◌, ◌*◌, IfOk, IfErr};
-ghost use Rattle.indexmap.specs.IndexMap.{get};
 ghost use Rattle.autocoder_symbols.specs.Chains.{link_of};
 ghost use Rattle.autocoder_symbols.specs.Fault.{IsMemory};
 ghost use Rattle.autocoder_placing.specs.Placement.{register_value, next_hundred, symbol_by, symbol_beyond, symbols_of};
@@ -14,8 +13,7 @@ use crate::placing::{Placing, USUAL_PLACE};
 use autocoder_statements::{
     Address, Addressing, Base, Description, Label, Next, Operand, OperandField, Unit,
 };
-use autocoder_symbols::{AsmFault, Link, SourceHashing, checked_sum};
-use indexmap::IndexMap;
+use autocoder_symbols::{AsmFault, Link, checked_sum};
 
 /// What a symbol stands for.
 #[derive(Clone, Copy, Debug, PartialEq, Eq)]
@@ -58,9 +56,6 @@ impl SymbolValue {
     }
 }
 
-/// The values of labels.
-pub type Values = IndexMap<Label, SymbolValue, SourceHashing>;
-
 /// The first place from this one on whose number ends in 00.
 fn next_hundred(at: i64) -> Result<i64, AsmFault>
     ensures value { IfOk result (λ place. place ≡ next_hundred at) }
@@ -97,10 +92,7 @@ impl<'a> Placing<'a> {
     fn symbol_by(&self, label: Label) -> SymbolValue
         ensures { result ≡ symbol_by (places_of self.now).values label }
     {
-        self.values
-            .get(&label)
-            .copied()
-            .unwrap_or(SymbolValue::NONE)
+        self.values.get(label).unwrap_or(SymbolValue::NONE)
     }
 
     /// A symbol by the end of its chain, by the values of labels so far.

@@ -1,7 +1,7 @@
 //! The values of addresses, and what of a line isn't in core.
 ghost use Rattle.std.specs.Prelude.{◌≡◌, ◌||◌, false, IfOk, IfErr};
 ghost use Rattle.autocoder_symbols.specs.Fault.{IsMemory};
-ghost use Rattle.autocoder_placing.specs.Placement.{asked_value};
+ghost use Rattle.autocoder_placing.specs.Placement.{asked_value, pending};
 ghost use Rattle.autocoder_placing.specs.Values.{address_value, is_in_core, are_in_core, literal_outside};
 ghost use Rattle.autocoder_placing.specs.Values.{operand_outside};
 ghost use Rattle.autocoder_placing.specs.Values.{places_outside, literals_outside, next_outside, value_outside};
@@ -9,8 +9,7 @@ ghost use Rattle.autocoder_placing.specs.Values.{may_name_unit, addresses_outsid
 ghost use Rattle.autocoder_placing.specs.View.{places_of};
 
 use crate::lengths::{contents_length, instruction_length, last_place};
-use crate::literals::LiteralKey;
-use crate::placing::{Placing, beyond_literals};
+use crate::placing::Placing;
 use autocoder_statements::{
     Address, Addressing, Contents, Description, Literal, Next, Operand, OperandField, Operands,
 };
@@ -48,15 +47,6 @@ fn are_places_outside(size: u16, first: i64, length: u32) -> Result<bool, AsmFau
 {
     let beyond = checked_sum(first, i64::from(length))?;
     Ok(length > 0 && !are_in_core(size, first, beyond))
-}
-
-/// Whether literals that are placed from here on aren't in core.
-fn are_literals_outside(size: u16, from: i64, literals: &[LiteralKey]) -> Result<bool, AsmFault>
-    ensures value { IfOk result (λ outside. outside ≡ literals_outside size from literals.now) }
-    ensures err { IfErr result IsMemory }
-{
-    let beyond = beyond_literals(from, literals)?;
-    Ok(!literals.is_empty() && !are_in_core(size, from, beyond))
 }
 
 /// Whether the first address may be a symbol that names a unit: in an instruction that the machine hasn't got, as each
@@ -129,6 +119,17 @@ impl<'a> Placing<'a> {
         }
     }
 
+    /// Whether the literals that are used and not placed aren't in core, if they are placed from here on.
+    fn are_literals_outside(&self, size: u16, from: i64) -> Result<bool, AsmFault>
+        ensures value { IfOk result
+            (λ outside. outside ≡ literals_outside size from (pending (places_of self.now))) }
+        ensures err { IfErr result IsMemory }
+    {
+        let beyond = self.beyond_pending(from)?;
+        let has_some = self.literals_placed() < self.literals_used();
+        Ok(has_some && !are_in_core(size, from, beyond))
+    }
+
     /// Whether literals that a statement here places aren't in core.
     fn is_next_outside(&self, size: u16, row: &Description) -> Result<bool, AsmFault>
         ensures value { IfOk result
@@ -137,7 +138,7 @@ impl<'a> Placing<'a> {
     {
         match row.next {
             Next::Literals | Next::LiteralsAtValue => {
-                are_literals_outside(size, self.start_by(row)?, self.pending())
+                self.are_literals_outside(size, self.start_by(row)?)
             },
             Next::Beyond | Next::Value | Next::Elsewhere => Ok(false),
         }

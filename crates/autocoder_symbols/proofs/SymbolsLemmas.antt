@@ -1,6 +1,6 @@
 -- What a map of declarations has once one more is noted.
 use Rattle.std.proofs.Common.{drop, length, get_or, ◌≡◌, ℕ, ◌+◌, ◌<◌, Bool, true, false, cond, List, [], ◌∷◌, Option}
-use Rattle.std.proofs.Common.{None, Some, refl, sym, ap, ◌∙◌}
+use Rattle.std.proofs.Common.{◌||◌, None, Some, refl, sym, ap, ◌∙◌}
 use Rattle.std.proofs.lemmas.List.{drop_more}
 use Rattle.std.specs.Option.{option_or}
 use Rattle.std.specs.Cmp.Lexicographic.{same_text}
@@ -8,7 +8,7 @@ use Rattle.indexmap.specs.IndexMap.{IndexMap, get}
 use Rattle.autocoder_statements.specs.Statement.{is_end}
 use Rattle.autocoder_statements.specs.declared.label.Label.{Label}
 use Rattle.autocoder_statements.specs.declared.statement.Line.{Line}
-use Rattle.autocoder_symbols.specs.Symbols.{same_label, declared_by, declared_if, first_from, up_to_end, Sites}
+use Rattle.autocoder_symbols.specs.Symbols.{beyond_end, same_label, declared_by, declared_if, first_from, up_to_end, Sites}
 use Rattle.autocoder_symbols.specs.declared.symbols.Declaration.{Declaration}
 
 -- from equal at each symbol to equal as a whole
@@ -95,3 +95,64 @@ none_left {S} sites label number rest all none whole =
     sym (ap (λ (lines : List Line). option_or (get same_label sites label) (first_from number lines label)) none
     ∙ or_none (get same_label sites label))
     ∙ whole
+
+-- what lines declare that are left, once END is passed or not
+abbrev pub left_beyond : Bool → ℕ → List Line → Sites
+left_beyond true number lines label = first_from number lines label
+left_beyond false number lines label = beyond_end number lines label
+
+-- a line is noted if it is after END, and those below it are left
+pub beyond_noted : {S : Type 0} (old new : IndexMap Label Declaration S) (ended next : Bool) (number : ℕ) (line : Line)
+    (rest lines : List Line) (label : Label)
+    → get same_label new label
+    ≡ cond ended (option_or (get same_label old label) (declared_by number line label)) (get same_label old label)
+    → next ≡ (ended || is_end line) → lines ≡ line ∷ rest
+    → option_or (get same_label new label) (left_beyond next (number + 1) rest label)
+    ≡ option_or (get same_label old label) (left_beyond ended number lines label)
+beyond_noted {S} old new true next number line rest lines label noted is at =
+    rw (noted, is, at) (or_later (get same_label old label) (declared_by number line label)
+    (first_from (number + 1) rest label))
+beyond_noted {S} old new false next number line rest lines label noted is at =
+    rw (noted, is, at) (by (is_end line))
+  where
+    by : (b : Bool) → option_or (get same_label old label) (left_beyond b (number + 1) rest label)
+        ≡ option_or (get same_label old label)
+        (cond b (first_from (number + 1) rest label) (beyond_end (number + 1) rest label))
+    by true = refl
+    by false = refl
+
+none_beyond : (ended : Bool) (number : ℕ) (label : Label) → left_beyond ended number [] label ≡ None
+none_beyond true number label = refl
+none_beyond false number label = refl
+
+-- once no line is left, the map has what those after END declare
+pub none_left_beyond : {S : Type 0} (sites : IndexMap Label Declaration S) (label : Label) (ended : Bool) (number : ℕ)
+    (rest : List Line) (all : Option Declaration) → rest ≡ []
+    → option_or (get same_label sites label) (left_beyond ended number rest label) ≡ all
+    → get same_label sites label ≡ all
+none_left_beyond {S} sites label ended number rest all none whole =
+    sym (ap (λ (lines : List Line). option_or (get same_label sites label) (left_beyond ended number lines label)) none
+    ∙ ap (option_or (get same_label sites label)) (none_beyond ended number label)
+    ∙ or_none (get same_label sites label))
+    ∙ whole
+
+end_or_on : (line : Line) (lines : List Line) (number : ℕ) (label : Label) (b : Bool)
+    → option_or (first_from (number + 1) (up_to_end lines) label) (beyond_end (number + 1) lines label)
+    ≡ first_from (number + 1) lines label
+    → option_or (first_from number (cond b (line ∷ []) (line ∷ up_to_end lines)) label)
+    (cond b (first_from (number + 1) lines label) (beyond_end (number + 1) lines label))
+    ≡ first_from number (line ∷ lines) label
+end_or_on line lines number label true same =
+    ap (λ found. option_or found (first_from (number + 1) lines label)) (or_none (declared_by number line label))
+end_or_on line lines number label false same =
+    or_later (declared_by number line label) (first_from (number + 1) (up_to_end lines) label)
+    (beyond_end (number + 1) lines label)
+    ∙ ap (option_or (declared_by number line label)) same
+
+-- what lines up to END declare, or else those after it, is what all of them declare
+pub declared_anywhere : (number : ℕ) (lines : List Line) (label : Label)
+    → option_or (first_from number (up_to_end lines) label) (beyond_end number lines label)
+    ≡ first_from number lines label
+declared_anywhere number [] label = refl
+declared_anywhere number (line ∷ lines) label =
+    end_or_on line lines number label (is_end line) (declared_anywhere (number + 1) lines label)

@@ -66,6 +66,15 @@ sites_of lines label = first_from 1 (up_to_end lines) label
 abbrev pub sites_anywhere : List Line → Sites
 sites_anywhere lines label = first_from 1 lines label
 
+-- the same of the lines after END alone, counting lines from this number
+abbrev pub beyond_end : ℕ → List Line → Sites
+beyond_end number [] label = None
+beyond_end number (line ∷ lines) label =
+    if is_end line then first_from (number + 1) lines label else beyond_end (number + 1) lines label
+
+abbrev pub sites_beyond_end : List Line → Sites
+sites_beyond_end lines label = beyond_end 1 lines label
+
 -- a symbol that an earlier line declares
 abbrev pub is_before : ℕ → Option Declaration → Bool
 is_before number None = false

@@ -28,4 +28,4 @@ pub use kept_lines::{KeptLines, Lines};
 pub use known::{Known, Symbols, declared, is_known_at_end, is_known_before};
 pub use reading::read_lines;
 pub use sums::checked_sum;
-pub use symbols::{Declaration, Sites, is_before, is_label_before, sites_anywhere};
+pub use symbols::{Declaration, Sites, is_before, is_label_before, sites_beyond_end};

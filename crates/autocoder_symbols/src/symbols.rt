@@ -1,11 +1,13 @@
 //! Which line declares a symbol.
-ghost use Rattle.std.specs.Prelude.{◌≡◌, ◌+◌, ◌<◌, ◌^◌, length, IfOk, IfErr, OnOk};
+ghost use Rattle.std.specs.Prelude.{◌≡◌, ◌+◌, ◌<◌, ◌^◌, ◌||◌, if◌then◌else◌, length, IfOk, IfErr, OnOk};
 ghost use Rattle.std.specs.Option.{option_or};
 ghost use Rattle.indexmap.specs.IndexMap.{get};
+ghost use Rattle.autocoder_statements.specs.Statement.{is_end};
 ghost use Rattle.autocoder_statements.specs.declared.label.Label.{Label as ALabel};
 ghost use Rattle.autocoder_symbols.specs.Fault.{IsMemory};
 ghost use Rattle.autocoder_symbols.specs.Symbols.{same_label, has_label, as_label, declared_if, declared_as_area};
-ghost use Rattle.autocoder_symbols.specs.Symbols.{declared_by_areas, declared_by, sites_of, sites_anywhere, is_before};
+ghost use Rattle.autocoder_symbols.specs.Symbols.{declared_by_areas, declared_by, sites_of, sites_beyond_end};
+ghost use Rattle.autocoder_symbols.specs.Symbols.{is_before};
 ghost use Rattle.autocoder_symbols.specs.Symbols.{is_label_before};
 
 use crate::fault::AsmFault;
@@ -113,25 +115,48 @@ fn note_line(sites: &mut Sites, line: &Line, number: u32) -> Result<(), AsmFault
     Ok(())
 }
 
-/// For each symbol where lines first declare it, those after END too.
+/// Notes the symbols that a line with this number declares, if it is after END.
+fn note_beyond(sites: &mut Sites, is_ended: bool, line: &Line, number: u32) -> Result<(), AsmFault>
+    ensures noted { OnOk result ((label : ALabel) → get same_label sites.new label
+        ≡ (if is_ended then option_or (get same_label sites.old label) (declared_by number line.now label)
+        else get same_label sites.old label)) }
+    ensures err { IfErr result IsMemory }
+{
+    if is_ended {
+        note_line(sites, line, number)
+    } else {
+        Ok(())
+    }
+}
+
+/// Whether the lines below a line are after END.
+fn is_ended_by(is_ended: bool, line: &Line) -> bool
+    ensures { result ≡ (is_ended || is_end line.now) }
+{
+    is_ended || line.is_end()
+}
+
+/// For each symbol where the lines after END first declare it.
 ///
 /// # Errors
 ///
 /// `Memory` if there is no room for them.
-pub fn sites_anywhere(
+pub fn sites_beyond_end(
     alloc: Global,
     hashing: SourceHashing,
     lines: &Lines<'_>,
 ) -> Result<Sites, AsmFault>
     requires { length lines.now < 2 ^ 32 }
     ensures lines { IfOk result
-        (λ sites. (label : ALabel) → get same_label sites label ≡ sites_anywhere lines.now label) }
+        (λ sites. (label : ALabel) → get same_label sites label ≡ sites_beyond_end lines.now label) }
     ensures err { IfErr result IsMemory }
 {
     let mut sites = IndexMap::with_hasher(alloc, hashing);
+    let mut is_ended = false;
     for i in 0..lines.len() {
         let line = lines.line(i);
-        note_line(&mut sites, &line, i as u32 + 1)?;
+        note_beyond(&mut sites, is_ended, &line, i as u32 + 1)?;
+        is_ended = is_ended_by(is_ended, &line);
     }
     Ok(sites)
 }

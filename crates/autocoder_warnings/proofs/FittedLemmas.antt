@@ -1,4 +1,4 @@
--- The machine carries out each instruction that the plain language takes.
+-- Each machine carries out each instruction that the plain language takes.
 use Rattle.std.proofs.Common.{◌≡◌, ℕ, ◌+◌, ◌*◌, ◌==◌, ◌⊎◌, Bool, true, false, not, ◌&&◌, ◌||◌, cond, nat_le, nat_lt}
 use Rattle.std.proofs.Common.{List, [], ◌∷◌, Option, None, Some, refl, sym, ap, ◌∙◌, inl, inr}
 use Rattle.std.proofs.lemmas.Bool.{and_parts, or_parts, not-false, true≢false}
@@ -6,10 +6,13 @@ use Rattle.std.specs.Prelude.{find, is_some}
 use Rattle.std.specs.List.{list_all}
 use Rattle.std.specs.Option.{option_map, option_map_or}
 use Rattle.std.specs.Str.{bytes_eq}
+use Rattle.machine_operations.specs.Fitted.{is_fitted_with}
 use Rattle.machine_operations.specs.Operation.{is_fitted}
+use Rattle.machine_panel.specs.declared.features.Features.{Features}
 use Rattle.autocoder_statements.specs.Address.{address_of}
 use Rattle.autocoder_statements.specs.Constant.{constant_of}
 use Rattle.autocoder_statements.specs.Description.{describe}
+use Rattle.autocoder_statements.specs.LoneAddress.{is_unit}
 use Rattle.autocoder_statements.specs.Mnemonic.{ARow, AnOwnRow, instructions, assembler_operations, instruction_in}
 use Rattle.autocoder_statements.specs.Mnemonic.{either_operation}
 use Rattle.autocoder_statements.specs.Operands.{count_of, d_at, d_by, d_of, first_operand, second_operand, is_ended}
@@ -35,20 +38,8 @@ use Rattle.autocoder_statements.specs.declared.statement.Body.{Body}
 use Rattle.autocoder_statements.specs.declared.statement.Body.TheVariants as bodies
 use Rattle.autocoder_statements.specs.declared.statement.Span.{Span}
 use Rattle.autocoder_placing.specs.Placement.{instruction_length}
-use Rattle.autocoder_warnings.specs.Warnings.{is_unit, is_unfitted, is_not_fitted}
-
--- what is found has what each row has
-found_has : {X : Type 0} (test has : X → Bool) (rows : List X) (row : X) → list_all has rows ≡ true
-    → find test rows ≡ Some row → has row ≡ true
-found_has {X} test has [] row all e = cc
-found_has {X} test has (first ∷ rows) row all e =
-    by (test first) e (and_parts (has first) (list_all has rows) all).0
-    (found_has test has rows row (and_parts (has first) (list_all has rows) all).1)
-  where
-    by : (b : Bool) → cond b (Some first) (find test rows) ≡ Some row → has first ≡ true
-        → (find test rows ≡ Some row → has row ≡ true) → has row ≡ true
-    by true e here beyond = let same : first ≡ row = cc in ap has (sym same) ∙ here
-    by false e here beyond = beyond e
+use Rattle.autocoder_warnings.specs.Warnings.{is_unfitted, is_not_fitted}
+use Rattle.autocoder_warnings.proofs.FeaturesLemmas.{found_has, stays_fitted}
 
 -- the first and the second operand are there or not, and a d-character
 zero_or_one : (field : OperandField) → (count_of field ≡ 0) ⊎ (count_of field ≡ 1)
@@ -157,15 +148,16 @@ of_two test n which all =
       | inr one ↦ ap test one ∙ (and_parts (test 1) true parts.1).0
     ]
 
-implied : (holds follows : Bool) → holds ≡ true → (not holds || follows) ≡ true → not follows ≡ false
+implied : (holds follows : Bool) → holds ≡ true → (not holds || follows) ≡ true → follows ≡ true
 implied true true e h = refl
 implied true false e h = absurd (true≢false (sym h))
 implied false follows e h = absurd (true≢false (sym e))
 
-row_is_fitted : (row : ARow) (columns : List ℕ) → fits_all row ≡ true
+row_is_fitted : (features : Features) (row : ARow) (columns : List ℕ) → fits_all row ≡ true
     → has_malformed (operands_of Plain (instruction_in row).form columns) ≡ false
-    → not (is_fitted row.1 (instruction_length (operands_of Plain (instruction_in row).form columns))) ≡ false
-row_is_fitted row columns all good =
+    → not (is_fitted_with features row.1 (instruction_length (operands_of Plain (instruction_in row).form columns)))
+    ≡ false
+row_is_fitted features row columns all good =
     let of = operands_of Plain (instruction_in row).form columns in
     let a = count_of of.a in
     let b = count_of of.b in
@@ -173,8 +165,9 @@ row_is_fitted row columns all good =
     let first = of_two (λ a. list_all (λ b. list_all (λ n. fits row a b n) up_to_one) up_to_one) a (zero_or_one of.a) all in
     let second = of_two (λ b. list_all (λ n. fits row a b n) up_to_one) b (zero_or_one of.b) first in
     let third = of_two (λ n. fits row a b n) n (zero_or_one_d of.d) second in
-    implied (has_counts (instruction_in row).form a b n) (is_fitted row.1 (1 + 3 * a + 3 * b + n))
-    (counts_of_form (instruction_in row).form columns good) third
+    let fitted = implied (has_counts (instruction_in row).form a b n) (is_fitted row.1 (1 + 3 * a + 3 * b + n))
+    (counts_of_form (instruction_in row).form columns good) third in
+    ap not (stays_fitted features row.1 (1 + 3 * a + 3 * b + n) fitted)
 
 -- the plain language has no units
 abbrev is_no_unit : Operand → Bool
@@ -227,10 +220,11 @@ second_is_no_unit most (byte ∷ more) = by ((byte == comma) && nat_lt 1 most)
     by true = word_is_no_unit (operand_in more)
     by false = refl
 
-operands_are_fitted : (instruction : Instruction) (columns : List ℕ)
-    → not (is_fitted instruction.operation (instruction_length (operands_of Plain instruction.form columns))) ≡ false
-    → is_unfitted instruction (operands_of Plain instruction.form columns) ≡ false
-operands_are_fitted instruction columns fitted =
+operands_are_fitted : (features : Features) (instruction : Instruction) (columns : List ℕ)
+    → not (is_fitted_with features instruction.operation (instruction_length (operands_of Plain instruction.form columns)))
+    ≡ false
+    → is_unfitted features instruction (operands_of Plain instruction.form columns) ≡ false
+operands_are_fitted features instruction columns fitted =
     rw (
       first_is_no_unit instruction.form.most columns,
       second_is_no_unit instruction.form.most (first_operand Plain instruction.form.most columns).1,
@@ -254,22 +248,23 @@ each_row_is_own : list_all (λ (row : AnOwnRow). is_own row.1) assembler_operati
 unfolding assembler_operations
 each_row_is_own = refl
 
-field_is_fitted : (span : Option Span) → is_not_fitted (describe (bodies.Field span)).contents ≡ false
-field_is_fitted None = refl
-field_is_fitted (Some span) = refl
+field_is_fitted : (features : Features) (span : Option Span)
+    → is_not_fitted features (describe (bodies.Field span)).contents ≡ false
+field_is_fitted features None = refl
+field_is_fitted features (Some span) = refl
 
-own_is_fitted : (operation : Operation) (columns : List ℕ) → is_own operation ≡ true
-    → is_not_fitted (describe (body_with operation columns)).contents ≡ false
-own_is_fitted (operations.Instruction instruction) columns own = absurd (true≢false (sym own))
-own_is_fitted operations.MarkedConstant columns own = refl
-own_is_fitted operations.Constant columns own = refl
-own_is_fitted operations.Space columns own = refl
-own_is_fitted operations.Areas columns own = refl
-own_is_fitted operations.Field columns own = field_is_fitted (span_of columns)
-own_is_fitted operations.Equate columns own = refl
-own_is_fitted operations.Origin columns own = refl
-own_is_fitted operations.Execute columns own = refl
-own_is_fitted operations.End columns own = refl
+own_is_fitted : (features : Features) (operation : Operation) (columns : List ℕ) → is_own operation ≡ true
+    → is_not_fitted features (describe (body_with operation columns)).contents ≡ false
+own_is_fitted features (operations.Instruction instruction) columns own = absurd (true≢false (sym own))
+own_is_fitted features operations.MarkedConstant columns own = refl
+own_is_fitted features operations.Constant columns own = refl
+own_is_fitted features operations.Space columns own = refl
+own_is_fitted features operations.Areas columns own = refl
+own_is_fitted features operations.Field columns own = field_is_fitted features (span_of columns)
+own_is_fitted features operations.Equate columns own = refl
+own_is_fitted features operations.Origin columns own = refl
+own_is_fitted features operations.Execute columns own = refl
+own_is_fitted features operations.End columns own = refl
 
 -- what rows that were found ask for
 abbrev found_body : Option ARow → Option AnOwnRow → List ℕ → Body
@@ -280,23 +275,25 @@ twice : (b : Bool) → not (not b) ≡ false → b ≡ false
 twice true e = absurd (true≢false e)
 twice false e = refl
 
--- what the plain language takes, the machine carries out
-pub plain_is_fitted : (operation columns : List ℕ) → has_bad_operands (body_of operation columns) ≡ false
-    → is_not_fitted (describe (body_of operation columns)).contents ≡ false
-plain_is_fitted operation columns good =
+-- what the plain language takes, each machine carries out
+pub plain_is_fitted : (features : Features) (operation columns : List ℕ)
+    → has_bad_operands (body_of operation columns) ≡ false
+    → is_not_fitted features (describe (body_of operation columns)).contents ≡ false
+plain_is_fitted features operation columns good =
     by (find (λ (row : ARow). bytes_eq row.0 operation) instructions) refl
     (find (λ (row : AnOwnRow). bytes_eq row.0 operation) assembler_operations) refl good
   where
     by : (row : Option ARow) → find (λ (row : ARow). bytes_eq row.0 operation) instructions ≡ row
         → (own : Option AnOwnRow) → find (λ (row : AnOwnRow). bytes_eq row.0 operation) assembler_operations ≡ own
-        → has_bad_operands (found_body row own columns) ≡ false → is_not_fitted (describe (found_body row own columns)).contents ≡ false
+        → has_bad_operands (found_body row own columns) ≡ false
+        → is_not_fitted features (describe (found_body row own columns)).contents ≡ false
     by (Some row) found own e good =
-        operands_are_fitted (instruction_in row) columns
-        (row_is_fitted row columns
+        operands_are_fitted features (instruction_in row) columns
+        (row_is_fitted features row columns
         (found_has (λ (row : ARow). bytes_eq row.0 operation) fits_all instructions row each_row_fits found)
         (twice (has_malformed (operands_of Plain (instruction_in row).form columns)) good))
     by None none (Some own) found good =
-        own_is_fitted own.1 columns
+        own_is_fitted features own.1 columns
         (found_has (λ (row : AnOwnRow). bytes_eq row.0 operation) (λ (row : AnOwnRow). is_own row.1) assembler_operations
         own each_row_is_own found)
     by None none None none_own good = refl

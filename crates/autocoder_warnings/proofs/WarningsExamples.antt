@@ -2,6 +2,9 @@
 use Rattle.std.proofs.Common.{◌≡◌, ℕ, List, [], ◌∷◌, ◌++◌, map, Option, None, Some, refl}
 use Rattle.std.specs.Prelude.{codes}
 use Rattle.bcd_1401.specs.Graphic.{graphics}
+use Rattle.machine_panel.specs.Features.{no_features, with_feature}
+use Rattle.machine_panel.specs.declared.features.Feature.TheVariants.{BitTest, Lengths, Multiply}
+use Rattle.machine_panel.specs.declared.features.Features.{Features}
 use Rattle.autocoder_statements.specs.Heading.{system_cards}
 use Rattle.autocoder_statements.specs.Language.{wider_line}
 use Rattle.autocoder_statements.specs.Mnemonic.{instructions, assembler_operations}
@@ -21,7 +24,7 @@ use Rattle.autocoder_warnings.specs.declared.warning.WarningKind.TheVariants as 
 -- the warnings of a source in 350 places, with all tables open
 warned_of : List ℕ → List Warning
 unfolding columns_of instructions assembler_operations graphics system_cards
-warned_of source = all_warnings 350 source (lines_in Plain source)
+warned_of source = all_warnings no_features 350 source (lines_in Plain source)
 
 warned : ℕ → WarningKind → Warning
 warned line kind = record { line = line; kind = kind }
@@ -48,11 +51,14 @@ like : warned_of (codes "     A         ZA   +0,B\n               C    +5,B\n   
 unfolding warned_of warned
 like = refl
 
--- the warnings of a source in the wider language, in 4,000 places
-wide_warned_of : List ℕ → List Warning
+-- the warnings of a source in the wider language, in 4,000 places, with features and without
+wide_warned_with : Features → List ℕ → List Warning
 unfolding columns_of instructions assembler_operations wide_instructions wide_operations graphics wider_line
     wide_line_with system_cards
-wide_warned_of source = all_warnings 4000 source (lines_in Ibm source)
+wide_warned_with features source = all_warnings features 4000 source (lines_in Ibm source)
+
+abbrev wide_warned_of : List ℕ → List Warning
+wide_warned_of source = wide_warned_with no_features source
 
 -- a label that only a literal names is used, and its number may get a sign by way of the literal
 named : List ℕ
@@ -61,7 +67,7 @@ named =
     ++ codes "               END  GO\n"
 
 a_literal_uses_a_label : wide_warned_of named ≡ []
-unfolding wide_warned_of named
+unfolding wide_warned_with named
 a_literal_uses_a_label = refl
 
 -- WTM needs a unit, which the machine hasn't got; C alone is an instruction, but no word mark ends the last one
@@ -72,8 +78,55 @@ compared =
 a_chain_is_warned_of : wide_warned_of compared
     ≡ warned 1 kinds.NotFitted
     ∷ warned 3 (kinds.ReadOn 342) ∷ []
-unfolding wide_warned_of compared warned
+unfolding wide_warned_with compared warned
 a_chain_is_warned_of = refl
+
+-- where D is fitted, a divisor of zero sets the indicator that BAV tests
+divided : List ℕ
+divided =
+    codes "     GO        D    GO,GO\n               BAV  GO\n               DCW  0\n"
+    ++ codes "               END  GO\n"
+
+a_division_is_not_fitted : wide_warned_of divided ≡ warned 1 kinds.NotFitted ∷ warned 2 kinds.UnsetIndicator ∷ []
+unfolding wide_warned_with divided warned
+a_division_is_not_fitted = refl
+
+a_division_is_fitted : wide_warned_with (with_feature no_features Multiply) divided ≡ []
+unfolding wide_warned_with divided
+a_division_is_fitted = refl
+
+-- where H has a second address, it stores that address with its zones, and TAG may get a sign
+stored : List ℕ
+stored =
+    codes "     GO        SBR  TAG,GO\n               C    +5,TAG\n               H    GO\n"
+    ++ codes "     TAG       DCW  25\n               END  GO\n"
+
+a_second_address_is_not_fitted : wide_warned_of stored ≡ warned 1 kinds.NotFitted ∷ warned 2 kinds.UnlikeSigns ∷ []
+unfolding wide_warned_with stored warned
+a_second_address_is_not_fitted = refl
+
+a_second_address_is_fitted : wide_warned_with (with_feature no_features Lengths) stored ≡ []
+unfolding wide_warned_with stored
+a_second_address_is_fitted = refl
+
+-- branches of one character need the lengths; that by bits needs its feature too
+chained : List ℕ
+chained =
+    codes "     GO        BCE  GO,GO,X\n               CHAIN2\n               BBE\n"
+    ++ codes "               DCW  0\n               END  GO\n"
+
+chains_with : Features → List Warning
+unfolding wide_warned_with chained
+chains_with features = wide_warned_with features chained
+
+chains_are_fitted : chains_with no_features ∷ chains_with (with_feature no_features BitTest)
+    ∷ chains_with (with_feature no_features Lengths)
+    ∷ chains_with (with_feature (with_feature no_features BitTest) Lengths) ∷ []
+    ≡ (warned 2 kinds.NotFitted ∷ warned 3 kinds.NotFitted ∷ [])
+    ∷ (warned 2 kinds.NotFitted ∷ warned 3 kinds.NotFitted ∷ [])
+    ∷ (warned 3 kinds.NotFitted ∷ []) ∷ [] ∷ []
+unfolding chains_with warned
+chains_are_fitted = refl
 
 -- the second line fills the place of the first; between them EX would enter a phase
 overlap : ℕ → ℕ → Option ℕ → WarningKind

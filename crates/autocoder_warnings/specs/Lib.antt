@@ -1,3 +1,4 @@
+pub mod FittedNotes
 pub mod Loss
 pub mod Overlap
 pub mod Warnings

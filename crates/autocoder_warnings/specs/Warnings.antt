@@ -6,10 +6,13 @@ use Rattle.std.specs.Option.{option_map_or, option_and_then}
 use Rattle.std.specs.Ordering.{int_eq}
 use Rattle.std.specs.Str.{byte}
 use Rattle.bcd_1401.specs.declared.cell.Cell.{Cell}
-use Rattle.machine_operations.specs.Operation.{is_fitted, longest_at}
+use Rattle.machine_operations.specs.Fitted.{is_fitted_with}
+use Rattle.machine_operations.specs.Operation.{longest_at}
+use Rattle.machine_panel.specs.declared.features.Features.{Features}
 use Rattle.autocoder_statements.specs.Constant.{bytes_of, is_at_sign}
 use Rattle.autocoder_statements.specs.Description.{describe}
 use Rattle.autocoder_statements.specs.Language.{cuts_no_text}
+use Rattle.autocoder_statements.specs.LoneAddress.{is_unit}
 use Rattle.autocoder_statements.specs.Operands.{count_of}
 use Rattle.autocoder_statements.specs.Statement.{well_formed}
 use Rattle.autocoder_statements.specs.declared.address.Address.{Address}
@@ -37,46 +40,43 @@ use Rattle.autocoder_statements.specs.declared.statement.Line.{Line}
 use Rattle.autocoder_statements.specs.declared.statement.Statement.{Statement}
 use Rattle.autocoder_symbols.specs.Reading.{lines_in}
 use Rattle.autocoder_faults.specs.FirstFault.{first_fault, symbol_in_base}
-use Rattle.autocoder_diagnostics.specs.Notes.{Known, known_in}
+use Rattle.autocoder_diagnostics.specs.Notes.{Known}
 use Rattle.autocoder_placing.specs.Filling.{filled, addresses_of}
 use Rattle.autocoder_placing.specs.Placement.{instruction_length, chain_length}
+use Rattle.autocoder_warnings.specs.FittedNotes.{known_with}
 use Rattle.autocoder_warnings.specs.Loss.{losses_of}
 use Rattle.autocoder_warnings.specs.Overlap.{overlaps_of}
 use Rattle.autocoder_warnings.specs.declared.loss.Loss.{Loss}
 use Rattle.autocoder_warnings.specs.declared.loss.Loss.TheVariants as losses
 use Rattle.autocoder_warnings.specs.declared.overlap.Overlap.{Overlap}
+use Rattle.autocoder_warnings.specs.declared.warning.Asked.{Asked}
+use Rattle.autocoder_warnings.specs.declared.warning.Asked.TheVariants as asked
 use Rattle.autocoder_warnings.specs.declared.warning.LineFacts.{LineFacts}
 use Rattle.autocoder_warnings.specs.declared.warning.Warning.{Warning}
 use Rattle.autocoder_warnings.specs.declared.warning.WarningKind.{WarningKind}
 use Rattle.autocoder_warnings.specs.declared.warning.WarningKind.TheVariants as warnings
 
--- an input-output unit
-abbrev pub is_unit : OperandField → Bool
-is_unit fields.Absent = false
-is_unit fields.Malformed = false
-is_unit (fields.Operand (operands.Address address)) = false
-is_unit (fields.Operand (operands.Literal literal)) = false
-is_unit (fields.Operand (operands.Unit unit)) = true
+-- an instruction that a machine with these features never carries out: one of an operation or a length that it hasn't
+-- got, or one with a unit, which no machine has
+abbrev pub is_unfitted : Features → Instruction → Operands → Bool
+is_unfitted features instruction of =
+    is_unit of.a || is_unit of.b || not (is_fitted_with features instruction.operation (instruction_length of))
 
--- an instruction that the machine never carries out: one of another length, or one with a unit, which it hasn't got
-abbrev pub is_unfitted : Instruction → Operands → Bool
-is_unfitted instruction of =
-    is_unit of.a || is_unit of.b || not (is_fitted instruction.operation (instruction_length of))
+-- a chain of instructions that can't be one character alone on such a machine
+abbrev pub is_unfitted_chain : Features → Chain → Bool
+is_unfitted_chain features chain =
+    option_map_or (λ operation. not (is_fitted_with features operation 1)) chain.operation false
 
--- a chain of instructions that can't be one character alone
-abbrev pub is_unfitted_chain : Chain → Bool
-is_unfitted_chain chain = option_map_or (λ operation. not (is_fitted operation 1)) chain.operation false
-
--- an instruction, or a chain of such, that the machine never carries out
-abbrev pub is_not_fitted : Contents → Bool
-is_not_fitted contents.Nothing = false
-is_not_fitted (contents.Instruction instruction of) = is_unfitted instruction of
-is_not_fitted (contents.MarkedConstant constant) = false
-is_not_fitted (contents.Constant constant) = false
-is_not_fitted (contents.Space places) = false
-is_not_fitted (contents.Areas areas) = false
-is_not_fitted (contents.Chain chain) = is_unfitted_chain chain
-is_not_fitted (contents.AddressConstant constant) = false
+-- an instruction, or a chain of such, that a machine with these features never carries out
+abbrev pub is_not_fitted : Features → Contents → Bool
+is_not_fitted features contents.Nothing = false
+is_not_fitted features (contents.Instruction instruction of) = is_unfitted features instruction of
+is_not_fitted features (contents.MarkedConstant constant) = false
+is_not_fitted features (contents.Constant constant) = false
+is_not_fitted features (contents.Space places) = false
+is_not_fitted features (contents.Areas areas) = false
+is_not_fitted features (contents.Chain chain) = is_unfitted_chain features chain
+is_not_fitted features (contents.AddressConstant constant) = false
 
 -- a label that no operand names
 abbrev pub is_unused : Known → Option Label → Bool
@@ -254,9 +254,9 @@ loss_warned None number = []
 loss_warned (Some loss) number = record { line = number; kind = warnings.Loses loss } ∷ []
 
 -- the warnings of a statement by what it says, on the line of this number
-abbrev pub own_warnings : Known → ℕ → Statement → List Warning
-own_warnings known number this =
-    warned_if (is_not_fitted (describe this.body).contents) number warnings.NotFitted
+abbrev pub own_warnings : Features → Known → ℕ → Statement → List Warning
+own_warnings features known number this =
+    warned_if (is_not_fitted features (describe this.body).contents) number warnings.NotFitted
     ++ warned_if (is_unused known (well_formed this.label) && not (is_of_areas (describe this.body).areas)) number
     warnings.UnusedLabel
     ++ warned_if (branches_unset known (describe this.body).contents) number warnings.UnsetIndicator
@@ -299,9 +299,9 @@ place_warnings storage number facts this =
     else loss_warned (loss_left (has_whole_text (describe this.body).contents) facts.loss) number)
 
 -- the warnings of a statement on the line of this number
-abbrev pub statement_warnings : Known → List Cell → ℕ → LineFacts → Statement → List Warning
-statement_warnings known storage number facts this =
-    own_warnings known number this ++ place_warnings storage number facts this
+abbrev pub statement_warnings : Features → Known → List Cell → ℕ → LineFacts → Statement → List Warning
+statement_warnings features known storage number facts this =
+    own_warnings features known number this ++ place_warnings storage number facts this
 
 -- what a line loses that is read as a comment: all of it, if it is a card for the system
 abbrev pub card_lost : Option Loss → Option Loss
@@ -310,42 +310,61 @@ card_lost (Some losses.Card) = Some losses.Card
 card_lost (Some losses.Text) = None
 card_lost (Some losses.Column73) = None
 
-abbrev pub warnings_with : Known → List Cell → ℕ → LineFacts → Option Statement → List Warning
-warnings_with known storage number facts None = loss_warned (card_lost facts.loss) number
-warnings_with known storage number facts (Some this) = statement_warnings known storage number facts this
+abbrev pub warnings_with : Features → Known → List Cell → ℕ → LineFacts → Option Statement → List Warning
+warnings_with features known storage number facts None = loss_warned (card_lost facts.loss) number
+warnings_with features known storage number facts (Some this) = statement_warnings features known storage number facts this
 
-abbrev pub line_warnings : Known → List Cell → ℕ → LineFacts → Line → List Warning
-line_warnings known storage number facts line = warnings_with known storage number facts line.statement
+abbrev pub line_warnings : Features → Known → List Cell → ℕ → LineFacts → Line → List Warning
+line_warnings features known storage number facts line = warnings_with features known storage number facts line.statement
 
 -- what is known of a line
 abbrev pub facts_of : ℕ → Option Overlap → Option Loss → LineFacts
 facts_of address overlap loss = record { address = address; overlap = overlap; loss = loss }
 
 -- the warnings of lines, counting them from this number: each begins at its address, and has its overlap and its loss
-abbrev pub warnings_from : Known → List Cell → ℕ → List ℕ → List (Option Overlap) → List (Option Loss) → List Line
-    → List Warning
-warnings_from known storage number addresses overlaps losses [] = []
-warnings_from known storage number [] overlaps losses (line ∷ lines) = []
-warnings_from known storage number (address ∷ addresses) [] losses (line ∷ lines) = []
-warnings_from known storage number (address ∷ addresses) (overlap ∷ overlaps) [] (line ∷ lines) = []
-warnings_from known storage number (address ∷ addresses) (overlap ∷ overlaps) (loss ∷ losses) (line ∷ lines) =
-    line_warnings known storage number (facts_of address overlap loss) line
-    ++ warnings_from known storage (number + 1) addresses overlaps losses lines
+abbrev pub warnings_from : Features → Known → List Cell → ℕ → List ℕ → List (Option Overlap) → List (Option Loss)
+    → List Line → List Warning
+warnings_from features known storage number addresses overlaps losses [] = []
+warnings_from features known storage number [] overlaps losses (line ∷ lines) = []
+warnings_from features known storage number (address ∷ addresses) [] losses (line ∷ lines) = []
+warnings_from features known storage number (address ∷ addresses) (overlap ∷ overlaps) [] (line ∷ lines) = []
+warnings_from features known storage number (address ∷ addresses) (overlap ∷ overlaps) (loss ∷ losses) (line ∷ lines) =
+    line_warnings features known storage number (facts_of address overlap loss) line
+    ++ warnings_from features known storage (number + 1) addresses overlaps losses lines
 
--- the warnings of a source whose lines these are, in their order, for core storage of this size
-abbrev pub all_warnings : ℕ → List ℕ → List Line → List Warning
-all_warnings size source lines =
-    warnings_from (known_in lines) (filled size lines) 1 (addresses_of lines) (overlaps_of size lines)
+-- the warnings of a source whose lines these are, in their order, for core storage of this size on a machine with these
+-- features
+abbrev pub all_warnings : Features → ℕ → List ℕ → List Line → List Warning
+all_warnings features size source lines =
+    warnings_from features (known_with features lines) (filled size lines) 1 (addresses_of lines) (overlaps_of size lines)
     (losses_of source) lines
+
+-- a warning is of something that isn't read or isn't started
+abbrev pub is_of_loss : WarningKind → Bool
+is_of_loss warnings.NotFitted = false
+is_of_loss warnings.UnusedLabel = false
+is_of_loss warnings.UnsetIndicator = false
+is_of_loss warnings.UnlikeSigns = false
+is_of_loss warnings.NeverBranches = false
+is_of_loss warnings.StartsNothing = true
+is_of_loss (warnings.ReadOn place) = false
+is_of_loss (warnings.Overlaps overlap) = false
+is_of_loss (warnings.Loses loss) = true
+
+-- a warning is asked for
+abbrev pub is_asked : Asked → Warning → Bool
+is_asked asked.All warning = true
+is_asked asked.Lost warning = is_of_loss warning.kind
 
 -- a source whose lines have no fault in the plain language, whatever the size of core storage
 abbrev pub IsTakenPlain : List ℕ → Type 0
 IsTakenPlain source = first_fault Plain (lines_in Plain source) ≡ None
 
--- no warning tells that the machine never carries out an instruction
+-- no warning says that the machine never carries out an instruction
 abbrev pub AllFitted : List Warning → Type 0
 AllFitted told = All (λ (this : Warning). this.kind ≢ warnings.NotFitted) told
 
--- if the plain language takes a source, and cuts no text of it, none of its warnings tells so
+-- if the plain language takes a source, and cuts no text of it, none of its warnings says so, whatever the machine is
+-- fitted with
 abbrev pub PlainIsCarriedOut : List ℕ → List Warning → Type 0
 PlainIsCarriedOut source told = cuts_no_text source ≡ true → IsTakenPlain source → AllFitted told

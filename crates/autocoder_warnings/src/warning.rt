@@ -1,17 +1,23 @@
 //! What a source without a fault says and hardly means.
-ghost use Rattle.std.specs.Prelude.{◌≡◌, ◌+◌, ◌<◌, ◌^◌, ◌++◌, [], length, replicate, take, IfOk, IfErr, OnOk};
+ghost use Rattle.std.specs.Prelude.{◌≡◌, ◌+◌, ◌<◌, ◌^◌, ◌++◌, [], length, replicate, take, All, Contains, IfOk, IfErr};
+ghost use Rattle.std.specs.Prelude.{OnOk};
+ghost use Rattle.std.specs.List.{filter};
 ghost use Rattle.machine_operations.specs.Operation.{longest_at};
+ghost use Rattle.machine_panel.specs.Features.{no_features};
+ghost use Rattle.autocoder_statements.specs.LoneAddress.{is_unit};
 ghost use Rattle.autocoder_statements.specs.SourceLine.{lines_of};
 ghost use Rattle.autocoder_statements.specs.Statement.{well_formed};
-ghost use Rattle.autocoder_symbols.specs.Reading.{lines_in};
+ghost use Rattle.autocoder_symbols.specs.Chains.{chains_of};
 ghost use Rattle.autocoder_symbols.specs.Fault.{IsMemory};
+ghost use Rattle.autocoder_symbols.specs.Reading.{lines_in};
+ghost use Rattle.autocoder_symbols.specs.Symbols.{sites_of};
+ghost use Rattle.autocoder_symbols.specs.View.{chains_view};
 ghost use Rattle.autocoder_diagnostics.specs.Noted.{known_of};
-ghost use Rattle.autocoder_diagnostics.specs.Notes.{known_in};
 ghost use Rattle.autocoder_placing.specs.Cells.{address_or_zero};
 ghost use Rattle.autocoder_placing.specs.Filling.{addresses_from, filled, filled_by, filled_from};
 ghost use Rattle.autocoder_placing.specs.Placement.{instruction_length, placed, placed_after, unplaced};
 ghost use Rattle.autocoder_placing.specs.View.{places_of};
-ghost use Rattle.autocoder_warnings.specs.Warnings.{is_unit, is_unfitted, is_unfitted_chain, is_not_fitted, is_unused};
+ghost use Rattle.autocoder_warnings.specs.Warnings.{is_unfitted, is_unfitted_chain, is_not_fitted, is_unused};
 ghost use Rattle.autocoder_warnings.specs.Warnings.{tests_comparison, is_unset, branches_unset, is_signed_literal};
 ghost use Rattle.autocoder_warnings.specs.Warnings.{lone_symbol, stays_unsigned, are_unlike, compares_unlike};
 ghost use Rattle.autocoder_warnings.specs.Warnings.{fifth_before};
@@ -21,10 +27,12 @@ ghost use Rattle.autocoder_warnings.specs.Warnings.{is_of_areas, is_idle, is_one
 ghost use Rattle.autocoder_warnings.specs.Warnings.{may_begin, names_phase, starts_nothing};
 ghost use Rattle.autocoder_warnings.specs.Warnings.{has_whole_text, holds_at_sign, loss_left};
 ghost use Rattle.autocoder_warnings.specs.Warnings.{overlap_warned, loss_warned, own_warnings, place_warnings};
+ghost use Rattle.autocoder_warnings.specs.FittedNotes.{known_with};
 ghost use Rattle.autocoder_warnings.specs.Loss.{loss_of, losses_of};
 ghost use Rattle.autocoder_warnings.specs.Overlap.{first_overlap, overlaps_from, with_filler};
-ghost use Rattle.autocoder_warnings.specs.Warnings.{PlainIsCarriedOut};
+ghost use Rattle.autocoder_warnings.specs.Warnings.{is_asked, PlainIsCarriedOut};
 
+use crate::fitted_notes::notes_with;
 use crate::loss::{Loss, has_at_sign, loss_of};
 use crate::overlap::{Overlap, put_places};
 use autocoder_diagnostics::Notes;
@@ -33,9 +41,10 @@ use autocoder_statements::{
     Addressing, AreaRole, Base, Chain, Constant, Contents, Instruction, Label, LabelField,
     Language, Line, Literal, Operand, OperandField, Operands, Statement, split_line,
 };
-use autocoder_symbols::{AsmFault, Lines, SourceHashing, declared, read_lines};
+use autocoder_symbols::{AsmFault, Chains, Lines, SourceHashing, declared, read_lines};
 use bcd_1401::{Cell, Char};
-use machine_operations::{is_fitted, longest_at};
+use machine_operations::{is_fitted_with, longest_at};
+use machine_panel::Features;
 use std::alloc::Global;
 
 /// What a line says and hardly means.
@@ -46,7 +55,8 @@ pub enum WarningKind {
     NotFitted,
     /// No operand names the label, which isn't that of a field of areas: such a field may only describe a record.
     UnusedLabel,
-    /// A branch tests the last comparison or an overflow, and no instruction compares, or adds and subtracts.
+    /// A branch tests the last comparison or an overflow, and no instruction sets the indicator. C sets that of a
+    /// comparison; A and S set that of an overflow, and so does a division where it is fitted, but ZA and ZS don't.
     UnsetIndicator,
     /// A literal with a sign is compared with a number that has none. The sign is a zone over the units, so they are
     /// never equal.
@@ -72,6 +82,48 @@ pub struct Warning {
     pub kind: WarningKind,
 }
 
+/// Which warnings are asked for.
+#[derive(Clone, Copy, Debug, PartialEq, Eq)]
+pub enum Asked {
+    /// All.
+    All,
+    /// Those of what isn't read and of what isn't started: it looks as if the program were another one.
+    Lost,
+}
+
+/// Whether a warning is asked for.
+fn is_asked(asked: Asked, warning: Warning) -> bool
+    ensures { result ≡ is_asked asked warning }
+{
+    match (asked, warning.kind) {
+        (Asked::All, _) => true,
+        (Asked::Lost, WarningKind::StartsNothing | WarningKind::Loses(_)) => true,
+        (
+            Asked::Lost,
+            WarningKind::NotFitted
+            | WarningKind::UnusedLabel
+            | WarningKind::UnsetIndicator
+            | WarningKind::UnlikeSigns
+            | WarningKind::NeverBranches
+            | WarningKind::ReadOn(_)
+            | WarningKind::Overlaps(_),
+        ) => false,
+    }
+}
+
+/// Adds those of some warnings that are asked for.
+fn put_asked(warnings: &mut Vec<Warning>, asked: Asked, found: &[Warning]) -> Result<(), AsmFault>
+    ensures ok { OnOk result (warnings.new.items ≡ warnings.old.items ++ filter (is_asked asked) found.now) }
+    ensures err { IfErr result IsMemory }
+{
+    for warning in found {
+        if is_asked(asked, *warning) {
+            warnings.push(*warning)?;
+        }
+    }
+    Ok(())
+}
+
 /// Whether an operand is an input-output unit.
 fn is_unit(field: OperandField) -> bool
     ensures { result ≡ is_unit field }
@@ -79,32 +131,38 @@ fn is_unit(field: OperandField) -> bool
     matches!(field, OperandField::Operand(Operand::Unit(_)))
 }
 
-/// Whether the machine never carries out an instruction.
-fn is_unfitted(instruction: Instruction, operands: Operands) -> bool
-    ensures { result ≡ is_unfitted instruction operands }
+/// Whether a machine with these features never carries out an instruction.
+fn is_unfitted(features: Features, instruction: Instruction, operands: Operands) -> bool
+    ensures { result ≡ is_unfitted features instruction operands }
 {
     is_unit(operands.a)
         || is_unit(operands.b)
-        || !is_fitted(instruction.operation, instruction_length(operands))
+        || !is_fitted_with(
+            features,
+            instruction.operation,
+            instruction_length(operands),
+        )
 }
 
-/// Whether the machine never carries out the instructions of a chain.
-fn is_unfitted_chain(chain: Chain) -> bool
-    ensures { result ≡ is_unfitted_chain chain }
+/// Whether it never carries out the instructions of a chain.
+fn is_unfitted_chain(features: Features, chain: Chain) -> bool
+    ensures { result ≡ is_unfitted_chain features chain }
 {
     match chain.operation {
-        Some(operation) => !is_fitted(operation, 1),
+        Some(operation) => !is_fitted_with(features, operation, 1),
         None => false,
     }
 }
 
-/// Whether a statement is an instruction, or a chain of such, that the machine never carries out.
-fn is_not_fitted(contents: Contents) -> bool
-    ensures { result ≡ is_not_fitted contents }
+/// Whether a statement is an instruction, or a chain of such, that it never carries out.
+fn is_not_fitted(features: Features, contents: Contents) -> bool
+    ensures { result ≡ is_not_fitted features contents }
 {
     match contents {
-        Contents::Instruction(instruction, operands) => is_unfitted(instruction, operands),
-        Contents::Chain(chain) => is_unfitted_chain(chain),
+        Contents::Instruction(instruction, operands) => {
+            is_unfitted(features, instruction, operands)
+        },
+        Contents::Chain(chain) => is_unfitted_chain(features, chain),
         Contents::Nothing
         | Contents::MarkedConstant(_)
         | Contents::Constant(_)
@@ -451,6 +509,10 @@ pub struct LineFacts {
 /// What is known of all lines when one is warned of.
 #[derive(Drop)]
 struct Context {
+    /// Which warnings are asked for.
+    asked: Asked,
+    /// What the machine is fitted with.
+    features: Features,
     /// What they say of labels, and which indicators they can set.
     notes: Notes,
     /// Core storage as their cells fill it.
@@ -458,37 +520,47 @@ struct Context {
 }
 
 impl Context {
-    /// What is known of these lines for core storage of this size, once all is placed.
+    /// What is known of these lines for core storage of this size on a machine with these features, once all is placed.
     fn new(
         alloc: Global,
+        asked: Asked,
         all: &Placing<'_>,
         size: u16,
+        features: Features,
         lines: &Lines<'_>,
     ) -> Result<Context, AsmFault>
         requires { places_of all.now ≡ placed lines.now }
-        ensures notes { IfOk result (λ this. known_of this.notes ≡ known_in lines.now) }
+        ensures asked { IfOk result (λ this. this.asked ≡ asked) }
+        ensures features { IfOk result (λ this. this.features ≡ features) }
+        ensures notes { IfOk result (λ this. known_of this.notes ≡ known_with features lines.now) }
         ensures storage { IfOk result (λ this. this.storage.items ≡ filled size lines.now) }
         ensures err { IfErr result IsMemory }
     {
-        let notes = Notes::new(alloc, all.hashing, lines)?;
+        let notes = notes_with(alloc, all.hashing, features, lines)?;
         let storage = fill(alloc, all, size, lines)?;
-        Ok(Context { notes, storage })
+        Ok(Context {
+            asked,
+            features,
+            notes,
+            storage,
+        })
     }
 }
 
 /// Adds the warnings of a statement by what it says, on the line of this number.
 fn warn_of_own(
     warnings: &mut Vec<Warning>,
+    features: Features,
     notes: &Notes,
     number: u64,
     statement: Statement,
 ) -> Result<(), AsmFault>
     ensures ok { OnOk result
-        (warnings.new.items ≡ warnings.old.items ++ own_warnings (known_of notes.now) number statement) }
+        (warnings.new.items ≡ warnings.old.items ++ own_warnings features (known_of notes.now) number statement) }
     ensures err { IfErr result IsMemory }
 {
     let row = statement.body.describe();
-    let not_fitted = is_not_fitted(row.contents);
+    let not_fitted = is_not_fitted(features, row.contents);
     let unused = is_unused(notes, statement.label) && !is_of_areas(row.areas);
     let unset = branches_unset(notes, row.contents);
     let unlike = compares_unlike(notes, row.contents);
@@ -574,8 +646,8 @@ fn card_lost(loss: Option<Loss>) -> Option<Loss>
     }
 }
 
-/// Adds the warnings of the line of this number.
-fn warn_of_line(
+/// Adds all warnings of the line of this number.
+fn put_all_of_line(
     warnings: &mut Vec<Warning>,
     this: &Context,
     number: u64,
@@ -583,16 +655,34 @@ fn warn_of_line(
     line: &Line,
 ) -> Result<(), AsmFault>
     ensures ok { OnOk result (warnings.new.items ≡ warnings.old.items
-        ++ line_warnings (known_of this.now.notes) this.now.storage.items number facts line.now) }
+        ++ line_warnings this.now.features (known_of this.now.notes) this.now.storage.items number facts line.now) }
     ensures err { IfErr result IsMemory }
 {
     match line.statement {
         Some(statement) => {
-            warn_of_own(warnings, &this.notes, number, statement)?;
+            warn_of_own(warnings, this.features, &this.notes, number, statement)?;
             warn_of_place(warnings, &this.storage, number, facts, statement)
         }
         None => warn_of_loss(warnings, card_lost(facts.loss), number),
     }
+}
+
+/// Adds those warnings of the line of this number that are asked for.
+fn warn_of_line(
+    alloc: Global,
+    warnings: &mut Vec<Warning>,
+    this: &Context,
+    number: u64,
+    facts: LineFacts,
+    line: &Line,
+) -> Result<(), AsmFault>
+    ensures ok { OnOk result (warnings.new.items ≡ warnings.old.items ++ filter (is_asked this.now.asked)
+        (line_warnings this.now.features (known_of this.now.notes) this.now.storage.items number facts line.now)) }
+    ensures err { IfErr result IsMemory }
+{
+    let mut found = Vec::new(alloc);
+    put_all_of_line(&mut found, this, number, facts, line)?;
+    put_asked(warnings, this.asked, &found)
 }
 
 /// The warnings of the lines so far.
@@ -655,7 +745,8 @@ impl<'a> WarningsSoFar<'a> {
         })
     }
 
-    /// Adds the warnings of a line of this text, with this many lines above it and these after it, and places it.
+    /// Adds those warnings of a line of this text that are asked for, with this many lines above it and these after it, and
+    /// places it.
     fn put_line(
         &mut self,
         alloc: Global,
@@ -670,11 +761,12 @@ impl<'a> WarningsSoFar<'a> {
         requires few { length lines.now < 2 ^ 32 }
         requires line { n < length lines.now }
         ensures warned { OnOk result (self.new.warnings.items ≡ self.old.warnings.items
-            ++ line_warnings (known_of this.now.notes) this.now.storage.items (n + 1)
+            ++ filter (is_asked this.now.asked)
+            (line_warnings this.now.features (known_of this.now.notes) this.now.storage.items (n + 1)
             (facts_of (address_or_zero (places_of self.old.so_far).next)
             (first_overlap self.old.fillers.items (take n lines.now)
             (filled_by (places_of all.now) (places_of self.old.so_far) line.now beyond.now)) (loss_of text.now))
-            line.now) }
+            line.now)) }
         ensures fillers { OnOk result (self.new.fillers.items ≡ with_filler (n + 1)
             (filled_by (places_of all.now) (places_of self.old.so_far) line.now beyond.now).first
             (filled_by (places_of all.now) (places_of self.old.so_far) line.now beyond.now).count
@@ -684,12 +776,13 @@ impl<'a> WarningsSoFar<'a> {
         ensures err { IfErr result IsMemory }
     {
         let facts = self.facts(alloc, all, lines, n, text, line, beyond)?;
-        warn_of_line(&mut self.warnings, this, n as u64 + 1, facts, line)?;
+        warn_of_line(alloc, &mut self.warnings, this, n as u64 + 1, facts, line)?;
         self.so_far.place(line)?;
         Ok(())
     }
 
-    /// Adds the warnings of the lines of a source.
+    /// Adds those warnings of the lines of a source that are asked for.
+    #[tactic(auto, using(crate::proofs::AskedLemmas::asked_of_two))]
     fn put_lines(
         &mut self,
         alloc: Global,
@@ -701,11 +794,12 @@ impl<'a> WarningsSoFar<'a> {
         requires few { length lines.now < 2 ^ 32 }
         requires as_many { length lines.now ≡ length (lines_of source.now) }
         ensures warned { OnOk result (self.new.warnings.items ≡ self.old.warnings.items
-            ++ warnings_from (known_of this.now.notes) this.now.storage.items 1
+            ++ filter (is_asked this.now.asked)
+            (warnings_from this.now.features (known_of this.now.notes) this.now.storage.items 1
             (addresses_from (places_of self.old.so_far) lines.now)
             (overlaps_from lines.now self.old.fillers.items 0
             (filled_from (places_of all.now) (places_of self.old.so_far) lines.now))
-            (losses_of source.now) lines.now) }
+            (losses_of source.now) lines.now)) }
         ensures err { IfErr result IsMemory }
     {
         let mut sources = source;
@@ -720,7 +814,7 @@ impl<'a> WarningsSoFar<'a> {
         Ok(())
     }
 
-    /// The warnings so far and those of the lines of a source.
+    /// The warnings so far and those of the lines of a source that are asked for.
     fn finish(
         self,
         alloc: Global,
@@ -732,11 +826,12 @@ impl<'a> WarningsSoFar<'a> {
         requires few { length lines.now < 2 ^ 32 }
         requires as_many { length lines.now ≡ length (lines_of source.now) }
         ensures warned { IfOk result (λ warnings. warnings.items ≡ self.entry.warnings.items
-            ++ warnings_from (known_of this.now.notes) this.now.storage.items 1
+            ++ filter (is_asked this.now.asked)
+            (warnings_from this.now.features (known_of this.now.notes) this.now.storage.items 1
             (addresses_from (places_of self.entry.so_far) lines.now)
             (overlaps_from lines.now self.entry.fillers.items 0
             (filled_from (places_of all.now) (places_of self.entry.so_far) lines.now))
-            (losses_of source.now) lines.now) }
+            (losses_of source.now) lines.now)) }
         ensures err { IfErr result IsMemory }
     {
         let mut made = self;
@@ -745,66 +840,114 @@ impl<'a> WarningsSoFar<'a> {
     }
 }
 
-/// The warnings of the lines of a source for core storage of this size, once all is placed.
+/// The warnings that are asked for of the lines of a source for core storage of this size on a machine with these
+/// features, once all is placed.
 fn warnings_placed(
     alloc: Global,
+    asked: Asked,
     all: &Placing<'_>,
     size: u16,
+    features: Features,
     source: &[u8],
     lines: &Lines<'_>,
 ) -> Result<Vec<Warning>, AsmFault>
     requires few { length lines.now < 2 ^ 32 }
     requires as_many { length lines.now ≡ length (lines_of source.now) }
     requires placed { places_of all.now ≡ placed lines.now }
-    ensures ok { IfOk result (λ warnings. warnings.items ≡ all_warnings size source.now lines.now) }
+    ensures ok { IfOk result
+        (λ warnings. warnings.items ≡ filter (is_asked asked) (all_warnings features size source.now lines.now)) }
     ensures err { IfErr result IsMemory }
 {
-    let this = Context::new(alloc, all, size, lines)?;
+    let this = Context::new(alloc, asked, all, size, features, lines)?;
     let made = WarningsSoFar::new(alloc, all, size)?;
     made.finish(alloc, &this, all, source, lines)
 }
 
-/// The warnings of the lines of a source for core storage of this size.
+/// The chains of EQUs of lines.
+fn chains_of_lines(
+    alloc: Global,
+    hashing: SourceHashing,
+    lines: &Lines<'_>,
+) -> Result<Chains, AsmFault>
+    requires { length lines.now < 2 ^ 32 }
+    ensures ok { IfOk result (λ chains. chains_view chains ≡ chains_of (sites_of lines.now) lines.now) }
+    ensures err { IfErr result IsMemory }
+{
+    let symbols = declared(alloc, hashing, Language::Ibm, lines)?;
+    Ok(symbols.chains)
+}
+
+/// The warnings that are asked for of the lines of a source for core storage of this size on a machine with these
+/// features.
 fn warnings_in(
     alloc: Global,
+    asked: Asked,
     size: u16,
+    features: Features,
     source: &[u8],
     lines: &Lines<'_>,
 ) -> Result<Vec<Warning>, AsmFault>
     requires few { length lines.now < 2 ^ 32 }
     requires as_many { length lines.now ≡ length (lines_of source.now) }
-    ensures ok { IfOk result (λ warnings. warnings.items ≡ all_warnings size source.now lines.now) }
+    ensures ok { IfOk result
+        (λ warnings. warnings.items ≡ filter (is_asked asked) (all_warnings features size source.now lines.now)) }
     ensures err { IfErr result IsMemory }
 {
     let hashing = SourceHashing::from_source(source);
-    let symbols = declared(alloc, hashing, Language::Ibm, lines)?;
-    let all = place_all(alloc, hashing, &symbols.chains, lines)?;
-    let warnings = warnings_placed(alloc, &all, size, source, lines)?;
+    let chains = chains_of_lines(alloc, hashing, lines)?;
+    let all = place_all(alloc, hashing, &chains, lines)?;
+    let warnings = warnings_placed(alloc, asked, &all, size, features, source, lines)?;
     Ok(warnings)
 }
 
-/// The warnings of a source in this language for core storage of this size, in the order of its lines, and those of a
-/// line in the order of the kinds. They speak of a source that assembles: in one with a fault they may only follow from
-/// it, as that of a label which a misspelled operand should name.
+/// Those warnings of a source in this language, for core storage of this size on a machine with these features, that are
+/// asked for: in the order of its lines, and those of a line in the order of the kinds. No other is held.
 ///
 /// # Errors
 ///
 /// `Memory` if memory is refused or the source is too long.
-#[tactic(auto, using(crate::proofs::PlainWarningsLemmas::plain_is_carried_out))]
+pub fn asked_warnings(
+    alloc: Global,
+    asked: Asked,
+    language: Language,
+    source: &[u8],
+    size: u16,
+    features: Features,
+) -> Result<Vec<Warning>, AsmFault>
+    ensures ok { IfOk result (λ warnings. warnings.items
+        ≡ filter (is_asked asked) (all_warnings features size source.now (lines_in language source.now))) }
+    ensures err { IfErr result IsMemory }
+{
+    let lines = read_lines(alloc, language, source)?;
+    let warnings = warnings_in(alloc, asked, size, features, source, &lines.lend())?;
+    Ok(warnings)
+}
+
+/// The warnings of a source in this language, for core storage of this size on a machine with these features: in the
+/// order of its lines, and those of a line in the order of the kinds. They speak of a source that assembles: in one with a
+/// fault they may only follow from it, as that of a label which a misspelled operand should name.
+///
+/// # Errors
+///
+/// `Memory` if memory is refused or the source is too long.
 pub fn source_warnings(
     alloc: Global,
     language: Language,
     source: &[u8],
     size: u16,
+    features: Features,
 ) -> Result<Vec<Warning>, AsmFault>
     ensures ok { IfOk result (λ warnings. warnings.items
-        ≡ all_warnings size source.now (lines_in language source.now)) }
+        ≡ all_warnings features size source.now (lines_in language source.now)) }
 
-    // The machine carries out each instruction of what the plain language takes: no warning tells otherwise.
+    // Each machine carries out each instruction of what the plain language takes: no warning says otherwise.
     ensures carried_out { IfOk result (λ warnings. PlainIsCarriedOut source.now warnings.items) }
+
+    // Features add none: each is one of those for a machine without features.
+    ensures fewer { IfOk result (λ warnings. All
+        (Contains (all_warnings no_features size source.now (lines_in language source.now))) warnings.items) }
     ensures err { IfErr result IsMemory }
 {
-    let lines = read_lines(alloc, language, source)?;
-    let warnings = warnings_in(alloc, size, source, &lines.lend())?;
+    let warnings = asked_warnings(alloc, Asked::All, language, source, size, features)?;
     Ok(warnings)
 }

@@ -2,7 +2,7 @@
 //!
 //! ```text
 //! let source = read_whole(rt, "sales.source")?;       // its bytes, or why not
-//! write_whole(rt, "sales.image", text.as_slice())?    // the old file, or the new one
+//! put_whole(rt, "sales.image", text.as_slice())?      // the old file, or the new one
 //! is_one_file(rt, "one", "./one")?                    // true, whether it is there or not
 //! ```
 #![tactic(auto)]
@@ -19,4 +19,4 @@ pub use fault::{FileFault, WriteFault};
 pub use limited::{LimitedFile, size_limit};
 pub use names::is_one_file;
 pub use reading::read_whole;
-pub use writing::{create, put_whole, write_whole};
+pub use writing::{WholeFile, begin_whole, create, end_whole, put_whole};

@@ -38,6 +38,11 @@ impl<F: OpenFile> LimitedFile<F> {
         };
         LimitedFile { file, left }
     }
+
+    /// Forces it onto the disk.
+    pub(crate) fn sync_all(&self) -> io::Result<()> {
+        self.file.sync_all()
+    }
 }
 
 impl<F: Write> Write for LimitedFile<F> {

@@ -1,11 +1,11 @@
 //! A file that is written whole or not at all.
 
 use crate::fault::WriteFault;
-use crate::limited::{LimitedFile, size_limit};
+use crate::limited::LimitedFile;
 use crate::names::{end_of_links, split_name};
 use bytes_streams::{ToWriter, put_all};
 use std::fs::{File, Metadata, OpenFile, OpenOptions};
-use std::io::ErrorKind;
+use std::io::{ErrorKind, Printer, Write};
 use std::os::unix::fs::{MetadataExt, chown};
 use std::rt::Files;
 use std::{fs, io};
@@ -15,6 +15,52 @@ const STANDARD_OUTPUT: &str = "/dev/stdout";
 
 /// How many names are tried for the file that is to take the place of another.
 const NAMES: u32 = 100;
+
+/// A new file next to another, whose name it takes once it is whole.
+#[derive(Drop)]
+struct PartFile<F> {
+    file: LimitedFile<F>,
+    /// Its own name.
+    beside: String,
+    /// The name that it is to take.
+    name: String,
+}
+
+/// Where the bytes of a text go.
+#[derive(Drop)]
+enum Place<F, O> {
+    /// A file, written whole or not at all.
+    Part(PartFile<F>),
+    /// A device or a pipe, which takes them as they come.
+    Device(F),
+    /// Standard output, which does so too.
+    Output(O),
+}
+
+/// A file that is written as its bytes come. If it isn't ended as whole, what has its name is as it was; but a device, a
+/// pipe and standard output take the bytes as they come.
+#[derive(Drop)]
+pub struct WholeFile<F, O> {
+    place: Place<F, O>,
+}
+
+impl<F: Write, O: Write> Write for WholeFile<F, O> {
+    fn write(&mut self, buf: &[u8]) -> io::Result<usize> {
+        match &mut self.place {
+            Place::Part(part) => part.file.write(buf),
+            Place::Device(device) => device.write(buf),
+            Place::Output(output) => output.write(buf),
+        }
+    }
+
+    fn flush(&mut self) -> io::Result<()> {
+        match &mut self.place {
+            Place::Part(part) => part.file.flush(),
+            Place::Device(device) => device.flush(),
+            Place::Output(output) => output.flush(),
+        }
+    }
+}
 
 /// A new file next to the one of this name, and its own name.
 fn create_beside<R: Files + AllocGlobal>(rt: &R, name: &str) -> io::Result<(R::File, String)> {
@@ -29,21 +75,49 @@ fn create_beside<R: Files + AllocGlobal>(rt: &R, name: &str) -> io::Result<(R::F
     Err(io::Error::from(ErrorKind::AlreadyExists))
 }
 
-/// Writes a text to a file that is open.
-fn put_text<F: io::Write + Drop>(file: F, text: &[u8]) -> io::Result<F> {
-    let mut writer = ToWriter::new(file);
-    match put_all(&mut writer, text) {
-        Ok(()) => Ok(writer.into_inner()),
-        Err(_) => Err(io::Error::from(ErrorKind::WriteZero)),
-    }
-}
-
 /// Gives a new file the owner, the group and the permissions of an old one, as far as the system lets us.
 fn keep_rights<R: Files>(rt: &R, file: &R::File, beside: &str, old: &Metadata) {
     if chown(rt, beside, Some(old.uid()), Some(old.gid())).is_err() {
         let _ = chown(rt, beside, None, Some(old.gid()));
     }
     let _ = file.set_permissions(old.permissions());
+}
+
+/// A new file that is to take this name, with the rights of the old one if there is one.
+fn begin_part<R: Files + AllocGlobal>(
+    rt: &R,
+    name: String,
+    old: Option<Metadata>,
+) -> io::Result<PartFile<R::File>> {
+    let (file, beside) = create_beside(rt, name.as_str())?;
+    if let Some(old) = &old {
+        keep_rights(rt, &file, beside.as_str(), old);
+    }
+    Ok(PartFile {
+        file: LimitedFile::new(file),
+        beside,
+        name,
+    })
+}
+
+/// Where the bytes go of a file of this name, which may be a device or a pipe.
+fn place_of<R: Files + AllocGlobal, O>(rt: &R, name: &str) -> io::Result<Place<R::File, O>> {
+    match OpenOptions::new().write(true).open(rt, name) {
+        Ok(old) => {
+            let metadata = old.metadata()?;
+            if !metadata.is_file() {
+                return Ok(Place::Device(old));
+            }
+            // A link to a file stays one.
+            let path = end_of_links(rt, name)?;
+            Ok(Place::Part(begin_part(rt, path, Some(metadata))?))
+        }
+        Err(error) if error.kind() == ErrorKind::NotFound => {
+            let path = end_of_links(rt, name)?;
+            Ok(Place::Part(begin_part(rt, path, None)?))
+        }
+        Err(error) => Err(error),
+    }
 }
 
 /// Forces the names of a folder onto the disk, if the folder may be read.
@@ -54,104 +128,84 @@ fn sync_folder<R: Files>(rt: &R, name: &str) {
     }
 }
 
-/// Writes a text to a new file, forces it onto the disk, and gives it the name. Nothing is written of a text that is
-/// longer than a file may be.
-fn write_beside<R: Files>(
-    rt: &R,
-    file: R::File,
-    beside: &str,
-    name: &str,
-    text: &[u8],
-) -> io::Result<()> {
-    if text.len() as u64 > size_limit() {
-        return Err(io::Error::from(ErrorKind::FileTooLarge));
-    }
-    let file = put_text(file, text)?;
-    file.sync_all()?;
-    fs::rename(rt, beside, name)
+/// Forces a new file onto the disk, and gives it the name that it is to take.
+fn take_name<R: Files>(rt: &R, part: &PartFile<R::File>) -> io::Result<()> {
+    part.file.sync_all()?;
+    fs::rename(rt, part.beside.as_str(), part.name.as_str())
 }
 
-/// Writes a text to a new file, which then takes the name, and the rights of the old one if there is one.
-fn replace<R: Files + AllocGlobal>(
-    rt: &R,
-    name: &str,
-    old: Option<Metadata>,
-    text: &[u8],
-) -> io::Result<()> {
-    let (file, beside) = create_beside(rt, name)?;
-    if let Some(old) = &old {
-        keep_rights(rt, &file, beside.as_str(), old);
+/// Ends a new file, which takes its name if it is whole, and else is removed.
+fn end_part<R: Files>(rt: &R, part: PartFile<R::File>, is_whole: bool) -> Result<(), WriteFault> {
+    if is_whole && take_name(rt, &part).is_ok() {
+        sync_folder(rt, part.name.as_str());
+        return Ok(());
     }
-    let ended = write_beside(rt, file, beside.as_str(), name, text);
-    match &ended {
-        Ok(()) => sync_folder(rt, name),
-        Err(_) => {
-            let _ = fs::remove_file(rt, beside.as_str());
-        }
-    }
-    ended
+    let _ = fs::remove_file(rt, part.beside.as_str());
+    Err(WriteFault::Unwritten)
 }
 
-/// Writes a text in place of what a file of this name has, which may be a device or a pipe.
-fn put_in_place<R: Files + AllocGlobal>(rt: &R, name: &str, text: &[u8]) -> io::Result<()> {
-    match OpenOptions::new().write(true).open(rt, name) {
-        Ok(old) => {
-            let metadata = old.metadata()?;
-            if !metadata.is_file() {
-                let _ = put_text(old, text)?;
-                return Ok(());
-            }
-            // A link to a file stays one.
-            let path = end_of_links(rt, name)?;
-            replace(rt, path.as_str(), Some(metadata), text)
-        }
-        Err(error) if error.kind() == ErrorKind::NotFound => {
-            let path = end_of_links(rt, name)?;
-            replace(rt, path.as_str(), None, text)
-        }
-        Err(error) => Err(error),
-    }
-}
-
-/// Writes a text to the file of this name. It is written to a new file next to it, which is forced onto the disk and
-/// then takes the name, and the old file's owner, group and permissions as far as the system lets us; the folder is
-/// forced onto the disk after that. A link stays, and the file that it leads to is written. If the name is that of a
-/// device or a pipe, the text is written to that.
+/// Begins a file of this name. What is written to it goes to a new file next to it, which gets the owner, the group and
+/// the permissions of the old one as far as the system lets us, and is written up to the limit of the size of files. A
+/// link stays, and the file that it leads to is written. If the name is that of a device or a pipe, or of standard
+/// output, the bytes go there.
 ///
 /// # Errors
 ///
-/// `Unwritten` if no file can be made next to it, or the text isn't written, or the file that is there can't be
-/// written; `Memory` if there is no room for a name. A file that was there is then as it was.
-pub fn write_whole<R: Files + AllocGlobal>(
-    rt: &R,
+/// `Unwritten` if no file can be made next to it, or the file that is there can't be written; `Memory` if there is no
+/// room for a name.
+pub fn begin_whole<'r, R: Files + Print + AllocGlobal>(
+    rt: &'r R,
     name: &str,
-    text: &[u8],
-) -> Result<(), WriteFault> {
-    match put_in_place(rt, name, text) {
-        Ok(()) => Ok(()),
+) -> Result<WholeFile<R::File, Printer<'r, R>>, WriteFault> {
+    if name == STANDARD_OUTPUT {
+        return Ok(WholeFile {
+            place: Place::Output(io::writer(rt)),
+        });
+    }
+    match place_of(rt, name) {
+        Ok(place) => Ok(WholeFile { place }),
         Err(error) if error.kind() == ErrorKind::OutOfMemory => Err(WriteFault::Memory),
         Err(_) => Err(WriteFault::Unwritten),
     }
 }
 
-/// Writes a text to the file of this name, whole or not at all; or to standard output, if the name is its, as it comes.
+/// Ends a file. If all was written to it, it is forced onto the disk and takes its name, and the folder is forced onto
+/// the disk after that. Else what was written is removed, but for a device, a pipe and standard output.
 ///
 /// # Errors
 ///
-/// As those of `write_whole`.
+/// `Unwritten` if not all was written, or the file doesn't take its name. A file that was there is then as it was.
+pub fn end_whole<R: Files, O: Drop>(
+    rt: &R,
+    file: WholeFile<R::File, O>,
+    is_whole: bool,
+) -> Result<(), WriteFault> {
+    let WholeFile { place } = file;
+    match place {
+        Place::Part(part) => end_part(rt, part, is_whole),
+        Place::Device(_) | Place::Output(_) => {
+            if is_whole {
+                Ok(())
+            } else {
+                Err(WriteFault::Unwritten)
+            }
+        }
+    }
+}
+
+/// Writes a text to the file of this name, whole or not at all; or to a device, a pipe or standard output, as it comes.
+///
+/// # Errors
+///
+/// As those of `begin_whole` and `end_whole`.
 pub fn put_whole<R: Files + Print + AllocGlobal>(
     rt: &R,
     name: &str,
     text: &[u8],
 ) -> Result<(), WriteFault> {
-    if name != STANDARD_OUTPUT {
-        return write_whole(rt, name, text);
-    }
-    let mut writer = ToWriter::new(io::writer(rt));
-    match put_all(&mut writer, text) {
-        Ok(()) => Ok(()),
-        Err(_) => Err(WriteFault::Unwritten),
-    }
+    let mut writer = ToWriter::new(begin_whole(rt, name)?);
+    let written = put_all(&mut writer, text);
+    end_whole(rt, writer.into_inner(), written.is_ok())
 }
 
 /// A new file, in place of one of the name, to which bytes are written as they come, as many as a file may have.

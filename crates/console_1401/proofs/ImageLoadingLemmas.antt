@@ -14,7 +14,7 @@ use Rattle.room_alone.specs.declared.entry.Entry.{Entry}
 use Rattle.machine_commands.specs.declared.answer.Answer.TheVariants.{Done}
 use Rattle.machine_commands.specs.declared.command.Command.{Command}
 use Rattle.machine_commands.specs.declared.command.Command.TheVariants.{Deposit, Examine, Registers, SetI, Switch, Feed}
-use Rattle.machine_commands.specs.declared.command.Command.TheVariants.{LoadKey, Run, TakeLine, TakeCard}
+use Rattle.machine_commands.specs.declared.command.Command.TheVariants.{LoadKey, Run, TakeLine, TakeCard, Fit}
 use Rattle.console_1401.specs.ImageLoading.{done_entry, is_within, WentOnByFewer}
 
 -- a command that lies in core storage is done
@@ -31,6 +31,7 @@ done_within s LoadKey inside = absurd cc
 done_within s (Run limit) inside = absurd cc
 done_within s TakeLine inside = absurd cc
 done_within s TakeCard inside = absurd cc
+done_within s (Fit features) inside = refl
 
 -- those of an image that lies in core storage lie in it
 pub all_within : (size start : ℕ) (segments : List Segment) → list_all (is_inside size) segments ≡ true

@@ -1,11 +1,12 @@
 -- How a console loads an image (own): it gives the commands that load it, as seat 0, and each is answered `Done`.
-use Rattle.std.specs.Prelude.{◌≡◌, ℕ, ◌+◌, ◌<◌, Bool, false, List, ◌++◌, length, map, take, nat_le, nat_lt}
+use Rattle.std.specs.Prelude.{◌≡◌, ℕ, ◌+◌, ◌<◌, Bool, true, false, List, ◌++◌, length, map, take, nat_le, nat_lt}
 use Rattle.machine_image.specs.declared.image.Image.{Image}
-use Rattle.machine_loading.specs.Loading.{load_commands}
+use Rattle.machine_loading.specs.Loading.{fit_commands, load_commands}
+use Rattle.machine_panel.specs.declared.features.Features.{Features}
 use Rattle.machine_commands.specs.declared.answer.Answer.TheVariants.{Done}
 use Rattle.machine_commands.specs.declared.command.Command.{Command}
 use Rattle.machine_commands.specs.declared.command.Command.TheVariants.{Deposit, Examine, Registers, SetI, Switch, Feed}
-use Rattle.machine_commands.specs.declared.command.Command.TheVariants.{LoadKey, Run, TakeLine, TakeCard}
+use Rattle.machine_commands.specs.declared.command.Command.TheVariants.{LoadKey, Run, TakeLine, TakeCard, Fit}
 use Rattle.room_alone.specs.declared.entry.Entry.{Entry}
 use Rattle.room_alone.specs.Journal.{entry}
 
@@ -17,7 +18,12 @@ done_entry command = entry 0 command Done
 abbrev pub load_entries : Image → List Entry
 load_entries image = map done_entry (load_commands image)
 
--- whether a command deposits cells in core storage of this size, or sets the I register to one of its places
+-- and of features that a machine is fitted with
+abbrev pub fit_entries : Features → List Entry
+fit_entries features = map done_entry (fit_commands features)
+
+-- whether a command deposits cells in core storage of this size, sets the I register to one of its
+-- places, or fits the machine
 abbrev pub is_within : ℕ → Command → Bool
 is_within size (Deposit address cells) = nat_le (address + length cells) size
 is_within size (SetI address) = nat_lt address size
@@ -29,6 +35,7 @@ is_within size LoadKey = false
 is_within size (Run limit) = false
 is_within size TakeLine = false
 is_within size TakeCard = false
+is_within size (Fit features) = true
 
 -- the journal went on by the first of these entries, and not by all of them
 pub record WentOnByFewer (before after entries : List Entry) : Type 0 where

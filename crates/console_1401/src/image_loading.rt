@@ -1,12 +1,14 @@
-//! Loading an image.
+//! A machine made ready: it is fitted with features, and an image is loaded.
 ghost use Rattle.std.specs.Prelude.{◌≡◌, ◌++◌, ◌↔◌, ◌∷◌, [], true, map, nat_lt, IfErr, OnOk, OnErr};
 ghost use Rattle.std.specs.List.{list_all};
 ghost use Rattle.machine_image.specs.Image.{is_inside};
 ghost use Rattle.room_alone.specs.Journal.{is_full, refusal_of};
-ghost use Rattle.console_1401.specs.ImageLoading.{done_entry, load_entries, is_within, WentOnByFewer};
+ghost use Rattle.console_1401.specs.ImageLoading.{done_entry, fit_entries, load_entries, is_within};
+ghost use Rattle.console_1401.specs.ImageLoading.{WentOnByFewer};
 
 use machine_image::{Image, LentImage};
-use machine_loading::LoadCommands;
+use machine_loading::{LoadCommands, fit_command};
+use machine_panel::Features;
 use room_1401::{Command, Room, RoomFault};
 use room_alone::OWN_SEAT;
 
@@ -50,6 +52,25 @@ pub fn put_lent_image(room: &mut Room, image: &LentImage<'_>) -> Result<(), Room
     put_commands(room, LoadCommands::of_lent(image))
 }
 
+/// Fits the machine of a room with features, if there are any. The command is recorded as one of seat 0, answered
+/// `Done`.
+///
+/// # Errors
+///
+/// `JournalFull` if earlier commands have filled the journal, or `Memory` if there is no room for this one. Nothing was
+/// done.
+pub fn put_features(room: &mut Room, features: Features) -> Result<(), RoomFault>
+    ensures fitted { OnOk result (room.new.journal ≡ room.old.journal ++ fit_entries features) }
+    ensures err { OnErr result (room.new.journal ≡ room.old.journal) }
+    ensures fault { IfErr result (λ fault. fault ≡ refusal_of room.old.journal) }
+    ensures size { room.new.size ≡ room.old.size }
+{
+    match fit_command(features) {
+        Some(command) => put_command(room, command),
+        None => Ok(()),
+    }
+}
+
 /// Carries commands out, in order. Each lies in core storage.
 fn put_commands(room: &mut Room, commands: LoadCommands<'_>) -> Result<(), RoomFault>
     requires { list_all (is_within room.old.size) commands ≡ true }
@@ -65,7 +86,7 @@ fn put_commands(room: &mut Room, commands: LoadCommands<'_>) -> Result<(), RoomF
     Ok(())
 }
 
-/// Carries out a command that lies in core storage, as one of seat 0.
+/// Carries out a command that lies in core storage or fits the machine, as one of seat 0.
 #[tactic(auto, using(crate::proofs::ImageLoadingLemmas::done_within))]
 fn put_command(room: &mut Room, command: Command) -> Result<(), RoomFault>
     requires { is_within room.old.size command ≡ true }

@@ -16,7 +16,7 @@ use Rattle.machine_notation.specs.Cells.{cell_text, cells_text}
 use Rattle.machine_notation.specs.Digits.{digits_in}
 use Rattle.machine_commands.specs.declared.command.Command.{Command}
 use Rattle.machine_commands.specs.declared.command.Command.TheVariants.{Deposit, Examine, Registers, SetI, Switch, Feed}
-use Rattle.machine_commands.specs.declared.command.Command.TheVariants.{LoadKey, Run, TakeLine, TakeCard}
+use Rattle.machine_commands.specs.declared.command.Command.TheVariants.{LoadKey, Run, TakeLine, TakeCard, Fit}
 use Rattle.console_text.specs.declared.line.Line.TheVariants as line
 use Rattle.console_text.specs.Words.{blank, letter_of, most_digits}
 use Rattle.machine_notation.specs.Characters.{graphics_of, trimmed}
@@ -187,6 +187,7 @@ typed_of (Run limit) can =
     (0, codes "RUN", blank ∷ digits_in 1 limit, refl, refl, refl, last_number limit 1 (number_typed limit can))
 typed_of TakeLine can = (0, codes "LINE", [], refl, refl, tt, (0, refl))
 typed_of TakeCard can = (0, codes "CARD", [], refl, refl, tt, (0, refl))
+typed_of (Fit features) can = absurd can
 
 short_of : (command : Command) → CanBeSaid (line.Command command) → length (command_text command) ≤ most_line_bytes
 unfolding command_text
@@ -215,6 +216,7 @@ short_of LoadKey can = omega arith
 short_of (Run limit) can = let digits = number_few limit can in omega arith
 short_of TakeLine can = omega arith
 short_of TakeCard can = omega arith
+short_of (Fit features) can = absurd can
 
 -- a command's text is a line of it
 pub line_of_command : (command : Command) → CanBeSaid (line.Command command)

@@ -3,6 +3,8 @@ pub mod CardTextLemmas
 mod CommandTextExamples
 pub mod CommandTextLemmas
 mod ConsoleLineExamples
+mod FitTextExamples
+pub mod FitTextLemmas
 mod LineTextExamples
 pub mod LineTextLemmas
 pub mod SayableLemmas

@@ -321,6 +321,7 @@ in_words (Command command.TakeLine) line can t =
     by_keyword keyword.Line Blanks [] line _ t (ended_by_blanks _ t.6.0 t.2 t.6.1)
 in_words (Command command.TakeCard) line can t =
     by_keyword keyword.Card Blanks [] line _ t (ended_by_blanks _ t.6.0 t.2 t.6.1)
+in_words (Command (command.Fit features)) line can t = absurd can
 in_words (Glance address) line can t =
     by_keyword keyword.Glance Blanks (Numeral address ∷ []) line _ t (glance_says address t.2 can t.6)
 in_words Quit line can t = by_keyword keyword.Quit Blanks [] line _ t (ended_by_blanks _ t.6.0 t.2 t.6.1)

@@ -1,11 +1,13 @@
--- The text of a command, as a journal has it (own): the line that says it, with one blank between its words.
+-- The text of a command, as a journal has it (own): the line that says it, with one blank between its words. What fits
+-- a machine is said by no line.
 use Rattle.std.specs.Prelude.{ℕ, List, ◌++◌, codes}
 use Rattle.machine_notation.specs.Cells.{cells_text}
 use Rattle.machine_notation.specs.Digits.{digits_in}
 use Rattle.machine_commands.specs.declared.command.Command.{Command}
 use Rattle.machine_commands.specs.declared.command.Command.TheVariants.{Deposit, Examine, Registers, SetI, Switch, Feed}
-use Rattle.machine_commands.specs.declared.command.Command.TheVariants.{LoadKey, Run, TakeLine, TakeCard}
+use Rattle.machine_commands.specs.declared.command.Command.TheVariants.{LoadKey, Run, TakeLine, TakeCard, Fit}
 use Rattle.machine_notation.specs.Characters.{graphics_of, trimmed}
+use Rattle.console_text.specs.FitText.{fit_text}
 use Rattle.console_text.specs.LineText.{setting_text}
 use Rattle.console_text.specs.Words.{letter_of}
 
@@ -22,3 +24,4 @@ command_text LoadKey = codes "LOAD"
 command_text (Run limit) = codes "RUN " ++ digits_in 1 limit
 command_text TakeLine = codes "LINE"
 command_text TakeCard = codes "CARD"
+command_text (Fit features) = fit_text features

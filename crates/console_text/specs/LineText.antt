@@ -42,7 +42,7 @@ abbrev pub setting_text : Bool → List ℕ
 setting_text true = codes "ON"
 setting_text false = codes "OFF"
 
--- what is typed for a line
+-- what is typed for a line: nothing for what fits a machine
 abbrev pub text_of : Line → LineText
 text_of line.Empty = words_alone []
 text_of (line.Command (command.Deposit address cells)) =
@@ -58,6 +58,7 @@ text_of (line.Command command.LoadKey) = words_alone (Name (codes "LOAD") ∷ []
 text_of (line.Command (command.Run limit)) = words_alone (Name (codes "RUN") ∷ Numeral limit ∷ [])
 text_of (line.Command command.TakeLine) = words_alone (Name (codes "LINE") ∷ [])
 text_of (line.Command command.TakeCard) = words_alone (Name (codes "CARD") ∷ [])
+text_of (line.Command (command.Fit features)) = words_alone []
 text_of (line.Glance address) = words_alone (Name (codes "GLANCE") ∷ Numeral address ∷ [])
 text_of line.Quit = words_alone (Name (codes "QUIT") ∷ [])
 
@@ -88,7 +89,7 @@ IsTyped (part ∷ parts) beyond line =
     × IsTypedAs part word × IsParted rest × IsTyped parts beyond rest
 
 -- what a line can say: an address below 16,000, 1 to 40 cells and a card of the 64 characters, a number of up to seven
--- digits
+-- digits; never what fits a machine
 abbrev pub CanBeSaid : Line → Type 0
 CanBeSaid line.Empty = Unit {0}
 CanBeSaid (line.Command (command.Deposit address cells)) =
@@ -103,6 +104,7 @@ CanBeSaid (line.Command command.LoadKey) = Unit {0}
 CanBeSaid (line.Command (command.Run limit)) = limit < 10 ^ most_digits
 CanBeSaid (line.Command command.TakeLine) = Unit {0}
 CanBeSaid (line.Command command.TakeCard) = Unit {0}
+CanBeSaid (line.Command (command.Fit features)) = ⊥
 CanBeSaid (line.Glance address) = address < addresses
 CanBeSaid line.Quit = Unit {0}
 

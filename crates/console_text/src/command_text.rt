@@ -4,6 +4,7 @@ ghost use Rattle.console_text.specs.CommandText.{command_text};
 ghost use Rattle.console_text.specs.LineText.{setting_text};
 ghost use Rattle.console_text.specs.Words.{letter_of};
 
+use crate::fit_text::put_fit;
 use crate::words::letter;
 use core_1401::Cells;
 use devices_1401::Card;
@@ -13,7 +14,8 @@ use machine_panel::SwitchName;
 use std::alloc::AllocError;
 
 /// Adds the text of a command, the line by which it is typed (own). `parse_line` reads it as that command, if a line
-/// can say it: an address of 16,000 or more and a number of more than seven digits are written, and can't be read.
+/// can say it: an address of 16,000 or more and a number of more than seven digits are written, and can't be read. What
+/// fits a machine has no line, and `parse_fit` reads its text.
 ///
 /// # Errors
 ///
@@ -33,6 +35,7 @@ pub fn put_command(text: &mut Vec<u8>, command: &Command) -> Result<(), AllocErr
         Command::Run { limit } => put_named_digits(text, b"RUN ", 1, u64::from(*limit)),
         Command::TakeLine => text.extend_from_slice(b"LINE"),
         Command::TakeCard => text.extend_from_slice(b"CARD"),
+        Command::Fit(features) => put_fit(text, *features),
     }
 }
 

@@ -16,8 +16,10 @@ pub mod answer_text;
 
 // a command as a journal has it
 pub mod command_text;
+pub mod fit_text;
 
 pub use answer_text::{fault_text, glance_text, reply_text};
 pub use command_text::put_command;
+pub use fit_text::parse_fit;
 pub use line::{LINE_LIMIT, Line, LineFault, parse_line};
 pub use machine_notation::put_characters;

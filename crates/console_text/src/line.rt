@@ -3,6 +3,8 @@ ghost use Rattle.std.specs.Prelude.{◌≡◌, ℕ, IfOk};
 ghost use Rattle.machine_commands.specs.declared.command.Command.{Command};
 ghost use Rattle.console_text.specs.declared.line.Line.{Line};
 ghost use Rattle.console_text.specs.CommandText.{command_text};
+ghost use Rattle.console_text.specs.FitText.{fit_text};
+ghost use Rattle.machine_panel.specs.declared.features.Features.{Features};
 ghost use Rattle.machine_notation.specs.Cells.{cells_of, spelled};
 ghost use Rattle.console_text.specs.AnswerText.{fault_number, fault_text};
 ghost use Rattle.console_text.specs.ConsoleLine.{if_cells, ended, deposit_of, examine_of, start_of};
@@ -90,6 +92,9 @@ pub fn parse_line(line: &[u8]) -> Result<Line, LineFault>
     // A command's text is read as that command.
     ensures again { (command : Command) → CanBeSaid (Line.Command command) → line.now ≡ command_text command
         → result ≡ Ok (Line.Command command) }
+
+    // The text of what fits a machine is no line.
+    ensures fit { (features : Features) → line.now ≡ fit_text features → result ≡ Err LineFault.Word }
 
     // Nothing is read that a line can't say.
     ensures sayable { IfOk result CanBeSaid }

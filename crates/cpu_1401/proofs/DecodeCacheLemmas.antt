@@ -2,7 +2,7 @@
 use Rattle.std.proofs.Common.{◌≡◌, ◌≢◌, ◌⊎◌, ℕ, ◌+◌, ◌-◌, ◌==◌, ◌<◌, ◌≤◌, min, max, Bool, true, false, List, length}
 use Rattle.std.proofs.Common.{set}
 use Rattle.std.proofs.Common.{Option, None, Some, Result, Ok, Err, IfOk, OnErr, IfSome, is_ok, if◌then◌else◌}
-use Rattle.std.proofs.Common.{slice_index_or, inl, inr, ap, sym, ◌∙◌, ◌%◌, arith, subst}
+use Rattle.std.proofs.Common.{slice_index_or, inl, inr, ap, refl, sym, ◌∙◌, ◌%◌, arith, subst}
 use Rattle.std.proofs.lemmas.Bool.{cases_eq, cases_lt, false≢true, lt-ltb, le-ltb}
 use Rattle.std.proofs.lemmas.Bool.Decides.{nat_tests}
 use Rattle.std.proofs.lemmas.List.{ext_get_or, length-map, get_or-set_other, get_or-set_same, length-set}
@@ -25,6 +25,8 @@ use Rattle.fields_1401.specs.Suppress.{suppress_at, suppress_by}
 use Rattle.fields_1401.specs.declared.done.Done.{Done}
 use Rattle.fields_1401.specs.declared.done.FieldStop.{FieldStop}
 use Rattle.fields_1401.specs.declared.done.FieldStop.TheVariants.{Address}
+use Rattle.machine_products.specs.Outside.{IsMarkedSameOutside}
+use Rattle.machine_products.specs.Quotients.{dividend_at, dividend_len_of, divide_by, quotient_at, terms_of}
 
 -- a word mark by its place
 pub mark_at : (s : Storage) (at : ℕ) → slice_index_or (marks_of s) at false ≡ (cell_at s at).mark
@@ -261,6 +263,46 @@ current_suppressed old new s t a b n current part apart range most outside e =
     subst (λ (o : Option ℕ). IfSome o (λ m. IsSameOutside s t b m)) e outside in
     current_apart old new s t (lowest_written b (below_by b n)) b current part apart
     (λ q beside. ap (λ (cell : Cell). cell.mark) (same q (beside_suppressed b n q range most beside)))
+
+-- the places beside a dividend keep their word marks
+beside_dividend : (b r q : ℕ) → 0 < r → b + r ≤ addresses
+    → (q < lowest_written (dividend_at b r) (below_by b 1)) ⊎ (dividend_at b r < q)
+    → is_within (dividend_at b r) r q ≡ false
+beside_dividend b r q some range beside =
+    elim beside [
+      | inl under ↦
+          let h = below_lowest (dividend_at b r) (below_by b 1) q under in
+          let low : q < b = omega (arith, h.0, h.1, range, some) in
+          grind (arith, nat_tests)
+      | inr over ↦ grind (arith, nat_tests)
+    ]
+
+pub current_divided : (old new : List CacheEntry) (s t : Storage) (b r : ℕ) → IsCurrent old (marks_of s)
+    → IsPart old new → IsApart new (lowest_written (dividend_at b r) (below_by b 1)) (dividend_at b r)
+    → 0 < r → b + r ≤ addresses
+    → IfSome (dividend_len_of s b) (λ n. IsMarkedSameOutside s t (dividend_at b n) n) → dividend_len_of s b ≡ Some r
+    → IsCurrent new (marks_of t)
+current_divided old new s t b r current part apart some range outside e =
+    let same : IsMarkedSameOutside s t (dividend_at b r) r =
+    subst (λ (o : Option ℕ). IfSome o (λ n. IsMarkedSameOutside s t (dividend_at b n) n)) e outside in
+    current_apart old new s t (lowest_written (dividend_at b r) (below_by b 1)) (dividend_at b r) current part apart
+    (λ q beside. same q (beside_dividend b r q some range beside))
+
+-- without a dividend nothing is divided
+no_terms : (n : Option ℕ) → terms_of n None ≡ None
+no_terms None = refl
+no_terms (Some n) = refl
+
+no_dividend : (s : Storage) (a b : ℕ) → dividend_len_of s b ≡ None → quotient_at s a b ≡ Err Address
+unfolding quotient_at
+no_dividend s a b e =
+    ap (divide_by s a b) (ap (terms_of (field_len_of s a)) e ∙ no_terms (field_len_of s a))
+
+pub undivided : (s t : Storage) (a b : ℕ) (result : Result Done FieldStop) → dividend_len_of s b ≡ None
+    → CarriesOut (quotient_at s a b) s t result → t ≡ s
+undivided s t a b (Ok done) e carried =
+    absurd (false≢true (ap (λ (o : Outcome). is_ok o) (sym (no_dividend s a b e) ∙ carried.done)))
+undivided s t a b (Err stop) e carried = carried.unchanged
 
 -- without a field nothing is moved
 no_field : (s : Storage) (a b : ℕ) → field_len_of s a ≡ None → suppress_at s a b ≡ Err Address

@@ -2,9 +2,9 @@
 use Rattle.std.proofs.Common.{◌≡◌, ℕ, ◌+◌, ◌-◌, ◌<◌, suc, Option, None, Some, sym, ◌∙◌, ap, arith}
 use Rattle.machine_panel.specs.declared.stop.Stop.{Stop}
 use Rattle.machine_panel.specs.declared.stop.Stop.TheVariants as stop
+use Rattle.cpu_1401.specs.Fitting.{fitted_step}
 use Rattle.cpu_1401.specs.Run.{Finished, one_more, carried_out_by, run_on, run_for}
 use Rattle.cpu_1401.specs.State.{State}
-use Rattle.cpu_1401.specs.Step.{step}
 
 -- a run before which this many instructions were carried out
 abbrev pub after_steps : ℕ → Finished → Finished
@@ -29,7 +29,7 @@ nothing_yet limit first =
 
 -- the run that is left, by its first step
 left : (limit steps : ℕ) (first now : State) → steps < limit → SoFar limit first now steps
-    → run_for limit first ≡ after_steps steps (run_on (step now) (run_for (limit - (steps + 1)) (step now).state))
+    → run_for limit first ≡ after_steps steps (run_on (fitted_step now) (run_for (limit - (steps + 1)) (fitted_step now).state))
 unfolding run_for
 left limit steps first now h s =
     let one_left : limit - steps ≡ suc (limit - (steps + 1)) = omega arith in
@@ -37,11 +37,11 @@ left limit steps first now h s =
 
 -- one instruction more
 pub goes_on : (limit steps : ℕ) (first now next : State) → steps < limit → SoFar limit first now steps
-    → (step now).stop ≡ None → next ≡ (step now).state → SoFar limit first next (steps + 1)
+    → (fitted_step now).stop ≡ None → next ≡ (fitted_step now).state → SoFar limit first next (steps + 1)
 goes_on limit steps first now next h s none e =
     let more = run_for (limit - (steps + 1)) in
     let on : Option Stop → Finished = λ o.
-    run_on (record { state = (step now).state; stop = o }) (more (step now).state) in
+    run_on (record { state = (fitted_step now).state; stop = o }) (more (fitted_step now).state) in
     let further = counted (more next) (steps + ((more next).steps + 1)) (steps + 1 + (more next).steps) (omega arith) in
     record {
       whole =
@@ -53,13 +53,13 @@ goes_on limit steps first now next h s none e =
 
 -- the step stops the machine
 pub stops : (limit steps : ℕ) (first now next : State) (why : Stop) → steps < limit → SoFar limit first now steps
-    → (step now).stop ≡ Some why → next ≡ (step now).state → run_for limit first
+    → (fitted_step now).stop ≡ Some why → next ≡ (fitted_step now).state → run_for limit first
     ≡ record { state = next; steps = steps + carried_out_by why; stop = why }
 stops limit steps first now next why h s some e =
-    let rest = run_for (limit - (steps + 1)) (step now).state in
+    let rest = run_for (limit - (steps + 1)) (fitted_step now).state in
     let on : State → Option Stop → Finished = λ state o. run_on (record { state = state; stop = o }) rest in
     left limit steps first now h s
-    ∙ ap (λ (o : Option Stop). after_steps steps (on (step now).state o)) some
+    ∙ ap (λ (o : Option Stop). after_steps steps (on (fitted_step now).state o)) some
     ∙ ap (λ (state : State). after_steps steps (on state (Some why))) (sym e)
 
 -- no step is left

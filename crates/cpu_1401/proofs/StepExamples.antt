@@ -8,6 +8,7 @@ use Rattle.fields_1401.specs.Load.{load_at, loaded}
 use Rattle.fields_1401.specs.Move.{move_at, moved}
 use Rattle.fields_1401.specs.Places.{with_cells, with_chars}
 use Rattle.machine_panel.specs.declared.stop.Stop.TheVariants as stop
+use Rattle.cpu_1401.specs.Fitting.{fitted_step}
 use Rattle.cpu_1401.specs.Run.{run_for}
 use Rattle.cpu_1401.specs.State.{power_on, regs_of}
 use Rattle.cpu_1401.specs.Step.{step}
@@ -120,13 +121,13 @@ a_run_ends_with_its_halt : run_for 9 (with_program set_mark 0) ≡ record {
   steps = 2;
   stop = stop.Halt;
 }
-unfolding step graphics run_for
+unfolding step fitted_step graphics run_for
 a_run_ends_with_its_halt = refl
 
 a_halt_as_the_last_step_answers_halt : (run_for 1 (with_program set_mark 4)).stop ≡ stop.Halt
-unfolding step graphics run_for
+unfolding step fitted_step graphics run_for
 a_halt_as_the_last_step_answers_halt = refl
 
 the_limit_is_met : (run_for 1 (with_program set_mark 0)).stop ≡ stop.Limit
-unfolding step graphics run_for
+unfolding step fitted_step graphics run_for
 the_limit_is_met = refl

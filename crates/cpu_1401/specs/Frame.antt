@@ -5,8 +5,8 @@ use Rattle.devices_1401.specs.Devices.{Devices, is_full}
 use Rattle.devices_1401.specs.declared.card.Card.{Card}
 use Rattle.devices_1401.specs.declared.print_line.PrintLine.{PrintLine}
 use Rattle.cpu_1401.specs.CardsAndPrinter.{with_devices}
+use Rattle.cpu_1401.specs.Fitting.{fitted_step}
 use Rattle.cpu_1401.specs.State.{State}
-use Rattle.cpu_1401.specs.Step.{step}
 use Rattle.cpu_1401.specs.Stepped.{Stepped}
 
 -- what may surround a step: a deck below the cards in the hopper, and cards and lines punched and printed earlier
@@ -44,5 +44,6 @@ pub record UsesOne (old new : Devices) : Type 0 where
 -- the law of a step, whatever the operation: it uses at most one of each, and a step in a frame that the machine
 -- doesn't see is the step without it, in that frame
 pub record StepLaw : Type 0 where
-  pub uses : (s : State) → UsesOne s.devices (step s).state.devices
-  pub in_frame : (frame : Frame) (s : State) → IsUnseen frame s → step (framed frame s) ≡ around frame (step s)
+  pub uses : (s : State) → UsesOne s.devices (fitted_step s).state.devices
+  pub in_frame : (frame : Frame) (s : State) → IsUnseen frame s
+      → fitted_step (framed frame s) ≡ around frame (fitted_step s)

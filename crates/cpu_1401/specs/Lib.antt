@@ -1,8 +1,11 @@
 pub mod Branch
 pub mod CardsAndPrinter
+pub mod Chaining
 pub mod Decoded
 pub mod Fetched
 pub mod FieldStep
+pub mod Fitting
+pub mod FittingLaw
 pub mod Frame
 pub mod Instruction
 pub mod DecodeCache

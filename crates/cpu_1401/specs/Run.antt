@@ -2,6 +2,7 @@
 use Rattle.std.specs.Prelude.{ℕ, ◌+◌, zero, suc, option_map, unwrap_or}
 use Rattle.machine_panel.specs.declared.stop.Stop.{Stop}
 use Rattle.machine_panel.specs.declared.stop.Stop.TheVariants as stop
+use Rattle.cpu_1401.specs.Fitting.{fitted_step}
 use Rattle.cpu_1401.specs.State.{State}
 use Rattle.cpu_1401.specs.Step.{step}
 use Rattle.cpu_1401.specs.Stepped.{Stepped}
@@ -47,4 +48,9 @@ run_on done rest = unwrap_or (option_map (ended_by done.state) done.stop) (one_m
 -- steps until the first stop, or until the limit
 unfoldable pub run_for : ℕ → State → Finished
 run_for zero s = record { state = s; steps = 0; stop = stop.Limit }
-run_for (suc limit) s = run_on (step s) (run_for limit (step s).state)
+run_for (suc limit) s = run_on (fitted_step s) (run_for limit (fitted_step s).state)
+
+-- the same of a machine without features
+unfoldable pub plain_run_for : ℕ → State → Finished
+plain_run_for zero s = record { state = s; steps = 0; stop = stop.Limit }
+plain_run_for (suc limit) s = run_on (step s) (plain_run_for limit (step s).state)

@@ -1,13 +1,16 @@
 -- The machine as plain data, and as it is at power-on (own: all off and empty).
-use Rattle.std.specs.Prelude.{ℕ, ◌<◌, ◌≤◌, Bool, false, List, length, replicate, slice_set}
+use Rattle.std.specs.Prelude.{ℕ, ◌<◌, ◌≤◌, Bool, false, List, length, replicate, slice_set, if◌then◌else◌}
 use Rattle.bcd_1401.specs.declared.cell.Cell.{Cell}
 use Rattle.core_1401.specs.Address.{addresses}
 use Rattle.core_1401.specs.Storage.{Storage, blanks}
 use Rattle.devices_1401.specs.Carriage.{form_of, line_of, forms, lines_of_form}
 use Rattle.devices_1401.specs.Devices.{Devices, no_cards, most_held}
+use Rattle.machine_panel.specs.Features.{no_features}
+use Rattle.machine_panel.specs.declared.features.Features.{Features}
 use Rattle.machine_panel.specs.declared.regs.Regs.{Regs}
 
--- storage by address, the I, A and B registers, the indicators, the sense switches A to G, and the devices
+-- Storage by address, the I, A and B registers, the indicators, the sense switches A to G, and the devices. Then what
+-- the machine is fitted with, and the d-character by which a branch of one character goes on.
 pub record State : Type 0 where
   pub storage : Storage
   pub i : ℕ
@@ -19,6 +22,8 @@ pub record State : Type 0 where
   pub overflow : Bool
   pub switches : List Bool
   pub devices : Devices
+  pub features : Features
+  pub chained : ℕ
 
 -- the machine at power-on, with core storage of this size
 abbrev pub power_on : ℕ → State
@@ -33,7 +38,13 @@ power_on size = record {
   overflow = false;
   switches = replicate 7 false;
   devices = no_cards;
+  features = no_features;
+  chained = 0;
 }
+
+-- the machine fitted with these features and no others: only one with the lengths keeps a d-character
+abbrev pub fitted_with : Features → State → State
+fitted_with features s = record s { features = features; chained = if features.lengths then s.chained else 0 }
 
 -- what an operator reads from the machine beside its storage
 abbrev pub regs_of : State → Regs

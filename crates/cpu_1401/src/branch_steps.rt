@@ -1,9 +1,9 @@
 //! Branches, and what goes on at an address.
 ghost use Rattle.std.specs.Prelude.{◌≡◌, ◌==◌, ◌<◌, None, Some, length};
 ghost use Rattle.core_1401.specs.Address.{addresses};
-ghost use Rattle.cpu_1401.specs.Branch.{after_branch, after_look, branch_if, branch_on, branch_on_cell, condition_of};
-ghost use Rattle.cpu_1401.specs.Branch.{go_on, is_so};
-ghost use Rattle.cpu_1401.specs.Branch.{passes};
+ghost use Rattle.cpu_1401.specs.Branch.{after_look, branch_if, branch_on, condition_of, go_on, is_so};
+ghost use Rattle.cpu_1401.specs.Chaining.{keeping_d, kept_branch, on_bits, on_cell, on_character};
+ghost use Rattle.fields_1401.specs.Outcome.{below_by};
 
 use crate::condition::{Condition, passes};
 use crate::instruction::Instruction;
@@ -12,15 +12,15 @@ use fields_1401::step_down;
 use machine_panel::Stop;
 
 impl Machine {
-    /// Carries out a `B`: of four characters it branches always, of five on a condition, and of eight where the
-    /// character at the B address is the d-character.
+    /// Carries out a `B`: of four characters it branches always, of five on a condition, and of eight if the character
+    /// at the B address is the d-character.
     #[inline(always)]
     pub(crate) fn branch(&mut self, this: Instruction) -> Option<Stop>
         requires a { this.a < addresses }
         requires b { this.b < addresses }
         requires next { this.next < addresses }
-        ensures stop { result ≡ (after_branch this self.old).stop }
-        ensures state { self.new ≡ (after_branch this self.old).state }
+        ensures stop { result ≡ (kept_branch this self.old).stop }
+        ensures state { self.new ≡ (kept_branch this self.old).state }
         ensures size { length self.new.storage ≡ length self.old.storage }
     {
         if this.len == 4 {
@@ -31,11 +31,24 @@ impl Machine {
             self.branch_on(this);
             return None;
         }
+        self.branch_on_character(this)
+    }
+
+    /// Branches if the character at the B address is the d-character, word mark or not.
+    #[inline(always)]
+    pub(crate) fn branch_on_character(&mut self, this: Instruction) -> Option<Stop>
+        requires a { this.a < addresses }
+        requires b { this.b < addresses }
+        requires next { this.next < addresses }
+        ensures stop { result ≡ (on_character this self.old).stop }
+        ensures state { self.new ≡ (on_character this self.old).state }
+        ensures size { length self.new.storage ≡ length self.old.storage }
+    {
         if !self.core.in_core(this.b) {
             return Some(Stop::Address);
         }
         let is_equal = self.core.get(this.b).char == this.d;
-        self.branch_if(is_equal, step_down(this.b, 1), this);
+        self.branch_by_cell(is_equal, this);
         None
     }
 
@@ -46,16 +59,47 @@ impl Machine {
         requires a { this.a < addresses }
         requires b { this.b < addresses }
         requires next { this.next < addresses }
-        ensures stop { result ≡ (branch_on_cell (passes this.d) this self.old).stop }
-        ensures state { self.new ≡ (branch_on_cell (passes this.d) this self.old).state }
+        ensures stop { result ≡ (on_cell this self.old).stop }
+        ensures state { self.new ≡ (on_cell this self.old).state }
         ensures size { length self.new.storage ≡ length self.old.storage }
     {
         if !self.core.in_core(this.b) {
             return Some(Stop::Address);
         }
         let is_met = passes(this.d, self.core.get(this.b));
-        self.branch_if(is_met, step_down(this.b, 1), this);
+        self.branch_by_cell(is_met, this);
         None
+    }
+
+    /// Branches if the character at the B address and the d-character have a bit in common; the word mark is none.
+    pub(crate) fn branch_on_bits(&mut self, this: Instruction) -> Option<Stop>
+        requires a { this.a < addresses }
+        requires b { this.b < addresses }
+        requires next { this.next < addresses }
+        ensures stop { result ≡ (on_bits this self.old).stop }
+        ensures state { self.new ≡ (on_bits this self.old).state }
+        ensures size { length self.new.storage ≡ length self.old.storage }
+    {
+        if !self.core.in_core(this.b) {
+            return Some(Stop::Address);
+        }
+        let common = self.core.get(this.b).char.code() & this.d.code();
+        self.branch_by_cell(common != 0, this);
+        None
+    }
+
+    /// Takes a branch by a cell or passes it by, and keeps its d-character for a branch of one character.
+    #[inline(always)]
+    #[tactic(auto, using(crate::proofs::ChainingLemmas::kept_before))]
+    fn branch_by_cell(&mut self, taken: bool, this: Instruction)
+        requires a { this.a < addresses }
+        requires b { this.b < addresses }
+        requires next { this.next < addresses }
+        ensures { self.new ≡ keeping_d this.d (branch_if taken (below_by this.b 1) this self.old) }
+    {
+        let d = this.d;
+        self.chained = d;
+        self.branch_if(taken, step_down(this.b, 1), this);
     }
 
     /// Branches on the condition that the d-character stands for. The overflow indicator is turned off by its test.

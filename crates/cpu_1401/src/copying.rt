@@ -6,7 +6,7 @@ use std::alloc::{AllocError, Global};
 
 impl Machine {
     /// Copies all of another machine whose core storage has the same size: storage, registers, indicators, sense
-    /// switches and devices. It takes no memory.
+    /// switches, devices and features. It takes no memory.
     pub fn copy_from(&mut self, other: &Machine)
         requires { length self.old.storage ≡ length other.now.storage }
         ensures { self.new ≡ other.now }
@@ -22,6 +22,8 @@ impl Machine {
         self.overflow = other.overflow;
         self.switches = other.switches;
         self.devices.copy_from(&other.devices);
+        self.features = other.features;
+        self.chained = other.chained;
     }
 
     /// Another machine, alike in all that `copy_from` copies.

@@ -74,7 +74,7 @@ impl Machine {
     }
 
     /// Whether an instruction begins at the I register.
-    fn begins(&self) -> bool
+    pub(crate) fn begins(&self) -> bool
         ensures { result ≡ begins_at self.now.storage self.now.i }
     {
         self.core.in_core(self.i) && self.core.get(self.i).mark

@@ -55,9 +55,10 @@ fn longest(operation: Char, fifth: Char) -> u16
 }
 
 /// How many cells the instruction at a place has.
-fn count_at(core: &Core, at: u16) -> u16
+pub(crate) fn count_at(core: &Core, at: u16) -> u16
     requires { at < length core.now }
     ensures value { result ≡ cells_at core.now at }
+    ensures some { 0 < result }
     ensures most { result ≤ longest_instruction }
     ensures inside { at + result ≤ length core.now }
     ensures bound { at + result ≤ addresses }

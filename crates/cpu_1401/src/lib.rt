@@ -22,6 +22,9 @@ mod decoding;
 pub mod fetched;
 mod instruction;
 
+// what features make of an instruction
+pub mod fitting;
+
 // a step, and a run of them
 pub mod frame;
 pub mod running;
@@ -36,7 +39,8 @@ mod marking;
 mod register_steps;
 
 pub use fetched::{InstructionCells, instruction_cells};
+pub use fitting::fitting_law;
 pub use frame::step_law;
 pub use machine::Machine;
-pub use machine_panel::{Regs, Stop, SwitchName};
+pub use machine_panel::{Feature, Features, Regs, Stop, SwitchName};
 pub use running::Ran;

@@ -1,14 +1,14 @@
 //! The machine: core storage, registers, indicators, sense switches, and its devices.
 ghost use Rattle.std.specs.Prelude.{◌≡◌, ◌<◌, ◌↔◌, false, length, IfOk};
 ghost use Rattle.core_1401.specs.Storage.{is_core_size};
-ghost use Rattle.cpu_1401.specs.State.{IsInRange, power_on, regs_of, with_cell, with_switch};
+ghost use Rattle.cpu_1401.specs.State.{IsInRange, fitted_with, power_on, regs_of, with_cell, with_switch};
 ghost use Rattle.devices_1401.specs.Movement.{pending_of};
 
 use crate::decode_cache::DecodeCache;
-use bcd_1401::Cell;
+use bcd_1401::{Cell, Char};
 use core_1401::{Core, CoreFault};
 use devices_1401::{Devices, Movement};
-use machine_panel::Regs;
+use machine_panel::{Features, Regs};
 use std::alloc::Global;
 use std::marker::Model;
 
@@ -28,10 +28,13 @@ pub struct Machine {
     pub(crate) overflow: bool,
     pub(crate) switches: [bool; 7],
     pub(crate) devices: Devices,
+    pub(crate) features: Features,
+    /// The d-character of the last branch by a cell. Without the lengths nothing asks for it, and contracts see a blank.
+    pub(crate) chained: Char,
 }
 
 impl Model for Machine {
-    ghost use Rattle.std.specs.Prelude.{◌<◌, ◌≤◌, length};
+    ghost use Rattle.std.specs.Prelude.{◌<◌, ◌≤◌, length, if◌then◌else◌};
     ghost use Rattle.core_1401.specs.Address.{addresses};
     ghost use Rattle.cpu_1401.specs.DecodeCache.{IsCurrent};
     ghost use Rattle.cpu_1401.specs.State.{State};
@@ -50,6 +53,8 @@ impl Model for Machine {
       overflow = m.overflow;
       switches = m.switches;
       devices = m.devices;
+      features = m.features;
+      chained = if m.features.lengths then m.chained else 0;
     } };
 
     ghost invariant = { λ m.
@@ -86,7 +91,26 @@ impl Machine {
             overflow: false,
             switches: [false; 7],
             devices,
+            features: Features::NONE,
+            chained: Char::BLANK,
         })
+    }
+
+    /// Fits the machine with these features, and takes all others out. It takes no memory.
+    pub fn fit(&mut self, features: Features)
+        ensures { self.new ≡ fitted_with features self.old }
+    {
+        if !self.features.lengths {
+            self.chained = Char::BLANK;
+        }
+        self.features = features;
+    }
+
+    /// What the machine is fitted with.
+    pub fn features(&self) -> Features
+        ensures { result ≡ self.now.features }
+    {
+        self.features
     }
 
     /// Core storage.

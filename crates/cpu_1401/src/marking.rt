@@ -9,6 +9,8 @@ ghost use Rattle.fields_1401.specs.Marks.{clear_down_at, clear_marks_at, set_mar
 ghost use Rattle.fields_1401.specs.Outcome.{CarriesOut};
 ghost use Rattle.fields_1401.specs.Places.{marks_of};
 ghost use Rattle.fields_1401.specs.Suppress.{suppress_at};
+ghost use Rattle.machine_products.specs.Products.{product_at};
+ghost use Rattle.machine_products.specs.Quotients.{quotient_at};
 
 use crate::decode_cache::DecodeCache;
 use core_1401::Core;
@@ -16,6 +18,7 @@ use fields_1401::{
     Done, FieldStop, clear_down, clear_marks_within, edit, load_chars, set_marks_within, step_down,
     suppress,
 };
+use machine_products::{divide, dividend_len, multiply};
 
 /// Sets the word marks at both addresses.
 #[inline(always)]
@@ -128,6 +131,47 @@ pub(crate) fn suppress_there(
         None => {}
     }
     suppress(core, a, b)
+}
+
+/// Multiplies the A field by the multiplier left of b.
+pub(crate) fn multiply_there(
+    core: &mut Core,
+    cache: &mut DecodeCache,
+    a: u16,
+    b: u16,
+) -> Result<Done, FieldStop>
+    requires a { a < addresses }
+    requires b { b < addresses }
+    requires current { IsCurrent cache.old.entries (marks_of core.old) }
+    ensures outcome { CarriesOut (product_at core.old a b) core.old core.new result }
+    ensures current { IsCurrent cache.new.entries (marks_of core.new) }
+    ensures size { cache.new.size ≡ cache.old.size }
+{
+    let outcome = multiply(core, a, b);
+    forget_written(cache, b, &outcome);
+    outcome
+}
+
+/// Divides the dividend with its high place at b by the A field. It writes right of b, and its word marks are those of
+/// the dividend, so that is measured before.
+pub(crate) fn divide_there(
+    core: &mut Core,
+    cache: &mut DecodeCache,
+    a: u16,
+    b: u16,
+) -> Result<Done, FieldStop>
+    requires a { a < addresses }
+    requires b { b < addresses }
+    requires current { IsCurrent cache.old.entries (marks_of core.old) }
+    ensures outcome { CarriesOut (quotient_at core.old a b) core.old core.new result }
+    ensures current { IsCurrent cache.new.entries (marks_of core.new) }
+    ensures size { cache.new.size ≡ cache.old.size }
+{
+    match dividend_len(core, b) {
+        Some(n) => cache.forget_down(b + n - 1, step_down(b, 1)),
+        None => {}
+    }
+    divide(core, a, b)
 }
 
 /// How many places the field at an address has; none if it isn't in core, or comes to address 0 before a word mark.

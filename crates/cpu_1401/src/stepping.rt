@@ -1,12 +1,15 @@
 //! One step of the machine: the instruction, cached or decoded, then what the operation does.
-ghost use Rattle.std.specs.Prelude.{◌≡◌, ◌≢◌, ◌+◌, ◌%◌, ◌<◌, ◌&&◌, true, length, Some, IfSome, IfOk, IfErr};
+ghost use Rattle.std.specs.Prelude.{◌≡◌, ◌≢◌, ◌+◌, ◌%◌, ◌<◌, ◌&&◌, true, length, None, Some, IfSome, IfOk, IfErr};
 ghost use Rattle.core_1401.specs.Storage.{is_in_core};
 ghost use Rattle.core_1401.specs.Address.{addresses};
+ghost use Rattle.cpu_1401.specs.Chaining.{perform_keeping};
+ghost use Rattle.cpu_1401.specs.Fitting.{fitted_step};
 ghost use Rattle.cpu_1401.specs.Instruction.{instruction_of};
 ghost use Rattle.cpu_1401.specs.NeededPlaces.{HasPlaces};
 ghost use Rattle.cpu_1401.specs.Step.{perform, step};
 ghost use Rattle.cpu_1401.specs.Decoded.{Says, Serve};
 ghost use Rattle.cpu_1401.specs.Stepped.{stopped};
+ghost use Rattle.machine_panel.specs.Features.{no_features};
 
 use crate::decoded::{Addressing, Decoded, has_b};
 use crate::instruction::Instruction;
@@ -22,18 +25,41 @@ use machine_operations::Operation;
 use machine_panel::Stop;
 
 impl Machine {
-    /// Carries out the instruction at the I register, or says why it can't. A halt is carried out; any other stop
-    /// leaves the machine as it was.
+    /// Carries out the instruction at the I register, as far as the machine is fitted for it, or says why it can't. A
+    /// halt is carried out; any other stop leaves the machine as it was.
     #[inline(always)]
-    #[tactic(auto, using(crate::proofs::DecodedLemmas::says_step))]
+    #[tactic(auto, using(crate::proofs::FittingLemmas::plain_step))]
     pub fn step(&mut self) -> Option<Stop>
-        ensures stop { result ≡ (step self.old).stop }
-        ensures state { self.new ≡ (step self.old).state }
+        ensures stop { result ≡ (fitted_step self.old).stop }
+        ensures state { self.new ≡ (fitted_step self.old).state }
+
+        // With nothing fitted it is the step of a machine without features.
+        ensures plain_stop { self.old.features ≡ no_features → result ≡ (step self.old).stop }
+        ensures plain_state { self.old.features ≡ no_features → self.new ≡ (step self.old).state }
 
         // A stop that is no halt leaves the machine as it was.
         ensures unchanged { IfSome result (λ why. why ≢ Stop.Halt → self.new ≡ self.old) }
 
         // The limit is that of a run, and no step's.
+        ensures limit { result ≢ Some Stop.Limit }
+        ensures size { length self.new.storage ≡ length self.old.storage }
+    {
+        match self.step_unless_refused() {
+            None => None,
+            Some(stop) => self.unless_claimed(stop),
+        }
+    }
+
+    /// The same, but an instruction that a machine without features refuses is left as it is. What a feature makes of it
+    /// is asked only then, so a step that goes on costs no more with features than without.
+    #[inline(always)]
+    fn step_unless_refused(&mut self) -> Option<Stop>
+        ensures on { result ≡ None → (fitted_step self.old).stop ≡ None }
+        ensures state { result ≡ None → self.new ≡ (fitted_step self.old).state }
+        ensures halt { result ≡ Some Stop.Halt → (fitted_step self.old).stop ≡ Some Stop.Halt }
+        ensures halt_state { result ≡ Some Stop.Halt → self.new ≡ (fitted_step self.old).state }
+        ensures refused { IfSome result (λ why. why ≢ Stop.Halt → step self.old ≡ stopped why self.old) }
+        ensures same { IfSome result (λ why. why ≢ Stop.Halt → self.new ≡ self.old) }
         ensures limit { result ≢ Some Stop.Limit }
         ensures size { length self.new.storage ≡ length self.old.storage }
     {
@@ -51,12 +77,33 @@ impl Machine {
         self.perform_fetched(fetched)
     }
 
+    /// What a step that was refused, or halted, comes to: a feature may claim what was refused.
+    #[cold]
+    #[inline(never)]
+    fn unless_claimed(&mut self, stop: Stop) -> Option<Stop>
+        requires refused { stop ≢ Stop.Halt → step self.old ≡ stopped stop self.old }
+        requires no_limit { stop ≢ Stop.Limit }
+        ensures halt { stop ≡ Stop.Halt → result ≡ Some Stop.Halt }
+        ensures halt_state { stop ≡ Stop.Halt → self.new ≡ self.old }
+        ensures stop { stop ≢ Stop.Halt → result ≡ (fitted_step self.old).stop }
+        ensures state { stop ≢ Stop.Halt → self.new ≡ (fitted_step self.old).state }
+        ensures unchanged { IfSome result (λ why. why ≢ Stop.Halt → self.new ≡ self.old) }
+        ensures limit { result ≢ Some Stop.Limit }
+        ensures size { length self.new.storage ≡ length self.old.storage }
+    {
+        if stop == Stop::Halt {
+            return Some(stop);
+        }
+        self.step_by_feature(stop)
+    }
+
     /// The operation and the instruction at the I register, cached or decoded, or why it can't be carried out: what
     /// is asked if no addresses are ready.
     #[inline(always)]
     #[tactic(auto, using(crate::proofs::DecodedLemmas::says_step))]
     fn fetch(&mut self) -> Result<(Operation, Instruction), Stop>
-        ensures ok { IfOk result (λ fetched. step self.old ≡ perform fetched.0 fetched.1 self.old) }
+        ensures ok { IfOk result (λ fetched. fitted_step self.old ≡ perform_keeping fetched.0 fetched.1 self.old) }
+        ensures plain { IfOk result (λ fetched. step self.old ≡ perform fetched.0 fetched.1 self.old) }
         ensures a { IfOk result (λ fetched. fetched.1.a < addresses) }
         ensures b { IfOk result (λ fetched. fetched.1.b < addresses) }
         ensures next { IfOk result (λ fetched. fetched.1.next < addresses) }
@@ -81,7 +128,8 @@ impl Machine {
     /// between a step and the decoding so that a step makes room for the result only if it decodes.
     #[inline(always)]
     fn fetch_anew(&mut self) -> Result<(Operation, Instruction), Stop>
-        ensures ok { IfOk result (λ fetched. step self.old ≡ perform fetched.0 fetched.1 self.old) }
+        ensures ok { IfOk result (λ fetched. fitted_step self.old ≡ perform_keeping fetched.0 fetched.1 self.old) }
+        ensures plain { IfOk result (λ fetched. step self.old ≡ perform fetched.0 fetched.1 self.old) }
         ensures a { IfOk result (λ fetched. fetched.1.a < addresses) }
         ensures b { IfOk result (λ fetched. fetched.1.b < addresses) }
         ensures next { IfOk result (λ fetched. fetched.1.next < addresses) }
@@ -101,7 +149,8 @@ impl Machine {
     #[inline(never)]
     #[tactic(auto, using(crate::proofs::DecodedLemmas::says_step))]
     fn instruction_anew(&mut self) -> Result<(Operation, Instruction), Stop>
-        ensures ok { IfOk result (λ fetched. step self.old ≡ perform fetched.0 fetched.1 self.old) }
+        ensures ok { IfOk result (λ fetched. fitted_step self.old ≡ perform_keeping fetched.0 fetched.1 self.old) }
+        ensures plain { IfOk result (λ fetched. step self.old ≡ perform fetched.0 fetched.1 self.old) }
         ensures a { IfOk result (λ fetched. fetched.1.a < addresses) }
         ensures b { IfOk result (λ fetched. fetched.1.b < addresses) }
         ensures next { IfOk result (λ fetched. fetched.1.next < addresses) }
@@ -171,6 +220,7 @@ impl Machine {
         requires next { next ≡ (self.now.i + said.now.len) % addresses }
         ensures serves { perform said.now.operation result self.now ≡ perform said.now.operation
             (instruction_of said.now.operation said.now.len self.now) self.now }
+        ensures fitted { fitted_step self.now ≡ perform_keeping said.now.operation result self.now }
         ensures a { result.a < addresses }
         ensures b { result.b < addresses }
         ensures next { result.next < addresses }
@@ -194,6 +244,7 @@ impl Machine {
         requires next { next ≡ (self.now.i + said.now.len) % addresses }
         ensures serves { perform said.now.operation result self.now ≡ perform said.now.operation
             (instruction_of said.now.operation said.now.len self.now) self.now }
+        ensures fitted { fitted_step self.now ≡ perform_keeping said.now.operation result self.now }
         ensures a { result.a < addresses }
         ensures b { result.b < addresses }
         ensures next { result.next < addresses }
@@ -287,8 +338,8 @@ impl Machine {
         requires b { fetched.1.b < addresses }
         requires next { fetched.1.next < addresses }
         requires places { HasPlaces fetched.0 fetched.1.a fetched.1.b (length self.old.storage) }
-        ensures stop { result ≡ (perform fetched.0 fetched.1 self.old).stop }
-        ensures state { self.new ≡ (perform fetched.0 fetched.1 self.old).state }
+        ensures stop { result ≡ (perform_keeping fetched.0 fetched.1 self.old).stop }
+        ensures state { self.new ≡ (perform_keeping fetched.0 fetched.1 self.old).state }
         ensures unchanged { IfSome result (λ why. why ≢ Stop.Halt → self.new ≡ self.old) }
         ensures limit { result ≢ Some Stop.Limit }
         ensures size { length self.new.storage ≡ length self.old.storage }
@@ -304,8 +355,8 @@ impl Machine {
         requires b { this.b < addresses }
         requires next { this.next < addresses }
         requires places { HasPlaces operation this.a this.b (length self.old.storage) }
-        ensures stop { result ≡ (perform operation this self.old).stop }
-        ensures state { self.new ≡ (perform operation this self.old).state }
+        ensures stop { result ≡ (perform_keeping operation this self.old).stop }
+        ensures state { self.new ≡ (perform_keeping operation this self.old).state }
         ensures unchanged { IfSome result (λ why. why ≢ Stop.Halt → self.new ≡ self.old) }
         ensures limit { result ≢ Some Stop.Limit }
         ensures size { length self.new.storage ≡ length self.old.storage }

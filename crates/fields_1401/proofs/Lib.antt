@@ -9,19 +9,19 @@ mod EditLemmas
 mod EditPassLemmas
 mod ExampleCells
 mod ExampleGraphics
-mod FieldLemmas
+pub mod FieldLemmas
 mod LaneLemmas
 mod PairLaneLemmas
 mod LendingLemmas
 mod LoadExamples
-mod LoadLemmas
+pub mod LoadLemmas
 mod MarksExamples
 mod MoveExamples
 mod MoveLemmas
-mod NumberLemmas
+pub mod NumberLemmas
 mod PartsExamples
 mod PartsLemmas
-mod PlacesLemmas
+pub mod PlacesLemmas
 mod PlainLemmas
 mod RefusalLemmas
 mod SixteenLemmas

@@ -53,6 +53,7 @@ pub use loads::load_chars;
 pub use marks::{clear_down, clear_marks, clear_marks_within, set_marks, set_marks_within};
 pub use moves::{move_chars, move_chars_within};
 pub use parts::{move_digit, move_digit_within, move_zone, move_zone_within};
+pub use refusals::share_place;
 pub use registers::step_down;
 pub use sign::Sign;
 pub use suppression::suppress;

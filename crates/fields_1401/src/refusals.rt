@@ -45,7 +45,7 @@ pub(crate) fn is_overlap(a: u16, used: u16, b: u16, len: u16) -> bool
 
 /// Whether one of this many places from a down is one of this many from b down.
 #[tactic(auto, using(crate::proofs::RefusalLemmas::places))]
-pub(crate) fn share_place(a: u16, used: u16, b: u16, len: u16) -> bool
+pub fn share_place(a: u16, used: u16, b: u16, len: u16) -> bool
     requires a { a < addresses }
     requires b { b < addresses }
     requires used { (0 < used) × (used ≤ a + 1) }

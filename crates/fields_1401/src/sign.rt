@@ -16,7 +16,7 @@ pub enum Sign {
 
 impl Sign {
     /// The sign of a number by the character over its units: minus if the zone is B alone.
-    pub(crate) fn of_units(units: Char) -> Sign
+    pub fn of_units(units: Char) -> Sign
         ensures { result ≡ sign_under (zone_of units) }
     {
         if units.zone() == 2 {
@@ -27,7 +27,7 @@ impl Sign {
     }
 
     /// The other sign.
-    pub(crate) fn changed(self) -> Sign
+    pub fn changed(self) -> Sign
         ensures { result ≡ changed self }
     {
         match self {
@@ -37,7 +37,7 @@ impl Sign {
     }
 
     /// The zone that a result of this sign has over its units.
-    pub(crate) fn zone(self) -> u8
+    pub fn zone(self) -> u8
         ensures value { result ≡ sign_zone self }
         ensures range { result < 4 }
     {

@@ -47,6 +47,7 @@ status_of (fault.Run why) = job_status why
 status_of (fault.Hopper name count) = 1
 status_of (fault.Hold why) = 1
 status_of (fault.Open why) = 1
+status_of (fault.Operate why) = 1
 
 -- the status that a run ends with
 abbrev pub run_status : Result ⊤ Fault → ℕ

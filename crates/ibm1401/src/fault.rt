@@ -4,6 +4,7 @@ ghost use Rattle.ibm1401.specs.Status.{run_status, status_of};
 
 use clap::Error as Refusal;
 use program_assemble::AssembleFault;
+use program_operate::OperateFault;
 use program_rooms::OpenFault;
 use program_run::RunFault;
 use program_sessions::HoldFault;
@@ -15,8 +16,8 @@ const MISUSED: u8 = 2;
 /// The status of a run that failed.
 const FAILED: u8 = 1;
 
-/// What a run of the program may fail by. Each but `Usage` and the faults of a source, which have texts of their own, is
-/// one line on standard error.
+/// What a run of the program may fail by. Each is one line on standard error, but for `Usage`, the faults of a source,
+/// which have texts of their own, and those of a person's lines, which standard output has.
 #[derive(Debug, Drop, Error)]
 pub enum Fault {
     /// A word of the command line isn't UTF-8.
@@ -37,6 +38,9 @@ pub enum Fault {
     /// A run of a program with its deck was refused, broke off, or ended otherwise than by a halt.
     #[error("{0}")]
     Run(RunFault),
+    /// A person's console isn't begun, or ended so.
+    #[error("{0}")]
+    Operate(OperateFault),
     /// The deck of this file has this many cards.
     #[error("{0}: {1} cards are more than the hopper holds")]
     Hopper(String, u64),
@@ -60,7 +64,7 @@ impl Fault {
             }
             Fault::Output | Fault::Memory => FAILED,
             Fault::Assemble(_) | Fault::Run(_) | Fault::Hopper(..) => FAILED,
-            Fault::Hold(_) | Fault::Open(_) => FAILED,
+            Fault::Hold(_) | Fault::Open(_) | Fault::Operate(_) => FAILED,
         }
     }
 }
@@ -77,6 +81,8 @@ pub fn report(rt: &impl Eprint, outcome: Result<(), Fault>) -> u8
     let _ = match &fault {
         Fault::Usage(refusal) => rt.eprint(refusal),
         Fault::Assemble(AssembleFault::Faulty(lines)) => rt.eprint(lines),
+        // Its line was answered with it.
+        Fault::Operate(OperateFault::Faulty) => Ok(()),
         fault => eprintln!(rt; "ibm1401: {fault}"),
     };
     status

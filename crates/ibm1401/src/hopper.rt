@@ -2,10 +2,8 @@
 
 use crate::fault::Fault;
 use devices_1401::{Card, MOST_HELD};
-use job_runner::{CardList, Cards, Deck};
 use machine_graphics::Graphics;
-use program_run::read_cards;
-use std::alloc::Global;
+use program_run::{list_cards, read_cards};
 use std::rt::Files;
 
 /// The cards of a deck's file, which has the graphics of the chain that was asked for; without one there are none.
@@ -37,18 +35,5 @@ fn hopper_of(
     if cards.len() > MOST_HELD {
         return Err(Fault::Hopper(label, cards.len() as u64));
     }
-    all_of(rt.alloc(), &cards)
-}
-
-/// All cards of a deck that the hopper holds.
-fn all_of(alloc: Global, cards: &CardList) -> Result<Vec<Card>, Fault> {
-    let mut deck = Deck::new(cards);
-    let mut all = Vec::new(alloc);
-    for _ in 0..cards.len() {
-        // A deck in memory is always read.
-        if let Ok(Some(card)) = deck.next_card() {
-            all.push(card).map_err(|_| Fault::Memory)?;
-        }
-    }
-    Ok(all)
+    list_cards(rt.alloc(), &cards).map_err(|_| Fault::Memory)
 }

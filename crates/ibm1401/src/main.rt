@@ -4,21 +4,28 @@
 // the cards of a room that operators share
 mod hopper;
 
+// standard input of a person's console, and what is known of it
+mod ends;
+mod terminal;
+
 // what a command line without a subcommand is answered, what a run fails by, and its status
 mod fault;
 mod help;
 mod version;
 
+use crate::ends::Terminals;
 use crate::fault::{Fault, report};
 use crate::help::tell;
 use crate::hopper::cards_of;
+use crate::terminal::FromTerminal;
 use bytes_files::hold_closed_streams;
 use machine_graphics::Graphics;
 use program_arguments::read_call;
 use program_assemble::{assemble_file, check_size, disassemble_deck, disassemble_file};
-use program_call::{Call, Seating};
+use program_call::{Call, Operating, Seating};
+use program_operate::operate_at;
 use program_rooms::{machine_of, open_room, open_seats};
-use program_run::{ErrorOutput, read_cards, run_file};
+use program_run::{read_cards, run_file};
 use program_sessions::{hold_session, journal_file};
 use std::fs::File;
 use std::io::{IsTerminal, StdinLock};
@@ -33,12 +40,12 @@ use std::{env, io};
 fn main(rt: HostRuntime) -> ExitCode {
     // Standard streams that are closed stay so: no file or connection that is opened takes the place of one.
     let _held = hold_closed_streams(&rt);
-    let error_output = if rt.stderr().is_terminal() {
-        ErrorOutput::Terminal
-    } else {
-        ErrorOutput::Other
+    let terminals = Terminals {
+        input: rt.stdin().is_terminal(),
+        output: rt.stdout().is_terminal(),
+        error_output: rt.stderr().is_terminal(),
     };
-    ExitCode::from(report(&rt, run(&rt, error_output)))
+    ExitCode::from(report(&rt, run(&rt, terminals)))
 }
 
 /// Runs what the command line asks for.
@@ -60,7 +67,7 @@ fn run<
         + Wait
         + Sync
         + Net<Listener = TcpListener, Stream = TcpStream>,
->(rt: &R, error_output: ErrorOutput) -> Result<(), Fault> {
+>(rt: &R, terminals: Terminals) -> Result<(), Fault> {
     let words = command_line(rt)?;
     match read_call(rt.alloc(), words.as_slice()) {
         Ok(Call::Console(asked)) => hold_session(rt, asked).map_err(Fault::Hold),
@@ -73,12 +80,21 @@ fn run<
                 size,
             },
         ) => list_deck(rt, file, graphics, size),
-        Ok(Call::Run(job)) => run_file(rt, error_output, job).map_err(Fault::Run),
+        Ok(Call::Run(job)) => run_file(rt, terminals.error_output(), job).map_err(Fault::Run),
+        Ok(Call::Operate(asked)) => operate(rt, terminals, asked),
         Ok(Call::Serve(service)) => open_room(rt, service).map_err(Fault::Open),
         Ok(Call::ServeSeats(asked)) => serve_seats(rt, asked),
         Ok(Call::Journal(asked)) => journal_file(rt, asked).map_err(Fault::Hold),
         Err(error) => tell(rt, error),
     }
+}
+
+/// Answers the lines of a person.
+fn operate<
+    R: Env + Files<File = File> + Input<Reader = StdinLock<'static>> + Print + Eprint + AllocGlobal,
+>(rt: &R, terminals: Terminals, asked: Operating) -> Result<(), Fault> {
+    let mut reader = FromTerminal::new(rt.reader(), terminals.input);
+    operate_at(rt, asked, terminals.ends(rt), &mut reader).map_err(Fault::Operate)
 }
 
 /// Lists what the deck of a file loads.

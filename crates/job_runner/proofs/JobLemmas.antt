@@ -12,7 +12,7 @@ use Rattle.cpu_1401.specs.CardsAndPrinter.{with_devices}
 use Rattle.cpu_1401.specs.Frame.{Frame, StepLaw, framed, around, IsUnseen}
 use Rattle.cpu_1401.specs.Run.{Finished, carried_out_by, run_for, run_on}
 use Rattle.cpu_1401.specs.State.{State}
-use Rattle.cpu_1401.specs.Step.{step}
+use Rattle.cpu_1401.specs.Fitting.{fitted_step}
 use Rattle.cpu_1401.specs.Stepped.{Stepped}
 use Rattle.job_runner.specs.Unattended.{IsBeginning, IsPartOf, Job, after_output, emptied, taken_first, ended}
 use Rattle.job_runner.specs.Unattended.{after_steps, go_on, unattended, with_deck}
@@ -50,7 +50,7 @@ unfolding unattended
 front_taken zero s t = refl
 front_taken (suc limit) s t =
     let job = unattended (suc limit) (in_front s t) in
-    let rest = go_on (step (emptied t)).stop (step (emptied t)).state (unattended limit) in
+    let rest = go_on (fitted_step (emptied t)).stop (fitted_step (emptied t)).state (unattended limit) in
     ap (λ (lines : List PrintLine). let it : Job = record job { lines = lines } in it)
     (append_assoc s.devices.paper t.devices.paper rest.lines)
     ∙ ap (λ (cards : List Card). let it : Job = record (taken_first s (unattended (suc limit) t)) { cards = cards } in it)
@@ -81,11 +81,11 @@ same_emptiness n (x ∷ xs) ys h = grind (arith, nat_tests)
 -- one step of a job is one step of a machine with room for it
 next : StepLaw → (limit n : ℕ) (deck : List Card) (s : State) → HasRoom (suc n) deck s
     → unattended (suc limit) (with_deck deck s)
-    ≡ go_on (step s).stop (with_deck deck (step s).state) (unattended limit)
+    ≡ go_on (fitted_step s).stop (with_deck deck (fitted_step s).state) (unattended limit)
 unfolding unattended
 next law limit n deck s room =
     let whole = with_deck deck s in
-    let bare = step (emptied whole) in
+    let bare = fitted_step (emptied whole) in
     let beyond_unseen : IsUnseen (deck_alone deck) s =
     record { hopper = same_emptiness n s.devices.hopper deck room.hopper; stacker = refl; paper = refl } in
     let front_unseen : IsUnseen (outputs_of whole) (emptied whole) = record {
@@ -93,16 +93,16 @@ next law limit n deck s room =
       stacker = not_full s.devices.stacker n room.stacker;
       paper = not_full s.devices.paper n room.paper;
     } in
-    let both : around (deck_alone deck) (step s) ≡ around (outputs_of whole) bare =
+    let both : around (deck_alone deck) (fitted_step s) ≡ around (outputs_of whole) bare =
     sym (law.in_frame (deck_alone deck) s beyond_unseen)
-    ∙ ap step (sym (put_back whole) ∙ sym (outputs_in_front whole (emptied whole)))
+    ∙ ap fitted_step (sym (put_back whole) ∙ sym (outputs_in_front whole (emptied whole)))
     ∙ law.in_frame (outputs_of whole) (emptied whole) front_unseen in
-    let same_stop : (step s).stop ≡ bare.stop = ap (λ (t : Stepped). t.stop) both in
-    let same_state : with_deck deck (step s).state ≡ in_front whole bare.state =
+    let same_stop : (fitted_step s).stop ≡ bare.stop = ap (λ (t : Stepped). t.stop) both in
+    let same_state : with_deck deck (fitted_step s).state ≡ in_front whole bare.state =
     ap (λ (t : Stepped). t.state) both ∙ outputs_in_front whole bare.state in
     go_on_in_front limit bare.stop whole bare.state
     ∙ ap (λ (why : Option Stop). go_on why (in_front whole bare.state) (unattended limit)) (sym same_stop)
-    ∙ ap (λ (state : State). go_on (step s).stop state (unattended limit)) (sym same_state)
+    ∙ ap (λ (state : State). go_on (fitted_step s).stop state (unattended limit)) (sym same_state)
 
 cards_left : (n : ℕ) (deck : List Card) (old new : ℕ) → old ≤ new + 1 → (suc n ≤ old) ⊎ (deck ≡ [])
     → (n ≤ new) ⊎ (deck ≡ [])
@@ -111,11 +111,11 @@ cards_left n deck old new h (inr none) = inr none
 
 -- after a step there is room for one fewer
 room_left : StepLaw → (n : ℕ) (deck : List Card) (s : State) → HasRoom (suc n) deck s
-    → HasRoom n deck (step s).state
+    → HasRoom n deck (fitted_step s).state
 room_left law n deck s room =
     let used = law.uses s in
     record {
-      hopper = cards_left n deck (length s.devices.hopper) (length (step s).state.devices.hopper) used.hopper room.hopper;
+      hopper = cards_left n deck (length s.devices.hopper) (length (fitted_step s).state.devices.hopper) used.hopper room.hopper;
       stacker = omega (arith, used.stacker, room.stacker);
       paper = omega (arith, used.paper, room.paper);
     }
@@ -150,8 +150,8 @@ run_to_limit law zero m deck s room is_limit all =
 run_to_limit law (suc n) m deck s room is_limit all =
     ap (λ (limit : ℕ). unattended limit (with_deck deck s)) (omega arith)
     ∙ next law (n + m) n deck s room
-    ∙ limit_after n m deck (step s).stop (step s).state
-    (run_to_limit law n m deck (step s).state (room_left law n deck s room)) is_limit all
+    ∙ limit_after n m deck (fitted_step s).stop (fitted_step s).state
+    (run_to_limit law n m deck (fitted_step s).state (room_left law n deck s room)) is_limit all
 
 -- the same for a run that was stopped
 end_after : (n m : ℕ) (deck : List Card) (why : Option Stop) (t : State)
@@ -178,8 +178,8 @@ run_to_stop law zero m deck s room no_limit = absurd (no_limit refl)
 run_to_stop law (suc n) m deck s room no_limit =
     ap (λ (limit : ℕ). unattended limit (with_deck deck s)) (omega arith)
     ∙ next law (n + m) n deck s room
-    ∙ end_after n m deck (step s).stop (step s).state
-    (run_to_stop law n m deck (step s).state (room_left law n deck s room)) no_limit
+    ∙ end_after n m deck (fitted_step s).stop (fitted_step s).state
+    (run_to_stop law n m deck (fitted_step s).state (room_left law n deck s room)) no_limit
 
 -- the end of a job, with what is left of the deck
 abbrev end_of : List Card → State → ℕ → Stop → List PrintLine → List Card → Job
@@ -326,8 +326,8 @@ run_begins law zero m deck s room = waiting_begins (zero + m) (with_deck deck s)
 run_begins law (suc n) m deck s room =
     subst (λ (job : Job). IsPartOf (run_for (suc n) s).state.devices.paper (run_for (suc n) s).state.devices.stacker job)
     (sym (ap (λ (limit : ℕ). unattended limit (with_deck deck s)) (omega arith) ∙ next law (n + m) n deck s room))
-    (begins_after n m deck (step s).stop (step s).state
-    (run_begins law n m deck (step s).state (room_left law n deck s room)))
+    (begins_after n m deck (fitted_step s).stop (fitted_step s).state
+    (run_begins law n m deck (fitted_step s).state (room_left law n deck s room)))
 
 -- a beginning after what was written before
 begins_beyond : {X : Type 0} (before part some all : List X) → IsBeginning part (before ++ some) → IsBeginning some all

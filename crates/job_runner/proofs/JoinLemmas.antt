@@ -8,7 +8,7 @@ use Rattle.machine_panel.specs.declared.stop.Stop.{Stop}
 use Rattle.machine_panel.specs.declared.stop.Stop.TheVariants as stop
 use Rattle.cpu_1401.specs.Run.{carried_out_by}
 use Rattle.cpu_1401.specs.State.{State}
-use Rattle.cpu_1401.specs.Step.{step}
+use Rattle.cpu_1401.specs.Fitting.{fitted_step}
 use Rattle.job_runner.specs.Unattended.{IsPartOf, Job, after_job, after_steps, ended, go_on, taken_first, unattended}
 use Rattle.job_runner.proofs.JobLemmas.{emptied_first, waiting_begins}
 
@@ -47,7 +47,7 @@ goes_on zero m s is_limit all =
     ∙ emptied_first m s
     ∙ ap (λ (steps : ℕ). let job : Job = record rest { steps = steps } in job) (omega arith)
 goes_on (suc n) m s is_limit all =
-    let bare = step (ended 0 stop.Limit s).state in
+    let bare = fitted_step (ended 0 stop.Limit s).state in
     let count : suc n + m ≡ suc (n + m) = omega arith in
     ap (λ (limit : ℕ). unattended limit s) count
     ∙ goes_on_after n m s bare.state bare.stop (goes_on n m bare.state) is_limit all
@@ -64,7 +64,7 @@ pub at_end : (n m : ℕ) (s : State) → (unattended n s).stop ≢ stop.Limit �
 unfolding unattended
 at_end zero m s no_limit = absurd (no_limit refl)
 at_end (suc n) m s no_limit =
-    let bare = step (ended 0 stop.Limit s).state in
+    let bare = fitted_step (ended 0 stop.Limit s).state in
     let count : suc n + m ≡ suc (n + m) = omega arith in
     ap (λ (limit : ℕ). unattended limit s) count
     ∙ stops_after n m s bare.state bare.stop (at_end n m bare.state) no_limit
@@ -98,7 +98,7 @@ pub begins : (n m : ℕ) (s : State)
 unfolding unattended
 begins zero m s = waiting_begins (zero + m) s
 begins (suc n) m s =
-    let bare = step (ended 0 stop.Limit s).state in
+    let bare = fitted_step (ended 0 stop.Limit s).state in
     let count : suc (n + m) ≡ suc n + m = omega arith in
     subst (λ (limit : ℕ). IsPartOf (unattended (suc n) s).lines (unattended (suc n) s).cards (unattended limit s)) count
     (begins_with n m s bare.state bare.stop (begins n m bare.state))

@@ -8,6 +8,7 @@ use Rattle.machine_panel.specs.declared.stop.Stop.TheVariants as stop
 use Rattle.cpu_1401.specs.CardsAndPrinter.{with_devices}
 use Rattle.cpu_1401.specs.Run.{run_for}
 use Rattle.cpu_1401.specs.State.{State}
+use Rattle.cpu_1401.specs.Fitting.{fitted_step}
 use Rattle.cpu_1401.specs.Step.{step}
 use Rattle.cpu_1401.proofs.ExampleCells.{plain, marked, with_program}
 use Rattle.job_runner.specs.Unattended.{unattended, with_deck}
@@ -24,20 +25,20 @@ reader = with_program again 0
 
 -- three cards are read, then there is none
 reads_the_deck : (unattended 10 (with_deck (replicate 3 a_card) reader)).steps ≡ 3
-unfolding unattended step graphics
+unfolding unattended fitted_step step graphics
 reads_the_deck = refl
 
 then_the_reader_is_empty : (unattended 10 (with_deck (replicate 3 a_card) reader)).stop ≡ stop.Reader
-unfolding unattended step graphics
+unfolding unattended fitted_step step graphics
 then_the_reader_is_empty = refl
 
 the_limit_leaves_a_card : (unattended 2 (with_deck (replicate 3 a_card) reader)).state.devices.hopper ≡ a_card ∷ []
-unfolding unattended step graphics
+unfolding unattended fitted_step step graphics
 the_limit_leaves_a_card = refl
 
 -- a hopper holds 500, a deck any number
 reads_a_long_deck : (unattended 1000 (with_deck (replicate 501 a_card) reader)).steps ≡ 501
-unfolding unattended step graphics
+unfolding unattended fitted_step step graphics
 reads_a_long_deck = refl
 
 -- a full stacker: the machine alone stops, the job goes on
@@ -46,9 +47,9 @@ puncher = with_devices (record no_cards { stacker = replicate 500 a_card })
     (with_program (marked 4 ∷ plain 10 ∷ plain 10 ∷ plain 10 ∷ marked 59 ∷ []) 0)
 
 a_full_stacker_stops_the_machine : (run_for 2 puncher).stop ≡ stop.Stacker
-unfolding run_for step graphics
+unfolding run_for fitted_step step graphics
 a_full_stacker_stops_the_machine = refl
 
 a_full_stacker_does_not_stop_a_job : length (unattended 2 puncher).cards ≡ 502
-unfolding unattended step graphics
+unfolding unattended fitted_step step graphics
 a_full_stacker_does_not_stop_a_job = refl

@@ -7,7 +7,7 @@ use Rattle.machine_panel.specs.declared.stop.Stop.TheVariants as stop
 use Rattle.cpu_1401.specs.CardsAndPrinter.{with_devices}
 use Rattle.cpu_1401.specs.Run.{carried_out_by}
 use Rattle.cpu_1401.specs.State.{State}
-use Rattle.cpu_1401.specs.Step.{step}
+use Rattle.cpu_1401.specs.Fitting.{fitted_step}
 use Rattle.job_runner.specs.declared.fault.JobFault.{JobFault}
 use Rattle.job_runner.specs.declared.fault.JobFault.TheVariants as fault
 
@@ -52,7 +52,7 @@ go_on (Some why) s more = ended (carried_out_by why) why s
 unfoldable pub unattended : ℕ → State → Job
 unattended zero s = ended 0 stop.Limit s
 unattended (suc limit) s =
-    taken_first s (go_on (step (emptied s)).stop (step (emptied s)).state (unattended limit))
+    taken_first s (go_on (fitted_step (emptied s)).stop (fitted_step (emptied s)).state (unattended limit))
 
 -- a machine with a deck below the cards in its hopper, of any length
 abbrev pub with_deck : List Card → State → State

@@ -1,17 +1,19 @@
 -- The machine that a halt leaves, and the address that is told of it.
-use Rattle.std.proofs.Common.{◌≡◌, ◌≤◌, ◌<◌, ◌⊎◌, inl, inr, ℕ, ◌+◌, ◌%◌, ◌==◌, ◌&&◌, not, Bool, true, false}
-use Rattle.std.proofs.Common.{List, [], ◌∷◌, length, refl, sym, ◌∙◌, ap, subst, arith}
+use Rattle.std.proofs.Common.{◌≡◌, ◌≤◌, ◌<◌, ◌⊎◌, inl, inr, ℕ, ◌+◌, ◌-◌, ◌%◌, ◌==◌, ◌&&◌, not, Bool, true, false}
+use Rattle.std.proofs.Common.{List, length, drop, refl, sym, ◌∙◌, ap, subst, arith}
 use Rattle.std.proofs.lemmas.Bool.{and_from, and_parts, eq-eqb, eqb-true, ltb-true}
+use Rattle.std.proofs.lemmas.List.{get_or-drop, length-drop}
+use Rattle.std.proofs.lemmas.List.Sums.{fails_before_first, prefix_len-le-length}
 use Rattle.std.proofs.lemmas.Option.{none-some}
-use Rattle.std.specs.Prelude.{cond, find, is_some, option_map, Option, None, Some, Result, Ok, Err, if◌then◌else◌}
+use Rattle.std.specs.Prelude.{is_some, unwrap_or, Option, None, Some, Result, Ok, Err, if◌then◌else◌}
 use Rattle.std.specs.Prelude.{nat_le, slice_index}
-use Rattle.std.specs.List.{list_all}
+use Rattle.std.specs.List.{position_or_len}
 use Rattle.bcd_1401.specs.declared.cell.Cell.{Cell}
 use Rattle.bcd_1401.specs.Graphic.{graphics}
 use Rattle.core_1401.specs.Address.{addresses, effective_at}
-use Rattle.core_1401.specs.Storage.{Storage, cell_at, is_in_core}
-use Rattle.fields_1401.specs.Load.{has_places}
-use Rattle.devices_1401.specs.Carriage.{Carriage}
+use Rattle.core_1401.specs.Field.{field_len_of}
+use Rattle.core_1401.specs.Storage.{Storage, blank, cell_at, is_in_core}
+use Rattle.devices_1401.specs.Carriage.{Carriage, controlled}
 use Rattle.devices_1401.specs.Devices.{is_full}
 use Rattle.devices_1401.specs.declared.fault.ControlFault.{ControlFault}
 use Rattle.devices_1401.specs.declared.fault.ControlFault.TheVariants as fault
@@ -21,15 +23,20 @@ use Rattle.fields_1401.specs.declared.done.FieldStop.TheVariants as field
 use Rattle.fields_1401.specs.Arithmetic.{sum_at, difference_at, zero_sum_at, zero_difference_at}
 use Rattle.fields_1401.specs.Compare.{comparison_at}
 use Rattle.fields_1401.specs.Edit.{edit_at}
-use Rattle.fields_1401.specs.Load.{load_at}
+use Rattle.fields_1401.specs.Load.{has_places, load_at}
 use Rattle.fields_1401.specs.Marks.{set_marks_at, clear_marks_at, clear_down_at}
 use Rattle.fields_1401.specs.Move.{move_at}
+use Rattle.fields_1401.specs.Outcome.{Outcome, below_by, stop_of}
 use Rattle.fields_1401.specs.Parts.{digit_moved_at, zone_moved_at}
 use Rattle.fields_1401.specs.Suppress.{suppress_at}
-use Rattle.devices_1401.specs.Carriage.{controlled}
-use Rattle.fields_1401.specs.Outcome.{Outcome, below_by}
-use Rattle.cpu_1401.specs.declared.io_request.IoRequest.{IoRequest}
-use Rattle.cpu_1401.specs.declared.instruction.Instruction.{Instruction}
+use Rattle.machine_products.specs.AddressSums.{address_sum_at}
+use Rattle.machine_products.specs.Products.{product_at}
+use Rattle.machine_products.specs.Quotients.{quotient_at}
+use Rattle.machine_products.specs.Records.{record_at}
+use Rattle.machine_products.proofs.ReadLemmas.{field_len_is}
+use Rattle.machine_operations.specs.Operation.{has_length, is_unfitted, is_unfitted_length, operation_of}
+use Rattle.machine_operations.specs.declared.fitted.Fitted.{Fitted}
+use Rattle.machine_operations.specs.declared.fitted.Fitted.TheVariants as fitted
 use Rattle.machine_operations.specs.declared.operation.Operation.{Operation}
 use Rattle.machine_operations.specs.declared.operation.Operation.TheVariants as op
 use Rattle.machine_panel.specs.declared.stop.Stop.{Stop}
@@ -40,18 +47,23 @@ use Rattle.cpu_1401.specs.CardsAndPrinter.{beyond_print_area, has_d, line_alone}
 use Rattle.cpu_1401.specs.CardsAndPrinter.{lozenge}
 use Rattle.cpu_1401.specs.CardsAndPrinter.{first_io_stop, move_on, punching, reading, reading_and_punching, with_all}
 use Rattle.cpu_1401.specs.CardsAndPrinter.{writing_and_punching, writing_and_reading}
+use Rattle.cpu_1401.specs.Chaining.{again, keeping, keeping_d, shares_bit}
+use Rattle.cpu_1401.specs.Fetched.{cells_at}
 use Rattle.cpu_1401.specs.FieldStep.{after_clear, after_comparison, after_field}
+use Rattle.cpu_1401.specs.Fitting.{fitted_at, fitted_instruction, fitted_step, perform_fitted, step_as}
 use Rattle.cpu_1401.specs.Instruction.{begins_at, instruction_of, length_at}
-use Rattle.machine_operations.specs.Operation.{has_length, is_unfitted, is_unfitted_length, operation_of, operations}
 use Rattle.cpu_1401.specs.RegisterStep.{after_store}
-use Rattle.machine_operations.specs.Rows.{meaning_in}
 use Rattle.cpu_1401.specs.State.{State}
 use Rattle.cpu_1401.specs.Step.{check_length, check_operation, perform, step}
 use Rattle.cpu_1401.specs.Stepped.{Stepped, stopped}
-use Rattle.fields_1401.specs.Outcome.{stop_of}
-use Rattle.job_stops.proofs.StopLemmas.{card_stops}
-use Rattle.job_stops.specs.Halting.{halted_at, has_branched, is_halt_to, is_taken_for_another, told_of_halt}
+use Rattle.cpu_1401.specs.declared.instruction.Instruction.{Instruction}
+use Rattle.cpu_1401.specs.declared.io_request.IoRequest.{IoRequest}
+use Rattle.cpu_1401.proofs.FittedLemmas.{meaning_is}
+use Rattle.job_stops.specs.Halting.{after_halt, halted_at, has_branched, is_halt_to, is_taken_for_another}
+use Rattle.job_stops.specs.Halting.{length_before, told_of_halt}
 use Rattle.job_stops.specs.Said.{char_of}
+use Rattle.job_stops.proofs.ClaimedLemmas.{halt_claimed, halt_operation, kept_stops, length_is}
+use Rattle.job_stops.proofs.StopLemmas.{card_stops}
 
 -- whether a step ended with a halt
 abbrev is_halt : Option Stop → Bool
@@ -135,6 +147,9 @@ control_goes this s (Ok carriage) = record { no = refl }
 control_goes this s (Err fault.DChar) = record { no = refl }
 control_goes this s (Err fault.Carriage) = record { no = refl }
 
+keeping_goes : (d : ℕ) (t : Stepped) → GoesOn t → GoesOn (keeping d t)
+keeping_goes d t goes = record { no = ap is_halt (kept_stops d t) ∙ goes.no }
+
 perform_goes : (operation : Operation) (this : Instruction) (s : State)
     → GoesOn (perform operation this s) ⊎ (operation ≡ op.Halt)
 perform_goes op.Add this s = inl (field_goes this s (sum_at s.storage this.a this.b))
@@ -170,36 +185,59 @@ perform_goes op.WriteAndPunch this s =
 perform_goes op.WriteReadAndPunch this s = inl (cards_go (asks all_three s.storage) (beyond_last all_three) this s)
 perform_goes op.ControlCarriage this s = inl (control_goes this s (controlled s.devices.carriage this.d))
 
--- a check that ends with a halt was passed
+-- what a feature makes of an instruction ends with a halt if it is one, or if the step of a branch by a cell does
+fitted_goes : (made : Fitted) (this : Instruction) (s : State)
+    → GoesOn (perform_fitted made this s) ⊎ ((made ≡ fitted.Halt) ⊎ (made ≡ fitted.OnCell))
+fitted_goes fitted.OnCell this s = inr (inr refl)
+fitted_goes fitted.OnBits this s = inl (keeping_goes this.d _ (cell_goes (shares_bit this.d) this s))
+fitted_goes fitted.CharacterAgain this s =
+    inl (keeping_goes s.chained _ (cell_goes (has_char s.chained) (again this s) s))
+fitted_goes fitted.CellAgain this s = inl (keeping_goes s.chained _ (cell_goes (passes s.chained) (again this s) s))
+fitted_goes fitted.BitsAgain this s =
+    inl (either s.features.lengths _ (stopped stop.Length s)
+    (keeping_goes s.chained _ (cell_goes (shares_bit s.chained) (again this s) s)) (record { no = refl }))
+fitted_goes fitted.StoreA this s = inl (store_goes s.a this s)
+fitted_goes fitted.StoreB this s = inl (store_goes s.b this s)
+fitted_goes fitted.StoreSecond this s =
+    inl (either (has_places s.storage this.a 3) _ (stopped stop.Address s) (record { no = refl }) (record { no = refl }))
+fitted_goes fitted.Halt this s = inr (inl refl)
+fitted_goes fitted.Feed this s = inl (record { no = refl })
+fitted_goes fitted.Multiply this s = inl (field_goes this s (product_at s.storage this.a this.b))
+fitted_goes fitted.Divide this s = inl (field_goes this s (quotient_at s.storage this.a this.b))
+fitted_goes fitted.MoveRecord this s = inl (field_goes this s (record_at s.storage this.a this.b))
+fitted_goes fitted.ModifyAddress this s = inl (field_goes this s (address_sum_at s.storage this.a this.b))
+fitted_goes fitted.NoLength this s = inl (record { no = refl })
+
+-- a check that ended with a halt was passed
 passed : (unfitted fits : Bool) (t : Stepped) (s : State)
     → is_halt (if unfitted then stopped stop.NotFitted s else (if fits then t else stopped stop.Length s)).stop ≡ true
-    → (fits ≡ true) × ((if unfitted then stopped stop.NotFitted s else (if fits then t else stopped stop.Length s)) ≡ t)
+    → (if unfitted then stopped stop.NotFitted s else (if fits then t else stopped stop.Length s)) ≡ t
 passed true fits t s e = cc
-passed false true t s e = (refl, refl)
+passed false true t s e = refl
 passed false false t s e = cc
 
 -- what is left of a machine by a halt of this length
 abbrev halted : ℕ → State → State
 halted len s = go_on (len == 4) (instruction_of op.Halt len s) s
 
--- the check of an operation at a length ended with a halt: it is one
+-- a step ended with a halt: it is one, and this is left
+record HasHalted (s after : State) : Type 0 where
+  begins : begins_at s.storage s.i ≡ true
+  is : operation_of (char_of s) ≡ Some op.Halt
+  leaves : after ≡ halted (length_at s.storage op.Halt s.i) s
+
+-- the same of the check of an operation
 record IsHalting (found : Option Operation) (s after : State) : Type 0 where
   is : found ≡ Some op.Halt
-  fits : has_length op.Halt (length_at s.storage op.Halt s.i) ≡ true
   leaves : after ≡ halted (length_at s.storage op.Halt s.i) s
 
 of_halt : (operation : Operation) (s : State) → operation ≡ op.Halt
-    → has_length operation (length_at s.storage operation s.i) ≡ true
     → IsHalting (Some operation) s
     (perform operation (instruction_of operation (length_at s.storage operation s.i) s) s).state
-of_halt found s is fits =
+of_halt found s is =
     subst (λ (each : Operation). IsHalting (Some each) s
     (perform each (instruction_of each (length_at s.storage each s.i) s) s).state) (sym is)
-    (record {
-      is = refl;
-      fits = subst (λ (each : Operation). has_length each (length_at s.storage each s.i) ≡ true) is fits;
-      leaves = refl;
-    })
+    (record { is = refl; leaves = refl })
 
 performed : (operation : Operation) (s : State) (this : Instruction) → is_halt (perform operation this s).stop ≡ true
     → operation ≡ op.Halt
@@ -212,10 +250,10 @@ length_halts : (operation : Operation) (s : State)
 length_halts operation s e =
     let len = length_at s.storage operation s.i in
     let t = perform operation (instruction_of operation len s) s in
-    let both = passed (is_unfitted_length operation len) (has_length operation len) t s e in
+    let same = passed (is_unfitted_length operation len) (has_length operation len) t s e in
     let is = performed operation s (instruction_of operation len s)
-    (sym (ap (λ (each : Stepped). is_halt each.stop) both.1) ∙ e) in
-    subst (λ (each : Stepped). IsHalting (Some operation) s each.state) (sym both.1) (of_halt operation s is both.0)
+    (sym (ap (λ (each : Stepped). is_halt each.stop) same) ∙ e) in
+    subst (λ (each : Stepped). IsHalting (Some operation) s each.state) (sym same) (of_halt operation s is)
 
 unknown : (c : Bool) (s : State)
     → is_halt (stopped (if c then stop.NotFitted else stop.OpCode) s).stop ≡ false
@@ -233,91 +271,92 @@ begun : (c : Bool) (t : Stepped) (s : State) → is_halt (if c then t else stopp
 begun true t s e = (refl, refl)
 begun false t s e = cc
 
--- a step that ended with a halt: a halt begins at the I register
-record HasHalted (s after : State) : Type 0 where
-  begins : begins_at s.storage s.i ≡ true
-  halting : IsHalting (operation_of (char_of s)) s after
-
-step_halts : (s : State) → (step s).stop ≡ Some stop.Halt → HasHalted s (step s).state
+step_halts : (s : State) → is_halt (step s).stop ≡ true → HasHalted s (step s).state
 unfolding step
-step_halts s e =
+step_halts s is =
     let t = check_operation (operation_of (char_of s)) (char_of s) s in
-    let is : is_halt (step s).stop ≡ true = ap is_halt e in
     let both = begun (begins_at s.storage s.i) t s is in
     let halts = operation_halts (operation_of (char_of s)) (char_of s) s
     (sym (ap (λ (each : Stepped). is_halt each.stop) both.1) ∙ is) in
     record {
       begins = both.0;
-      halting =
-          subst (λ (each : Stepped). IsHalting (operation_of (char_of s)) s each.state) (sym both.1) halts;
+      is = halts.is;
+      leaves = ap (λ (each : Stepped). each.state) both.1 ∙ halts.leaves;
     }
 
--- only a halt has its graphic
-abbrev only_halts : ℕ × Operation → Bool
-only_halts (graphic, op.Halt) = graphic == 46
-only_halts (graphic, op.Add) = true
-only_halts (graphic, op.Subtract) = true
-only_halts (graphic, op.ZeroAdd) = true
-only_halts (graphic, op.ZeroSubtract) = true
-only_halts (graphic, op.Move) = true
-only_halts (graphic, op.Load) = true
-only_halts (graphic, op.MoveDigit) = true
-only_halts (graphic, op.MoveZone) = true
-only_halts (graphic, op.SetWordMark) = true
-only_halts (graphic, op.ClearWordMark) = true
-only_halts (graphic, op.ClearStorage) = true
-only_halts (graphic, op.Compare) = true
-only_halts (graphic, op.ZeroSuppress) = true
-only_halts (graphic, op.Edit) = true
-only_halts (graphic, op.Branch) = true
-only_halts (graphic, op.BranchOnCell) = true
-only_halts (graphic, op.StoreA) = true
-only_halts (graphic, op.StoreB) = true
-only_halts (graphic, op.NoOperation) = true
-only_halts (graphic, op.SelectStacker) = true
-only_halts (graphic, op.ReadCard) = true
-only_halts (graphic, op.WriteLine) = true
-only_halts (graphic, op.WriteAndRead) = true
-only_halts (graphic, op.PunchCard) = true
-only_halts (graphic, op.ReadAndPunch) = true
-only_halts (graphic, op.WriteAndPunch) = true
-only_halts (graphic, op.WriteReadAndPunch) = true
-only_halts (graphic, op.ControlCarriage) = true
+-- a feature claims no instruction where none begins
+claimed_begins : (begins : Bool) (found : Option Fitted) (made : Fitted) → (if begins then found else None) ≡ Some made
+    → begins ≡ true
+claimed_begins true found made e = refl
+claimed_begins false found made e = absurd (none-some made e)
 
-some_of : (x y : Operation) → Some x ≡ Some y → x ≡ y
-some_of x y e = cc
+-- a branch by a cell that keeps its d-character ends as its step does
+keeping_halts : (d : ℕ) (t : Stepped) → is_halt (keeping d t).stop ≡ true
+    → (is_halt t.stop ≡ true) × ((keeping d t).state ≡ t.state)
+keeping_halts d t e = by t.stop refl
+  where
+    by : (why : Option Stop) → t.stop ≡ why → (is_halt t.stop ≡ true) × ((keeping d t).state ≡ t.state)
+    by None is = let no = kept_stops d t in cc
+    by (Some why) is = (
+      sym (ap is_halt (kept_stops d t)) ∙ e,
+      ap (λ (found : Option Stop). (if is_some found then t else record t { state = keeping_d d t.state }).state) is,
+    )
 
-first_row : (c : Bool) (first : ℕ × Operation) (more : Option (ℕ × Operation))
-    → option_map (λ (entry : ℕ × Operation). entry.1) (cond c (Some first) more) ≡ Some op.Halt
-    → ((c ≡ true) × (first.1 ≡ op.Halt))
-    ⊎ (option_map (λ (entry : ℕ × Operation). entry.1) more ≡ Some op.Halt)
-first_row true first more e = inl (refl, some_of first.1 op.Halt e)
-first_row false first more e = inr e
+-- a halt of more lengths goes on after itself
+fitted_halt : (s : State) → begins_at s.storage s.i ≡ true → fitted_at s ≡ Some fitted.Halt
+    → HasHalted s (go_on false (fitted_instruction s) s)
+fitted_halt s begins e =
+    let is = halt_operation s begins e in
+    let len = length_at s.storage op.Halt s.i in
+    let same : len ≡ cells_at s.storage s.i = length_is s op.Halt is in
+    let on : (len == 4) ≡ false = ap (λ (n : ℕ). n == 4) same ∙ (halt_claimed s begins e).1 in
+    record {
+      begins = begins;
+      is = is;
+      leaves =
+          ap (λ (n : ℕ). go_on false (instruction_of op.Add n s) s) (sym same)
+          ∙ ap (λ (branches : Bool). go_on branches (instruction_of op.Halt len s) s) (sym on);
+    }
 
-halts_alone : (first : ℕ × Operation) → only_halts first ≡ true → first.1 ≡ op.Halt → first.0 ≡ 46
-halts_alone first only is =
-    eqb-true first.0 46 (subst (λ (each : Operation). only_halts (first.0, each) ≡ true) is only)
-
-graphic_in : (table : List (ℕ × Operation)) (graphic : ℕ) → list_all only_halts table ≡ true
-    → meaning_in table graphic ≡ Some op.Halt → graphic ≡ 46
-graphic_in [] graphic all e = absurd (none-some op.Halt e)
-graphic_in (entry ∷ table) graphic all e =
-    let parts = and_parts (only_halts entry) (list_all only_halts table) all in
-    elim (first_row (entry.0 == graphic) entry (find (λ each. each.0 == graphic) table) e)
-    as (λ _. graphic ≡ 46) [
-      | inl here ↦ sym (eqb-true entry.0 graphic here.0) ∙ halts_alone entry parts.0 here.1
-      | inr there ↦ graphic_in table graphic parts.1 there
+claimed_halts : (s : State) (made : Fitted) → fitted_at s ≡ Some made
+    → is_halt (perform_fitted made (fitted_instruction s) s).stop ≡ true
+    → HasHalted s (perform_fitted made (fitted_instruction s) s).state
+claimed_halts s made e is =
+    let this = fitted_instruction s in
+    elim (fitted_goes made this s) as (λ _. HasHalted s (perform_fitted made this s).state) [
+      | inl free ↦ (let no = free.no in cc)
+      | inr one ↦ elim one as (λ _. HasHalted s (perform_fitted made this s).state) [
+        | inl halt ↦
+            subst (λ (each : Fitted). HasHalted s (perform_fitted each this s).state) (sym halt)
+            (fitted_halt s (claimed_begins (begins_at s.storage s.i) _ made e) (e ∙ ap Some halt))
+        | inr cell ↦
+            subst (λ (each : Fitted). HasHalted s (perform_fitted each this s).state) (sym cell)
+            (let both =
+            keeping_halts this.d (step s) (ap (λ (each : Fitted). is_halt (perform_fitted each this s).stop) (sym cell) ∙ is) in
+            subst (HasHalted s) (sym both.1) (step_halts s both.0))
+      ]
     ]
 
-pub graphic_of_halt : (char : ℕ) → operation_of char ≡ Some op.Halt → slice_index graphics char ≡ 46
-graphic_of_halt char e = graphic_in operations (slice_index graphics char) refl e
+fitted_halts : (s : State) → is_halt (fitted_step s).stop ≡ true → HasHalted s (fitted_step s).state
+unfolding fitted_step
+fitted_halts s is = by (fitted_at s) refl is
+  where
+    by : (found : Option Fitted) → fitted_at s ≡ found → is_halt (step_as found s).stop ≡ true
+        → HasHalted s (step_as found s).state
+    by None e is = step_halts s is
+    by (Some made) e is = claimed_halts s made e is
 
--- four places on and four back
-back : (at by : ℕ) → at < addresses → by ≤ 4 → below_by ((at + by) % addresses) by ≡ at
+-- only a halt has its graphic
+pub graphic_of_halt : (char : ℕ) → operation_of char ≡ Some op.Halt → slice_index graphics char ≡ 46
+graphic_of_halt char e = meaning_is (slice_index graphics char) op.Halt e
+
+-- some places on and as many back
+back : (at by : ℕ) → at < addresses → by ≤ 8 → below_by ((at + by) % addresses) by ≡ at
 back at by in_range few = omega arith
 
-lengths : (len : ℕ) → has_length op.Halt len ≡ true → (len ≡ 1) ⊎ (len ≡ 4)
-lengths len e = grind arith
+-- the place before one
+before_end : (at by : ℕ) → 0 < by → at + by ≤ addresses → below_by ((at + by) % addresses) 1 ≡ at + by - 1
+before_end at by some most = omega arith
 
 -- a halt leaves storage as it is
 storage_stays : (c : Bool) (this : Instruction) (s : State) → (go_on c this s).storage ≡ s.storage
@@ -335,10 +374,51 @@ same_choice c d x y z same e = rw (same, e) refl
 abbrev Told : State → State → Type 0
 Told s after = halted_at after ≡ told_of_halt s
 
--- the place of a halt is in core
+-- the place of a halt is in core, and has a word mark
 within : (s : State) → begins_at s.storage s.i ≡ true → length s.storage ≤ addresses → s.i < addresses
 within s begins most =
     let inside = ltb-true s.i (length s.storage) (and_parts (is_in_core s.storage s.i) _ begins).0 in omega arith
+
+-- how many characters it has: they are in core, and none after the first has a word mark
+record AreHalts (storage : Storage) (at n : ℕ) : Type 0 where
+  some : 0 < n
+  few : n ≤ 8
+  inside : at + n ≤ length storage
+  unmarked : (k : ℕ) → k + 1 < n → (cell_at storage (at + 1 + k)).mark ≡ false
+
+characters : (storage : Storage) (at : ℕ) → at < length storage
+    → AreHalts storage at (length_at storage op.Halt at)
+characters storage at in_core =
+    let marked : Cell → Bool = λ cell. cell.mark in
+    let ahead : List Cell = drop (at + 1) storage in
+    let first : ℕ = position_or_len (λ (cell : Cell). cell.mark) ahead in
+    let most : first ≤ length ahead = prefix_len-le-length (λ (cell : Cell). not cell.mark) ahead in
+    let size : length ahead ≡ length storage - (at + 1) = length-drop (at + 1) storage in
+    record {
+      some = omega arith;
+      few = omega arith;
+      inside = omega (arith, most, size, in_core);
+      unmarked =
+          λ k early. ap marked (sym (get_or-drop (at + 1) storage k blank))
+          ∙ fails_before_first (λ (cell : Cell). cell.mark) ahead k blank (omega (arith, early));
+    }
+
+-- so they are a field, from the place before the next instruction down
+field_before : (storage : Storage) (at : ℕ) → begins_at storage at ≡ true → length storage ≤ addresses
+    → (let n = length_at storage op.Halt at in field_len_of storage (below_by ((at + n) % addresses) 1) ≡ Some n)
+field_before storage at begins most =
+    let n : ℕ = length_at storage op.Halt at in
+    let both = and_parts (is_in_core storage at) (cell_at storage at).mark begins in
+    let are = characters storage at (ltb-true at (length storage) both.0) in
+    let some = are.some in
+    let inside = are.inside in
+    let marked : ℕ → Bool = λ place. (cell_at storage place).mark in
+    ap (field_len_of storage) (before_end at n some (omega (arith, inside, most)))
+    ∙ field_len_is storage (at + n - 1) n (omega (arith, inside, some)) some (omega (arith, some))
+    (λ i early.
+    let place : at + n - 1 - i ≡ at + 1 + (n - 2 - i) = omega (arith, early) in
+    ap marked place ∙ are.unmarked (n - 2 - i) (omega (arith, early)))
+    (let place : at + n - 1 - (n - 1) ≡ at = omega (arith, some) in ap marked place ∙ both.1)
 
 -- a halt with an address is found again, by the registers that it leaves
 found_at : (s : State) (at : ℕ) → at ≡ s.i → begins_at s.storage s.i ≡ true
@@ -359,32 +439,46 @@ with_address s most begins is len =
     let is_so : has_branched after ≡ true =
     and_from (to == to) (is_halt_to s.storage at to) (eq-eqb to to refl) (found_at s at place begins is len) in
     let is_none : is_taken_for_another s ≡ false = rw len refl in
-    choose (has_branched after) (is_taken_for_another s) at (below_by after.i 1) (below_by s.b 4) s.i is_so is_none place
+    choose (has_branched after) (is_taken_for_another s) at (below_by after.i (length_before after)) (below_by s.b 4) s.i
+    is_so is_none place
 
--- one without an address is right before the I register
+-- any other is right before the I register
 without_address : (s : State) → length s.storage ≤ addresses → begins_at s.storage s.i ≡ true
-    → length_at s.storage op.Halt s.i ≡ 1 → Told s (halted 1 s)
-without_address s most begins len =
-    let next = (s.i + 1) % addresses in
-    let same : is_taken_for_another s ≡ has_branched (halted 1 s) = rw len refl in
-    same_choice (has_branched (halted 1 s)) (is_taken_for_another s) (below_by s.b 4) (below_by next 1) s.i same
-    (back s.i 1 (within s begins most) (omega arith))
-
-pub halt_told : (s : State) → length (step s).state.storage ≤ addresses → (step s).stop ≡ Some stop.Halt
-    → halted_at (step s).state ≡ told_of_halt s
-halt_told s most e =
-    let halts = step_halts s e in
+    → (length_at s.storage op.Halt s.i == 4) ≡ false → Told s (record s { i = after_halt s })
+without_address s most begins on =
+    let after : State = record s { i = after_halt s } in
     let len = length_at s.storage op.Halt s.i in
-    let same : (step s).state.storage ≡ s.storage =
-    ap (λ (each : State). each.storage) halts.halting.leaves
+    let same : is_taken_for_another s ≡ has_branched after =
+    ap (λ (b : Bool). not b && (s.a == after_halt s) && is_halt_to s.storage (below_by s.b 4) (after_halt s)) on in
+    let inside = ltb-true s.i (length s.storage) (and_parts (is_in_core s.storage s.i) _ begins).0 in
+    let few : len ≤ 8 = (characters s.storage s.i inside).few in
+    let before : length_before after ≡ len =
+    ap (λ (o : Option ℕ). unwrap_or o 1) (field_before s.storage s.i begins most) in
+    same_choice (has_branched after) (is_taken_for_another s) (below_by s.b 4)
+    (below_by (after_halt s) (length_before after)) s.i same
+    (ap (below_by (after_halt s)) before ∙ back s.i len (within s begins most) few)
+
+pub halt_told : (s : State) → length (fitted_step s).state.storage ≤ addresses
+    → (fitted_step s).stop ≡ Some stop.Halt
+    → halted_at (fitted_step s).state ≡ told_of_halt s
+halt_told s most e =
+    let halts = fitted_halts s (ap is_halt e) in
+    let len = length_at s.storage op.Halt s.i in
+    let same : (fitted_step s).state.storage ≡ s.storage =
+    ap (λ (each : State). each.storage) halts.leaves
     ∙ storage_stays (len == 4) (instruction_of op.Halt len s) s in
     let most' : length s.storage ≤ addresses = subst (λ (each : Storage). length each ≤ addresses) same most in
-    let is = graphic_of_halt (char_of s) halts.halting.is in
-    elim (lengths len halts.halting.fits) as (λ _. Told s (step s).state) [
-      | inl one ↦
-          subst (λ (after : State). Told s after)
-          (sym (halts.halting.leaves ∙ ap (λ (n : ℕ). halted n s) one)) (without_address s most' halts.begins one)
-      | inr four ↦
-          subst (λ (after : State). Told s after)
-          (sym (halts.halting.leaves ∙ ap (λ (n : ℕ). halted n s) four)) (with_address s most' halts.begins is four)
-    ]
+    let is = graphic_of_halt (char_of s) halts.is in
+    by (len == 4) refl most' is halts
+  where
+    by : (b : Bool) → (length_at s.storage op.Halt s.i == 4) ≡ b → length s.storage ≤ addresses
+        → slice_index graphics (char_of s) ≡ 46 → HasHalted s (fitted_step s).state → Told s (fitted_step s).state
+    by true four most is halts =
+        let is_four = eqb-true (length_at s.storage op.Halt s.i) 4 four in
+        subst (λ (after : State). Told s after) (sym (halts.leaves ∙ ap (λ (n : ℕ). halted n s) is_four))
+        (with_address s most halts.begins is is_four)
+    by false on most is halts =
+        let len = length_at s.storage op.Halt s.i in
+        subst (λ (after : State). Told s after)
+        (sym (halts.leaves ∙ ap (λ (b : Bool). go_on b (instruction_of op.Halt len s) s) on))
+        (without_address s most halts.begins on)

@@ -1,3 +1,5 @@
+mod ClaimedLemmas
+pub mod HaltLemmas
+mod ProductReasonLemmas
 mod StopLemmas
 pub mod ToldLemmas
-pub mod HaltLemmas

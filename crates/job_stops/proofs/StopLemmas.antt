@@ -1,22 +1,37 @@
 -- What the parts of a step stop for.
-use Rattle.std.proofs.Common.{◌≡◌, ℕ, ◌==◌, Bool, true, false, refl}
-use Rattle.std.specs.Prelude.{Option, None, Some, Result, Ok, Err, if◌then◌else◌}
+use Rattle.std.proofs.Common.{◌≡◌, ◌≢◌, ℕ, ◌+◌, ◌-◌, ◌==◌, Bool, true, false, refl, sym, ap, ◌∙◌}
+use Rattle.std.proofs.lemmas.Bool.{ne_eqb}
+use Rattle.std.specs.Prelude.{slice_index, Option, None, Some, Result, Ok, Err, if◌then◌else◌}
 use Rattle.std.specs.Option.{option_map}
 use Rattle.std.specs.Result.{result_err}
+use Rattle.bcd_1401.specs.Graphic.{graphics}
+use Rattle.bcd_1401.specs.declared.cell.Cell.{Cell}
+use Rattle.core_1401.specs.Storage.{Storage, cell_at, is_in_core}
 use Rattle.devices_1401.specs.Carriage.{Carriage, with_movement_of, controlled}
 use Rattle.devices_1401.specs.Control.{Control, is_immediate, movement_of}
 use Rattle.devices_1401.specs.declared.fault.ControlFault.{ControlFault}
 use Rattle.fields_1401.specs.declared.done.Done.{Done}
 use Rattle.fields_1401.specs.declared.done.FieldStop.{FieldStop}
-use Rattle.fields_1401.specs.Outcome.{Outcome}
-use Rattle.cpu_1401.specs.declared.instruction.Instruction.{Instruction}
+use Rattle.fields_1401.specs.declared.done.FieldStop.TheVariants as field
+use Rattle.fields_1401.specs.Marks.{clear_down_at, cleared, hundred_of}
+use Rattle.fields_1401.specs.Outcome.{Outcome, below_by, registers_of, stop_of}
+use Rattle.machine_operations.specs.Operation.{meaning_of, operation_of}
+use Rattle.machine_operations.specs.declared.operation.Operation.TheVariants as op
 use Rattle.machine_panel.specs.declared.stop.Stop.{Stop}
-use Rattle.cpu_1401.specs.Branch.{branch_to}
+use Rattle.machine_panel.specs.declared.stop.Stop.TheVariants as stop
+use Rattle.cpu_1401.specs.Branch.{after_branch, branch_if, branch_on_cell, branch_to, has_char}
 use Rattle.cpu_1401.specs.CardsAndPrinter.{after_control, control_stop, unless_hindered}
 use Rattle.cpu_1401.specs.FieldStep.{after_clear, after_comparison, after_field}
+use Rattle.cpu_1401.specs.Instruction.{instruction_of}
 use Rattle.cpu_1401.specs.State.{State}
-use Rattle.cpu_1401.specs.Stepped.{step_to}
-use Rattle.fields_1401.specs.Outcome.{stop_of}
+use Rattle.cpu_1401.specs.Stepped.{step_to, stopped}
+use Rattle.cpu_1401.specs.declared.instruction.Instruction.{Instruction}
+use Rattle.job_stops.specs.FieldReason.{field_stop}
+use Rattle.job_stops.specs.Reason.{stop_named}
+use Rattle.job_stops.specs.Said.{b_of, performed_stop}
+use Rattle.job_stops.specs.declared.field_reason.FieldReason.{FieldReason}
+use Rattle.job_stops.specs.declared.reason.Reason.{Reason}
+use Rattle.job_stops.specs.declared.reason.Reason.TheVariants as reason
 
 -- a step that is carried out either way
 either_stops : (c : Bool) (s t : State) → (if c then step_to s else step_to t).stop ≡ None
@@ -59,3 +74,55 @@ pub control_stops : (this : Instruction) (s : State) (carriage : Carriage) (d : 
     → (after_control this s (controlled carriage d)).stop ≡ option_map control_stop (result_err (movement_of d))
 unfolding controlled
 control_stops this s carriage d = moved_stops this s (is_immediate d) carriage (movement_of d)
+
+-- what is refused, or carried out
+refused_stops : (b : Bool) (done s : State) (why : Stop)
+    → (if b then step_to done else stopped why s).stop ≡ (if b then None else Some why)
+refused_stops true done s why = refl
+refused_stops false done s why = refl
+
+-- a branch by a cell stops if that isn't in core
+pub cell_branch_stops : (test : Cell → Bool) (this : Instruction) (s : State)
+    → (branch_on_cell test this s).stop ≡ (if is_in_core s.storage this.b then None else Some stop.Address)
+cell_branch_stops test this s =
+    refused_stops (is_in_core s.storage this.b)
+    (branch_if (test (cell_at s.storage this.b)) (below_by this.b 1) this s) s stop.Address
+
+-- and so does a branch that has neither four characters nor five
+branch_stops : (this : Instruction) (s : State) → this.len ≢ 4 → this.len ≢ 5
+    → (after_branch this s).stop ≡ (if is_in_core s.storage this.b then None else Some stop.Address)
+branch_stops this s four five =
+    rw (ne_eqb this.len 4 four, ne_eqb this.len 5 five) (cell_branch_stops (has_char this.d) this s)
+
+branch_performed : (s : State) (char len : ℕ) → slice_index graphics char ≡ 66 → len ≢ 4 → len ≢ 5
+    → performed_stop (operation_of char) len s
+    ≡ (if is_in_core s.storage (b_of false len s) then None else Some stop.Address)
+branch_performed s char len is four five =
+    ap (λ (graphic : ℕ). performed_stop (meaning_of graphic) len s) is
+    ∙ branch_stops (instruction_of op.Branch len s) s four five
+
+-- so the reason that names its B address is why it stops
+named_of_fields : (why : Option FieldReason)
+    → option_map stop_named (option_map reason.Fields why) ≡ option_map stop_of (option_map field_stop why)
+named_of_fields None = refl
+named_of_fields (Some why) = refl
+
+outside_stops : (b : Bool) (done : Storage × Done)
+    → option_map stop_of (let outcome : Outcome = if b then Ok done else Err field.Address in result_err outcome)
+    ≡ (if b then None else Some stop.Address)
+outside_stops true done = refl
+outside_stops false done = refl
+
+pub branch_told : (s : State) (char len b : ℕ) (core : Storage) (why : Option FieldReason) (told : Option Reason)
+    → slice_index graphics char ≡ 66 → len ≢ 4 → len ≢ 5 → core ≡ s.storage → b ≡ b_of false len s
+    → told ≡ option_map reason.Fields why → option_map field_stop why ≡ result_err (clear_down_at core b)
+    → option_map stop_named told ≡ performed_stop (operation_of char) len s
+branch_told s char len b core why told is four five e_core e_b e_told e_why =
+    let at : ℕ = b_of false len s in
+    ap (λ (found : Option Reason). option_map stop_named found) e_told ∙ named_of_fields why
+    ∙ ap (λ (found : Option FieldStop). option_map stop_of found) e_why
+    ∙ ap (λ (storage : Storage). option_map stop_of (result_err (clear_down_at storage b))) e_core
+    ∙ ap (λ (place : ℕ). option_map stop_of (result_err (clear_down_at s.storage place))) e_b
+    ∙ outside_stops (is_in_core s.storage at)
+    (cleared s.storage at (at + 1 - hundred_of at), registers_of at (below_by (hundred_of at) 1))
+    ∙ sym (branch_performed s char len is four five)

@@ -4,8 +4,8 @@ use Rattle.std.proofs.lemmas.Option.{none-some}
 use Rattle.std.specs.Prelude.{Option, None, Some, IfSome, IsSome}
 use Rattle.std.specs.Option.{option_map}
 use Rattle.machine_panel.specs.declared.stop.Stop.{Stop}
+use Rattle.cpu_1401.specs.Fitting.{fitted_step}
 use Rattle.cpu_1401.specs.State.{State}
-use Rattle.cpu_1401.specs.Step.{step}
 use Rattle.job_stops.specs.declared.reason.Reason.{Reason}
 use Rattle.job_stops.specs.Reason.{IsSo, stop_named}
 use Rattle.job_stops.specs.Told.{IsReasonFor}
@@ -28,7 +28,7 @@ named_as why None e = tt
 named_as why (Some reason) e = cc
 
 pub reason_for : (s : State) (why : Stop) (found kept : Option Reason)
-    → option_map stop_named found ≡ (step s).stop → IfSome found (IsSo s) → Kept why found kept
+    → option_map stop_named found ≡ (fitted_step s).stop → IfSome found (IsSo s) → Kept why found kept
     → IsReasonFor s why kept
 reason_for s why found kept is so (inl told) = record {
   there = λ _. subst (λ (each : Option Reason). IsSome each) (sym told.1) (there_is why found told.0);

@@ -1,5 +1,6 @@
 -- Why the next step stops the machine, with the places (own).
-use Rattle.std.specs.Prelude.{◌≡◌, ◌==◌, true, false, length, Option, Some, None, if◌then◌else◌}
+use Rattle.std.specs.Prelude.{◌≡◌, ◌==◌, true, false, length, Option, Some, None, slice_index, if◌then◌else◌}
+use Rattle.bcd_1401.specs.Graphic.{graphics}
 use Rattle.core_1401.specs.Storage.{cell_at, is_in_core}
 use Rattle.devices_1401.specs.Control.{line_of_channel, low_of}
 use Rattle.devices_1401.specs.Devices.{is_full}
@@ -7,13 +8,15 @@ use Rattle.cpu_1401.specs.declared.instruction.Instruction.{Instruction}
 use Rattle.machine_operations.specs.declared.operation.Operation.TheVariants as op
 use Rattle.machine_panel.specs.declared.stop.Stop.{Stop}
 use Rattle.machine_panel.specs.declared.stop.Stop.TheVariants as stop
+use Rattle.machine_operations.specs.Fitted.{is_fitted_with}
 use Rattle.machine_operations.specs.Operation.{is_unfitted, operation_of}
+use Rattle.cpu_1401.specs.Fitting.{fitted_at}
 use Rattle.cpu_1401.specs.State.{State}
 use Rattle.fields_1401.specs.Outcome.{stop_of}
 use Rattle.job_stops.specs.declared.reason.Reason.{Reason}
 use Rattle.job_stops.specs.declared.reason.Reason.TheVariants as reason
 use Rattle.job_stops.specs.FieldReason.{IsFieldSo, field_stop}
-use Rattle.job_stops.specs.Said.{char_of, is_length_of, is_unfitted_at, len_of, said_by}
+use Rattle.job_stops.specs.Said.{char_of, is_unfitted_at, len_of, said_by}
 
 -- the stop that a reason is told as
 abbrev pub stop_named : Reason → Stop
@@ -43,11 +46,11 @@ IsSoOf this s (reason.NoMark at) =
 IsSoOf this s (reason.NoOperation char) =
     (char ≡ char_of s) × (operation_of char ≡ None) × (is_unfitted char ≡ false)
 IsSoOf this s (reason.NotFitted char) =
-    (char ≡ char_of s) × (operation_of char ≡ None) × (is_unfitted char ≡ true)
+    (char ≡ char_of s) × (operation_of char ≡ None) × (is_unfitted char ≡ true) × (fitted_at s ≡ None)
 IsSoOf this s (reason.NotFittedAt char len) =
-    (char ≡ char_of s) × (len ≡ len_of (operation_of char) s) × (is_unfitted_at (operation_of char) len ≡ true)
+    (char ≡ char_of s) × (len ≡ len_of s) × (is_unfitted_at (operation_of char) len ≡ true) × (fitted_at s ≡ None)
 IsSoOf this s (reason.NoSuchLength char len) =
-    (char ≡ char_of s) × (len ≡ len_of (operation_of char) s) × (is_length_of (operation_of char) len ≡ false)
+    (char ≡ char_of s) × (len ≡ len_of s) × (is_fitted_with s.features (slice_index graphics char) len ≡ false)
 IsSoOf this s (reason.Fields why) = IsFieldSo s.storage this.a this.b why
 IsSoOf this s (reason.NoHole channel) = (channel ≡ low_of this.d) × (line_of_channel channel ≡ None)
 IsSoOf this s (reason.UnknownD char d) = (char ≡ char_of s) × (d ≡ this.d)

@@ -2,16 +2,16 @@
 use Rattle.std.specs.Prelude.{◌≡◌, Option, Some, None, IfSome, IsSome}
 use Rattle.machine_panel.specs.declared.stop.Stop.{Stop}
 use Rattle.machine_panel.specs.declared.stop.Stop.TheVariants as stop
+use Rattle.cpu_1401.specs.Fitting.{fitted_step}
 use Rattle.cpu_1401.specs.State.{State}
-use Rattle.cpu_1401.specs.Step.{step}
 use Rattle.job_stops.specs.declared.reason.Reason.{Reason}
 use Rattle.job_stops.specs.declared.reason.Reason.TheVariants as reason
 use Rattle.job_stops.specs.Reason.{IsSo}
 
 -- there is a reason exactly if the next step has this stop, and what it says is so
 pub record IsReasonFor (s : State) (why : Stop) (found : Option Reason) : Type 0 where
-  pub there : (step s).stop ≡ Some why → IsSome found
-  pub only : IsSome found → (step s).stop ≡ Some why
+  pub there : (fitted_step s).stop ≡ Some why → IsSome found
+  pub only : IsSome found → (fitted_step s).stop ≡ Some why
   pub so : IfSome found (IsSo s)
 
 -- what is told of a stop: nothing of a halt and of the limit; of a device, that it has no card or no room; of the

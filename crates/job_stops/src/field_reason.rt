@@ -34,12 +34,28 @@ pub enum FieldReason {
     NoPairMark { a: u16, b: u16 },
     /// The B field goes down from this place, and core has fewer places below it than the A field.
     TooFewPlaces { at: u16, needed: u16 },
-    /// The place is too low for the three characters of an address that end there.
-    NoAddressPlaces { at: u16 },
+    /// An operand's place is too low for the three characters of an address that end there.
+    NoAddressPlaces { which: Operand, at: u16 },
     /// Loading the field to this place and those below it writes over the field's own word mark, before it is read.
     MarkOverwritten { field: Span, at: u16 },
     /// The A field, as far as it is used, and the B field share a place.
     Overlap { field: Span, other: Span },
+    /// The product would end at this place, and core has none for a multiplier one place more left of it than this
+    /// length of the A field.
+    NoMultiplier { at: u16, len: u16 },
+    /// The multiplier, with its units at this place, has no word mark down to place 0.
+    NoMultiplierMark { at: u16 },
+    /// The A field and the places of its product share a place.
+    ProductOverlap { field: Span, product: Span },
+    /// The dividend goes up from this place, and no place up to the end of core has a zone.
+    NoDividendEnd { at: u16 },
+    /// The dividend's units are at this place, and core has fewer places from there down than rest and quotient need.
+    NoQuotientPlaces { at: u16, needed: u16 },
+    /// The A field and the places of rest and quotient share a place.
+    QuotientOverlap { field: Span, places: Span },
+    /// Moving from the first address up to the second and up comes to the end of core before a last character: a record
+    /// mark, or a group mark with a word mark.
+    NoRecordEnd { a: u16, b: u16 },
 }
 
 impl Operand {
@@ -67,6 +83,13 @@ impl FieldReason {
             FieldReason::NoAddressPlaces { .. } => FieldStop::Address,
             FieldReason::MarkOverwritten { .. } => FieldStop::Address,
             FieldReason::Overlap { .. } => FieldStop::Overlap,
+            FieldReason::NoMultiplier { .. } => FieldStop::Address,
+            FieldReason::NoMultiplierMark { .. } => FieldStop::Address,
+            FieldReason::ProductOverlap { .. } => FieldStop::Overlap,
+            FieldReason::NoDividendEnd { .. } => FieldStop::Address,
+            FieldReason::NoQuotientPlaces { .. } => FieldStop::Address,
+            FieldReason::QuotientOverlap { .. } => FieldStop::Overlap,
+            FieldReason::NoRecordEnd { .. } => FieldStop::Address,
         }
     }
 }
@@ -124,7 +147,7 @@ impl fmt::Display for FieldReason {
                     "from {at:03} down core has no {needed} places, as many as the A field"
                 )
             }
-            FieldReason::NoAddressPlaces { at } => {
+            FieldReason::NoAddressPlaces { at, .. } => {
                 write!(f, "from {at:03} down core has no 3 places for an address")
             }
             FieldReason::MarkOverwritten { field, at } => {
@@ -136,6 +159,44 @@ impl fmt::Display for FieldReason {
             }
             FieldReason::Overlap { field, other } => {
                 write!(f, "the A field {field} and the B field {other} overlap")
+            }
+            FieldReason::NoMultiplier { at, len } => {
+                write!(
+                    f,
+                    "core has no place for a multiplier {} places left of {at:03}",
+                    u32::from(len) + 1
+                )
+            }
+            FieldReason::NoMultiplierMark { at } => {
+                let places = Span { from: at, to: 0 };
+                write!(f, "no word mark {places} in the multiplier")
+            }
+            FieldReason::ProductOverlap { field, product } => {
+                write!(f, "the A field {field} and the product {product} overlap")
+            }
+            FieldReason::NoDividendEnd { at } => {
+                write!(
+                    f,
+                    "no place from {at:03} up to the end of core has a zone that ends the dividend"
+                )
+            }
+            FieldReason::NoQuotientPlaces { at, needed } => {
+                write!(
+                    f,
+                    "from {at:03} down core has no {needed} places for rest and quotient"
+                )
+            }
+            FieldReason::QuotientOverlap { field, places } => {
+                write!(
+                    f,
+                    "the A field {field} and rest and quotient {places} overlap"
+                )
+            }
+            FieldReason::NoRecordEnd { a, b } => {
+                write!(
+                    f,
+                    "moving from {a:03} to {b:03} comes to the end of core before a record mark or a group mark with a word mark"
+                )
             }
         }
     }

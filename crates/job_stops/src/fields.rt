@@ -24,7 +24,7 @@ use fields_1401::count_replaceable;
 const ADDRESS_PLACES: u16 = 3;
 
 /// How many places the field of an operand has, or why it has no length.
-fn field_len(core: &Core, which: Operand, a: u16, b: u16) -> Result<u16, FieldReason>
+pub(crate) fn field_len(core: &Core, which: Operand, a: u16, b: u16) -> Result<u16, FieldReason>
     ensures value { IfOk result (λ n. field_len_of core.now (address_of which a b) ≡ Some n) }
     ensures some { IfOk result (λ n. 0 < n) }
     ensures places { IfOk result (λ n. n ≤ address_of which a b + 1) }
@@ -70,7 +70,7 @@ fn used_len(core: &Core, a: u16, b: u16, m: u16) -> Result<u16, FieldReason>
 }
 
 /// This many places from one down.
-fn span(from: u16, len: u16) -> Span
+pub(crate) fn span(from: u16, len: u16) -> Span
     requires some { 0 < len }
     requires len { len ≤ from + 1 }
     ensures from { result.from ≡ from }
@@ -254,19 +254,18 @@ pub(crate) fn edit_reason(core: &Core, a: u16, b: u16) -> Option<FieldReason>
     None
 }
 
-/// Why an address can't be stored in the three places that end at a.
-pub(crate) fn store_reason(core: &Core, a: u16, b: u16) -> Option<FieldReason>
-    ensures stop { option_map field_stop result ≡ (if has_places core.now a 3 then None else Some Address) }
+/// Why the three places that end at an operand's address can't hold an address.
+pub(crate) fn address_reason(core: &Core, which: Operand, a: u16, b: u16) -> Option<FieldReason>
+    ensures stop { option_map field_stop result
+        ≡ (if has_places core.now (address_of which a b) 3 then None else Some Address) }
     ensures so { IfSome result (IsFieldSo core.now a b) }
 {
-    if !core.in_core(a) {
-        return Some(FieldReason::NotInCore {
-            which: Operand::A,
-            at: a,
-        });
+    let at = which.of(a, b);
+    if !core.in_core(at) {
+        return Some(FieldReason::NotInCore { which, at });
     }
-    if a < ADDRESS_PLACES - 1 {
-        return Some(FieldReason::NoAddressPlaces { at: a });
+    if at < ADDRESS_PLACES - 1 {
+        return Some(FieldReason::NoAddressPlaces { which, at });
     }
     None
 }

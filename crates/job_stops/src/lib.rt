@@ -15,10 +15,10 @@ pub mod reason;
 
 // why the operations on fields can't be carried out
 mod fields;
+mod products;
 
 // the instruction at the I register, and why it stops the machine
 mod devices;
-mod operations;
 pub mod stopping;
 
 // the instruction that has halted

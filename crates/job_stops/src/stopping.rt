@@ -1,43 +1,44 @@
 //! Why the next step stops the machine.
-ghost use Rattle.std.specs.Prelude.{◌≡◌, ◌≢◌, ◌⊎◌, ◌+◌, ◌-◌, ◌<◌, ◌≤◌, true, false, length, None, Some, IfOk, IfErr};
-ghost use Rattle.std.specs.Prelude.{IfSome};
+ghost use Rattle.std.specs.Prelude.{◌≡◌, ◌≢◌, ◌⊎◌, ◌+◌, ◌-◌, ◌<◌, ◌≤◌, true, false, length, None, Some, IfSome};
 ghost use Rattle.std.specs.Option.{option_map};
 ghost use Rattle.core_1401.specs.Address.{addresses};
 ghost use Rattle.core_1401.specs.Storage.{cell_at};
 ghost use Rattle.machine_operations.specs.declared.operation.Operation.TheVariants as op;
 ghost use Rattle.cpu_1401.specs.CardsAndPrinter.{after_write};
-ghost use Rattle.cpu_1401.specs.Instruction.{instruction_of};
+ghost use Rattle.cpu_1401.specs.Fitting.{fitted_at, fitted_instruction, fitted_step, perform_fitted};
+ghost use Rattle.cpu_1401.specs.Instruction.{begins_at, instruction_of};
 ghost use Rattle.machine_operations.specs.Operation.{operation_of};
-ghost use Rattle.cpu_1401.specs.Step.{check_operation, step};
+ghost use Rattle.cpu_1401.specs.Step.{check_operation};
 ghost use Rattle.job_stops.specs.declared.reason.Reason.TheVariants as AReason;
 ghost use Rattle.job_stops.specs.Reason.{IsSo, IsSoOf, stop_named};
 ghost use Rattle.job_stops.specs.Told.{IsReasonFor, IsTold};
-ghost use Rattle.job_stops.specs.Said.{a_of, b_of, char_of, is_length_of, is_unfitted_at, len_of};
+ghost use Rattle.job_stops.specs.Said.{a_of, b_of, char_of, len_of};
 ghost use Rattle.job_stops.specs.Said.{performed_stop, said_with};
 
 use crate::devices::{
     all_three_reason, forms_reason, low_of, movement_fault, read_and_punch_reason, reader_reason,
     stacker_reason, write_and_punch_reason, write_and_read_reason,
 };
-use crate::field_reason::FieldReason;
+use crate::field_reason::{FieldReason, Operand};
 use crate::fields::{
-    b_reason, both_reason, edit_reason, load_reason, pair_reason, store_reason, sum_reason,
+    address_reason, b_reason, both_reason, edit_reason, load_reason, pair_reason, sum_reason,
     suppress_reason,
 };
-use crate::operations::{is_length_of, is_unfitted_at, longest};
+use crate::halting::instruction_len;
+use crate::products::{address_sum_reason, product_reason, quotient_reason, record_reason};
 use crate::reason::Reason;
 use bcd_1401::Char;
 use cpu_1401::{Machine, Stop};
 use devices_1401::ControlFault;
-use machine_operations::is_unfitted;
+use machine_operations::{Fitted, Operation, fitted_in, is_unfitted};
 
 /// The code of the lozenge, which asks for word marks to be printed.
 const LOZENGE: u8 = 60;
 
 /// Why the next step stops the machine, a halt included; `None` if it doesn't stop there.
-#[tactic(auto, unfolding(cpu_1401::specs::Step::step))]
+#[tactic(auto, unfolding(cpu_1401::specs::Fitting::fitted_step, cpu_1401::specs::Step::step))]
 pub fn stop_reason(machine: &Machine) -> Option<Reason>
-    ensures stop { option_map stop_named result ≡ (step machine.now).stop }
+    ensures stop { option_map stop_named result ≡ (fitted_step machine.now).stop }
     ensures so { IfSome result (IsSo machine.now) }
 {
     let at = machine.regs().i;
@@ -48,10 +49,21 @@ pub fn stop_reason(machine: &Machine) -> Option<Reason>
     if !cell.mark {
         return Some(Reason::NoMark { at });
     }
-    match checked_len(machine, cell.char) {
-        Ok(len) => performed_reason(machine, cell.char, len),
-        Err(why) => Some(why),
+    let len = instruction_len(machine.core(), at);
+    match fitted_at(machine, cell.char, len) {
+        Some(fitted) => fitted_reason(machine, fitted, cell.char, len),
+        None => plain_reason(machine, cell.char, len),
     }
+}
+
+/// What a feature makes of the instruction at the I register, which has this many characters; `None` if none claims it.
+fn fitted_at(machine: &Machine, char: Char, len: u16) -> Option<Fitted>
+    requires begins { begins_at machine.now.storage machine.now.i ≡ true }
+    requires char { char ≡ char_of machine.now }
+    requires len { len ≡ len_of machine.now }
+    ensures { result ≡ fitted_at machine.now }
+{
+    fitted_in(machine.features(), char.graphic(), u32::from(len))
 }
 
 /// Why a machine that ended a run with this stop has stopped; `None` after a halt and at the limit, and if the next
@@ -106,51 +118,67 @@ fn reason_of_step(machine: &Machine, stop: Stop) -> Option<Reason>
     if_told_as(&found, stop)
 }
 
-/// The character at a place, and a blank past the end of core.
-fn char_at(machine: &Machine, at: u16) -> Char
-    ensures { result ≡ (cell_at machine.now.storage at).char }
-{
-    if machine.core().in_core(at) {
-        machine.core().get(at).char
-    } else {
-        Char::BLANK
-    }
-}
-
-/// How many characters the instruction at the I register has, which begins with this one.
-///
-/// # Errors
-///
-/// Why it isn't carried out at any address: its operation or its length.
-fn checked_len(machine: &Machine, char: Char) -> Result<u16, Reason>
-    requires at { machine.now.i < length machine.now.storage }
+/// Why the instruction at the I register, of this many characters, stops the machine if no feature claims it.
+fn plain_reason(machine: &Machine, char: Char, len: u16) -> Option<Reason>
+    requires begins { begins_at machine.now.storage machine.now.i ≡ true }
     requires char { char ≡ char_of machine.now }
-    ensures some { IfOk result (λ len. 0 < len) }
-    ensures most { IfOk result (λ len. len ≤ 8) }
-    ensures inside { IfOk result (λ len. machine.now.i + len ≤ length machine.now.storage) }
-    ensures len { IfOk result (λ len. len_of (operation_of char) machine.now ≡ len) }
-    ensures stop { IfOk result (λ len. (check_operation (operation_of char) char machine.now).stop
-        ≡ performed_stop (operation_of char) len machine.now) }
-    ensures err_stop { IfErr result (λ why.
-        (check_operation (operation_of char) char machine.now).stop ≡ Some (stop_named why)) }
-    ensures err_so { IfErr result (IsSo machine.now) }
+    requires len { len ≡ len_of machine.now }
+    requires some { 0 < len }
+    requires inside { machine.now.i + len ≤ length machine.now.storage }
+    requires unclaimed { fitted_at machine.now ≡ None }
+    ensures stop { option_map stop_named result ≡ (check_operation (operation_of char) char machine.now).stop }
+    ensures so { IfSome result (IsSo machine.now) }
 {
-    let at = machine.regs().i;
-    let Some(most) = longest(char, char_at(machine, at + 4)) else {
-        return Err(if is_unfitted(char) {
+    let Some(operation) = Operation::from_char(char) else {
+        return Some(if is_unfitted(char) {
             Reason::NotFitted { char }
         } else {
             Reason::NoOperation { char }
         });
     };
-    let len = machine.core().next_mark(at, most);
-    if is_unfitted_at(char, len) {
-        return Err(Reason::NotFittedAt { char, len });
+    if operation.is_unfitted_length(len) {
+        return Some(Reason::NotFittedAt { char, len });
     }
-    if !is_length_of(char, len) {
-        return Err(Reason::NoSuchLength { char, len });
+    if !operation.has_length(len) {
+        return Some(Reason::NoSuchLength { char, len });
     }
-    Ok(len)
+    performed_reason(machine, char, len)
+}
+
+/// Why what a feature makes of the instruction at the I register stops the machine.
+#[tactic(auto, using(crate::proofs::StopLemmas::field_stops, crate::proofs::ClaimedLemmas::kept_stops, crate::proofs::StopLemmas::cell_branch_stops, crate::proofs::ClaimedLemmas::on_cell_stops, crate::proofs::ClaimedLemmas::halt_operation))]
+fn fitted_reason(machine: &Machine, fitted: Fitted, char: Char, len: u16) -> Option<Reason>
+    requires begins { begins_at machine.now.storage machine.now.i ≡ true }
+    requires char { char ≡ char_of machine.now }
+    requires len { len ≡ len_of machine.now }
+    requires inside { machine.now.i + len ≤ length machine.now.storage }
+    requires fitted { fitted_at machine.now ≡ Some fitted }
+    ensures stop { option_map stop_named result
+        ≡ (perform_fitted fitted (fitted_instruction machine.now) machine.now).stop }
+    ensures so { IfSome result (IsSoOf (fitted_instruction machine.now) machine.now) }
+{
+    let core = machine.core();
+    let a = a_address(machine, len);
+    let b = b_or_only_address(machine, len);
+    match fitted {
+        Fitted::OnCell | Fitted::OnBits => of_fields(b_reason(core, a, b)),
+        Fitted::CharacterAgain | Fitted::CellAgain => of_fields(b_reason(core, a, b)),
+        Fitted::BitsAgain => {
+            if !machine.features().lengths {
+                return Some(Reason::NoSuchLength { char, len });
+            }
+            of_fields(b_reason(core, a, b))
+        }
+        Fitted::StoreA | Fitted::StoreB => of_fields(address_reason(core, Operand::A, a, b)),
+        Fitted::StoreSecond => of_fields(address_reason(core, Operand::A, a, b)),
+        Fitted::Halt => Some(Reason::Halt),
+        Fitted::Feed => None,
+        Fitted::Multiply => of_fields(product_reason(core, a, b)),
+        Fitted::Divide => of_fields(quotient_reason(core, a, b)),
+        Fitted::MoveRecord => of_fields(record_reason(core, a, b)),
+        Fitted::ModifyAddress => of_fields(address_sum_reason(core, a, b)),
+        Fitted::NoLength => Some(Reason::NoSuchLength { char, len }),
+    }
 }
 
 /// The A address of the instruction at the I register at this length, or the A register.
@@ -237,7 +265,7 @@ fn performed_reason(machine: &Machine, char: Char, len: u16) -> Option<Reason>
             of_fields(b_reason(core, a, b_address(machine, len)))
         }
         b'V' => of_fields(b_reason(core, a, b_address(machine, len))),
-        b'Q' | b'H' => of_fields(store_reason(core, a, b_address(machine, len))),
+        b'Q' | b'H' => { of_fields(address_reason(core, Operand::A, a, b_address(machine, len))) }
         b'N' | b'K' => None,
         b'.' => Some(Reason::Halt),
         b'1' => reader_reason(machine),

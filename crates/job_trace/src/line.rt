@@ -6,7 +6,7 @@ ghost use Rattle.job_trace.specs.TraceLine.{registers_text, stop_text, waiting_t
 
 use cpu_1401::Stop;
 use devices_1401::Movement;
-use machine_notation::put_digits;
+use machine_notation::{put_digits, put_named_digits};
 use std::alloc::AllocError;
 
 /// Adds the A and the B register.
@@ -67,13 +67,9 @@ fn put_movement(text: &mut Vec<u8>, movement: Movement) -> Result<(), AllocError
 {
     match movement {
         Movement::SpaceBy(spaces) => {
-            text.extend_from_slice(b"SPACE ".as_slice())?;
-            put_digits(text, 1, u64::from(spaces.count()))
+            put_named_digits(text, b"SPACE ", 1, u64::from(spaces.count()))
         }
-        Movement::SkipTo(hole) => {
-            text.extend_from_slice(b"SKIP ".as_slice())?;
-            put_digits(text, 2, u64::from(hole.line()))
-        }
+        Movement::SkipTo(hole) => { put_named_digits(text, b"SKIP ", 2, u64::from(hole.line())) }
     }
 }
 

@@ -2,7 +2,7 @@
 
 use core_1401::Cells;
 use devices_1401::Card;
-use machine_panel::SwitchName;
+use machine_panel::{Features, SwitchName};
 
 /// What an operator asks of the machine. An address may be any number; one that isn't in core is refused.
 #[derive(Clone, Copy, Debug, PartialEq, Eq)]
@@ -51,4 +51,7 @@ pub enum Command {
     TakeLine,
     /// Takes the oldest punched card from the stacker.
     TakeCard,
+    /// Fits the machine with these features and takes all others out, as its engineer does (own). It may come at any
+    /// time. A console has no word for it.
+    Fit(Features),
 }

@@ -6,6 +6,10 @@ use Rattle.cpu_1401.specs.State.{State, power_on}
 use Rattle.machine_commands.specs.declared.answer.Answer.TheVariants.{Done, Refused}
 use Rattle.machine_commands.specs.declared.answer.Refusal.TheVariants.{Address, Limit, Count}
 use Rattle.machine_commands.specs.declared.command.Command.TheVariants.{Deposit, Examine, SetI, Switch, Run}
+use Rattle.machine_commands.specs.declared.command.Command.TheVariants.{Fit}
+use Rattle.machine_panel.specs.Features.{no_features, with_feature}
+use Rattle.machine_panel.specs.declared.features.Feature.TheVariants.{BitTest, Lengths}
+use Rattle.machine_panel.specs.declared.features.Features.{Features}
 use Rattle.machine_panel.specs.declared.switch_name.SwitchName.TheVariants.{B}
 use Rattle.machine_execution.specs.CarryOut.{carry_out}
 
@@ -51,3 +55,34 @@ switch_b_is_the_second = refl
 a_run_of_none_is_refused : carry_out small (Run 0) ≡ record { state = small; answer = Refused Limit }
 unfolding carry_out
 a_run_of_none_is_refused = refl
+
+abbrev lengths : Features
+lengths = with_feature no_features Lengths
+
+abbrev bit_test : Features
+bit_test = with_feature no_features BitTest
+
+a_machine_is_fitted : carry_out small (Fit lengths) ≡ record {
+  state = record small { features = lengths };
+  answer = Done;
+}
+unfolding carry_out
+a_machine_is_fitted = refl
+
+-- the machine with the lengths, which has kept K as the d-character of a branch
+abbrev with_lengths : State
+with_lengths = record small { features = lengths; chained = 34 }
+
+other_features_are_taken_out : carry_out with_lengths (Fit bit_test) ≡ record {
+  state = record small { features = bit_test };
+  answer = Done;
+}
+unfolding carry_out
+other_features_are_taken_out = refl
+
+the_lengths_stay_with_what_they_kept : carry_out with_lengths (Fit (with_feature lengths BitTest)) ≡ record {
+  state = record small { features = with_feature lengths BitTest; chained = 34 };
+  answer = Done;
+}
+unfolding carry_out
+the_lengths_stay_with_what_they_kept = refl

@@ -6,7 +6,7 @@ use Rattle.core_1401.specs.Cells.{most_cells}
 use Rattle.core_1401.specs.Storage.{Storage, is_in_core}
 use Rattle.cpu_1401.specs.CardsAndPrinter.{load, with_devices}
 use Rattle.cpu_1401.specs.Run.{Finished, most_steps, run_for}
-use Rattle.cpu_1401.specs.State.{State, regs_of, with_switch}
+use Rattle.cpu_1401.specs.State.{State, fitted_with, regs_of, with_switch}
 use Rattle.machine_panel.specs.SwitchName.{switch_number}
 use Rattle.devices_1401.specs.Devices.{after_card, after_line, fed, is_full}
 use Rattle.devices_1401.specs.declared.card.Card.{Card}
@@ -18,7 +18,7 @@ use Rattle.machine_commands.specs.declared.answer.Refusal.{Refusal}
 use Rattle.machine_commands.specs.declared.answer.Refusal.TheVariants.{Address, Hopper, Reader, Empty, Limit, Count}
 use Rattle.machine_commands.specs.declared.command.Command.{Command}
 use Rattle.machine_commands.specs.declared.command.Command.TheVariants.{Deposit, Examine, Registers, SetI, Switch, Feed}
-use Rattle.machine_commands.specs.declared.command.Command.TheVariants.{LoadKey, Run, TakeLine, TakeCard}
+use Rattle.machine_commands.specs.declared.command.Command.TheVariants.{LoadKey, Run, TakeLine, TakeCard, Fit}
 
 -- what a command leaves: the machine, and the answer
 pub record Carried : Type 0 where
@@ -114,3 +114,4 @@ carry_out s LoadKey = load_key s
 carry_out s (Run limit) = run limit s
 carry_out s TakeLine = take_line s
 carry_out s TakeCard = take_card s
+carry_out s (Fit features) = change_to (fitted_with features s)

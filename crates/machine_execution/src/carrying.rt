@@ -35,6 +35,10 @@ pub fn carry_out(machine: &mut Machine, command: &Command) -> Answer
         Command::Run { limit } => run(machine, limit),
         Command::TakeLine => take_line(machine),
         Command::TakeCard => take_card(machine),
+        Command::Fit(features) => {
+            machine.fit(features);
+            Answer::Done
+        }
     }
 }
 

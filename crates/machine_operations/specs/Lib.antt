@@ -1,3 +1,4 @@
+pub mod Fitted
 pub mod Operation
 pub mod Row
 pub mod Rows

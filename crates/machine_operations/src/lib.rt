@@ -15,8 +15,10 @@ pub mod mnemonics;
 // the table, and what is asked of it
 pub mod operation;
 
-// the operations of features that this machine hasn't got
+// the operations of features that a machine hasn't got at power-on, and what features make of instructions
+pub mod fitted;
 pub mod unfitted;
 
+pub use fitted::{Fitted, fitted_in, is_fitted_with};
 pub use operation::{Operation, is_fitted, longest_at};
 pub use unfitted::{is_unfitted, mnemonic_at};

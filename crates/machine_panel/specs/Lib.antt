@@ -1,2 +1,3 @@
+pub mod Features
 pub mod Stop
 pub mod SwitchName

@@ -1,6 +1,6 @@
 //! The registers and indicators of the machine, as an operator reads them.
 
-/// What an operator reads from the machine beside its storage.
+/// What an operator reads from the machine apart from its storage.
 #[derive(Clone, Copy, Debug, PartialEq, Eq)]
 pub struct Regs {
     /// The I register: the address of the next instruction, below 16,000.

@@ -32,5 +32,5 @@ is_printed text devices = in_line text (slice_get devices.paper (length devices.
 -- whether what is asked holds of a machine
 abbrev pub is_asked : Asked → State → Bool
 is_asked asked.Anything s = true
-is_asked (asked.Compared it) s = compared_at s.storage it.at it.relation it.value
+is_asked (asked.Compared it) s = compared_at s.storage it.field it.relation it.value
 is_asked (asked.Printed text) s = is_printed text s.devices

@@ -1,4 +1,6 @@
 //! What an act has done, as it is shown afterwards.
+ghost use Rattle.std.specs.Prelude.{◌≡◌, ◌++◌, OnOk};
+ghost use Rattle.operate_answers.specs.Done.{deck_text, dropped_text, fed_text, hand_text};
 
 use crate::counted::{put_column, put_count};
 use crate::fault::LookFault;
@@ -58,16 +60,35 @@ fn put_deposits(text: &mut Vec<u8>, core: &Core, commands: &[Command]) -> Result
     Ok(())
 }
 
-/// Adds how many cards are in the hopper.
-fn put_hopper_count(text: &mut Vec<u8>, machine: &Machine) -> Result<(), AllocError> {
-    text.extend_from_slice(b"hopper: ".as_slice())?;
-    put_digits(text, 1, u64::from(machine.regs().hopper))?;
-    Ok(text.push(b'\n')?)
+/// Adds how many cards are in hand, if some are.
+fn put_hand(text: &mut Vec<u8>, hand: usize) -> Result<(), AllocError>
+    ensures { OnOk result (text.new.items ≡ text.old.items ++ hand_text hand) }
+{
+    if hand == 0 {
+        return Ok(());
+    }
+    text.extend_from_slice(b"; in hand: ".as_slice())?;
+    put_digits(text, 1, hand as u64)
 }
 
-/// Adds what an act has done: what is now where it put cells, the field that it set, the switches that are on, or how
-/// many cards are in the hopper. `commands` are those that it stood for, and the machine has carried them out. Nothing
-/// is added for a run, nor for a deck.
+/// Adds how many cards are in the hopper, and how many are in hand until there is room for them, if some are.
+///
+/// # Errors
+///
+/// If the memory for the text is refused. Some of the text may have been added then.
+#[tactic(auto, unfolding(crate::specs::Done::fed_text))]
+pub fn put_fed(text: &mut Vec<u8>, machine: &Machine, hand: usize) -> Result<(), AllocError>
+    ensures { OnOk result (text.new.items ≡ text.old.items ++ fed_text machine.now hand) }
+{
+    text.extend_from_slice(b"hopper: ".as_slice())?;
+    put_digits(text, 1, u64::from(machine.devices().hopper()))?;
+    put_hand(text, hand)?;
+    text.extend_from_slice(b"\n".as_slice())
+}
+
+/// Adds what an act has done: what is now where it put cells, the field that it set, or the switches that are on.
+/// `commands` are those that it stood for, and the machine has carried them out. Nothing is added for a run, for cards
+/// and for the load key.
 ///
 /// # Errors
 ///
@@ -88,37 +109,34 @@ pub fn put_done(
         Act::Set { field, .. } => {
             return put_field_line(alloc, text, program, machine, field);
         }
-        Act::Start(_) | Act::Load => put_next(alloc, text, program, machine)?,
+        Act::Start(_) => put_next(alloc, text, program, machine)?,
         Act::Switch { .. } => put_switches(text, &machine.regs().switches)?,
-        Act::Feed(_) => put_hopper_count(text, machine)?,
-        Act::Deck(_) | Act::Step(_) | Act::Continue(_) | Act::Until(_) | Act::Go(_) => {}
+        Act::Feed(_) | Act::Deck(_) | Act::Load => {}
+        Act::Step(_) | Act::Continue(_) | Act::Until(_) | Act::Go(_) => {}
     }
     Ok(())
 }
 
-/// Adds that a deck of so many cards was read from a file, how many cards are in the hopper, and how many are in hand
-/// until there is room for them, if some are.
+/// Adds that a deck of so many cards was read from a file, and then what `put_fed` adds.
 ///
 /// # Errors
 ///
 /// If the memory for the text is refused. Some of the text may have been added then.
+#[tactic(auto, unfolding(crate::specs::Done::deck_text))]
 pub fn put_deck(
     text: &mut Vec<u8>,
     name: &[u8],
     cards: u64,
     machine: &Machine,
-    in_hand: u64,
-) -> Result<(), AllocError> {
+    hand: usize,
+) -> Result<(), AllocError>
+    ensures { OnOk result (text.new.items ≡ text.old.items ++ deck_text name.now cards machine.now hand) }
+{
     text.extend_from_slice(name)?;
     text.extend_from_slice(b": ".as_slice())?;
     put_count(text, cards, b"card")?;
-    text.extend_from_slice(b"; hopper: ".as_slice())?;
-    put_digits(text, 1, u64::from(machine.regs().hopper))?;
-    if in_hand > 0 {
-        text.extend_from_slice(b"; in hand: ".as_slice())?;
-        put_digits(text, 1, in_hand)?;
-    }
-    Ok(text.push(b'\n')?)
+    text.extend_from_slice(b"; ".as_slice())?;
+    put_fed(text, machine, hand)
 }
 
 /// Adds the line with which a sitting begins: what is loaded, if something is, how many places core storage has, and
@@ -144,8 +162,8 @@ pub fn put_head(
     text.extend_from_slice(b"; help lists the words\n".as_slice())
 }
 
-/// Adds how many commands were taken back, the name of the journal's file if they are gone from there too, and which
-/// instruction is next.
+/// Adds how many commands were taken back, and with them how many cards in hand, if some were; the name of the journal's
+/// file if they are gone from there too, and which instruction is next.
 ///
 /// # Errors
 ///
@@ -156,9 +174,15 @@ pub fn put_undone(
     program: &Program,
     machine: &Machine,
     commands: u64,
+    cards: u64,
     file: Option<&[u8]>,
 ) -> Result<(), AllocError> {
     put_count(text, commands, b"command")?;
+    if cards > 0 {
+        text.extend_from_slice(b" and ".as_slice())?;
+        put_count(text, cards, b"card")?;
+        text.extend_from_slice(b" in hand".as_slice())?;
+    }
     text.extend_from_slice(b" taken back".as_slice())?;
     if let Some(file) = file {
         text.extend_from_slice(b", in ".as_slice())?;
@@ -169,12 +193,39 @@ pub fn put_undone(
     put_next(alloc, text, program, machine)
 }
 
-/// Adds that a journal of so many commands was written to a file.
+/// Adds that cards in hand are gone, if some were.
 ///
 /// # Errors
 ///
 /// If the memory for the text is refused. Some of the text may have been added then.
-pub fn put_saved(text: &mut Vec<u8>, commands: u64, file: &[u8]) -> Result<(), AllocError> {
+#[tactic(auto, unfolding(crate::specs::Done::dropped_text))]
+pub fn put_dropped(text: &mut Vec<u8>, hand: usize) -> Result<(), AllocError>
+    ensures { OnOk result (text.new.items ≡ text.old.items ++ dropped_text hand) }
+{
+    if hand == 0 {
+        return Ok(());
+    }
+    put_count(text, hand as u64, b"card")?;
+    text.extend_from_slice(b" in hand, in no journal, ".as_slice())?;
+    if hand == 1 {
+        text.extend_from_slice(b"is gone\n".as_slice())
+    } else {
+        text.extend_from_slice(b"are gone\n".as_slice())
+    }
+}
+
+/// Adds that a journal of so many commands was written to a file, and how many cards in hand are in no journal, if some
+/// are.
+///
+/// # Errors
+///
+/// If the memory for the text is refused. Some of the text may have been added then.
+pub fn put_saved(
+    text: &mut Vec<u8>,
+    commands: u64,
+    file: &[u8],
+    hand: usize,
+) -> Result<(), AllocError> {
     put_count(text, commands, b"command")?;
     if commands == 1 {
         text.extend_from_slice(b" is in ".as_slice())?;
@@ -182,5 +233,10 @@ pub fn put_saved(text: &mut Vec<u8>, commands: u64, file: &[u8]) -> Result<(), A
         text.extend_from_slice(b" are in ".as_slice())?;
     }
     text.extend_from_slice(file)?;
+    if hand > 0 {
+        text.extend_from_slice(b", without ".as_slice())?;
+        put_count(text, hand as u64, b"card")?;
+        text.extend_from_slice(b" in hand".as_slice())?;
+    }
     Ok(text.push(b'\n')?)
 }

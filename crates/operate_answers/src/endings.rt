@@ -61,7 +61,7 @@ fn put_unended(
 ) -> Result<(), AllocError> {
     if let Reason::NoSuchLength { len: 8, .. } = reason {
         let (first, last) = (u32::from(at) + 1, u32::from(at) + 7);
-        let more = format!(in alloc; ", and no word mark from {first:03} to {last:03} ends it")?;
+        let more = format!(in alloc; "; no word mark from {first:03} to {last:03} ends this one")?;
         text.extend_from_slice(more.as_bytes())?;
     }
     Ok(())

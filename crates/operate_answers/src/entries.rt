@@ -64,10 +64,26 @@ pub(crate) fn put_journal(
     Ok(())
 }
 
-/// Adds how many commands are recorded.
-pub(crate) fn put_recorded(text: &mut Vec<u8>, journal: &[Entry]) -> Result<(), AllocError> {
+/// Adds how many commands are recorded, and how many cards are in hand, if some are.
+pub(crate) fn put_recorded(
+    text: &mut Vec<u8>,
+    journal: &[Entry],
+    hand: usize,
+) -> Result<(), AllocError> {
     put_count(text, journal.len() as u64, b"command")?;
-    text.extend_from_slice(b" recorded\n".as_slice())
+    text.extend_from_slice(b" recorded".as_slice())?;
+    put_hand(text, hand)?;
+    Ok(text.push(b'\n')?)
+}
+
+/// Adds how many cards are in hand, if some are.
+pub(crate) fn put_hand(text: &mut Vec<u8>, hand: usize) -> Result<(), AllocError> {
+    if hand == 0 {
+        return Ok(());
+    }
+    text.extend_from_slice(b"; ".as_slice())?;
+    put_count(text, hand as u64, b"card")?;
+    text.extend_from_slice(b" in hand".as_slice())
 }
 
 /// The card that an entry put into the hopper.
@@ -107,14 +123,26 @@ fn first_cards(alloc: Global, journal: &[Entry], cards: usize) -> Result<Vec<Car
     Ok(first)
 }
 
-/// Adds the cards in the hopper, the first of them shown, and those in the stacker.
+/// Adds the line that says how many cards are in hand, if some are.
+fn put_hand_line(text: &mut Vec<u8>, hand: usize) -> Result<(), AllocError> {
+    if hand == 0 {
+        return Ok(());
+    }
+    text.extend_from_slice(b"in hand: ".as_slice())?;
+    put_count(text, hand as u64, b"card")?;
+    Ok(text.push(b'\n')?)
+}
+
+/// Adds the cards in the hopper, the first of them shown; how many are in hand, if some are; and those in the stacker.
 pub(crate) fn put_cards(
     alloc: Global,
     text: &mut Vec<u8>,
     devices: &Devices,
     journal: &[Entry],
+    hand: usize,
 ) -> Result<(), AllocError> {
     let first = first_cards(alloc, journal, usize::from(devices.hopper()))?;
     put_hopper(text, devices, first.as_slice())?;
+    put_hand_line(text, hand)?;
     put_stacker(text, devices)
 }

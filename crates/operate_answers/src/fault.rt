@@ -5,7 +5,7 @@ use operate_program::{PlaceFault, Program, put_place_fault};
 use operate_views::FieldFault;
 use std::alloc::{AllocError, Global};
 
-/// Why nothing can be shown, and why a break or a watch can't be set.
+/// Why nothing can be shown, and why a break or a watch can't be set or taken away.
 #[derive(Clone, Copy, Debug, PartialEq, Eq)]
 pub enum LookFault {
     /// A place or a range isn't there.

@@ -1,11 +1,11 @@
 //! Fields as they are shown, and conditions that aren't so.
 
 use crate::fault::LookFault;
-use crate::typed::{index_name, put_typed_condition};
+use crate::typed::put_typed_condition;
 use cpu_1401::Machine;
 use operate_orders::{Base, Condition, MOST_LISTED, Place};
-use operate_program::Program;
-use operate_views::{field_cells, put_field};
+use operate_program::{Program, index_name};
+use operate_views::put_field;
 use std::alloc::Global;
 
 /// What a field is called: the label or the index register that names it; empty if it is named otherwise.
@@ -20,7 +20,7 @@ fn name_of(place: &Place) -> &[u8] {
     }
 }
 
-/// Adds the field with its units at a place, without a line feed.
+/// Adds the field that a place names, without a line feed.
 fn put_named_field(
     alloc: Global,
     text: &mut Vec<u8>,
@@ -28,12 +28,12 @@ fn put_named_field(
     machine: &Machine,
     place: &Place,
 ) -> Result<(), LookFault> {
-    let at = match program.address(machine, place) {
-        Ok(at) => at,
+    let field = match program.field(machine, place) {
+        Ok(field) => field,
         Err(fault) => return Err(LookFault::Place(fault)),
     };
-    let cells = field_cells(alloc, machine.core(), at)?;
-    put_field(text, name_of(place), at, cells.as_slice())?;
+    let cells = field.cells(alloc, machine.core())?;
+    put_field(text, name_of(place), field.units(), cells.as_slice())?;
     Ok(())
 }
 

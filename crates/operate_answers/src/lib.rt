@@ -40,7 +40,7 @@ pub mod done;
 pub mod help;
 
 pub use asked::Asked;
-pub use done::{put_deck, put_done, put_head, put_saved, put_undone};
+pub use done::{put_deck, put_done, put_dropped, put_fed, put_head, put_saved, put_undone};
 pub use endings::{Ended, put_ended, put_why};
 pub use fault::{LookFault, put_look_fault};
 pub use fields::put_not_so;

@@ -5,7 +5,7 @@ use crate::fault::LookFault;
 use crate::stops::Stops;
 use core_1401::Core;
 use cpu_1401::Machine;
-use operate_orders::{Place, Range};
+use operate_orders::Range;
 use operate_program::Program;
 use operate_views::{listed_places, put_core, put_listed};
 use std::alloc::{AllocError, Global};
@@ -35,7 +35,7 @@ fn put_place(
 ) -> Result<u16, AllocError>
     requires { at < length core.now }
 {
-    match program.statement_at(alloc, core, at) {
+    match program.listed_at(alloc, core, at) {
         Err(fault) => Err(fault),
         Ok(statement) => {
             let is_sourced = statement.is_some();
@@ -84,18 +84,18 @@ fn put_list_from(
     put_list(alloc, text, program, machine, stops, first, end, LINES)
 }
 
-/// Adds ten lines from a place on.
+/// Adds ten lines from the first of the places on that a place alone names: a label names all of its own.
 fn put_list_at(
     alloc: Global,
     text: &mut Vec<u8>,
     program: &Program,
     machine: &Machine,
     stops: &Stops,
-    place: &Place,
+    range: &Range,
 ) -> Result<(), LookFault> {
-    match program.address(machine, place) {
+    match program.range(machine, range) {
         Err(fault) => Err(LookFault::Place(fault)),
-        Ok(first) => {
+        Ok((first, _)) => {
             put_list_from(alloc, text, program, machine, stops, first)?;
             Ok(())
         }
@@ -138,8 +138,12 @@ pub(crate) fn put_listing(
             put_list_from(alloc, text, program, machine, stops, first)?;
             Ok(())
         }
-        Some(Range::At(place)) => put_list_at(alloc, text, program, machine, stops, place),
-        Some(range) => put_list_of(alloc, text, program, machine, stops, range),
+        Some(range) => match range {
+            Range::At(_) => put_list_at(alloc, text, program, machine, stops, range),
+            Range::Area(_) | Range::Between { .. } | Range::Counted { .. } => {
+                put_list_of(alloc, text, program, machine, stops, range)
+            }
+        },
     }
 }
 

@@ -14,6 +14,7 @@ use core_1401::{ADDRESSES, encode};
 use cpu_1401::Machine;
 use devices_1401::Devices;
 use machine_notation::put_digits;
+use machine_panel::{Feature, Features};
 use operate_orders::{Look, Place};
 use operate_program::Program;
 use operate_views::{put_paper, put_registers};
@@ -30,20 +31,43 @@ pub struct Seen<'a> {
     pub machine: &'a Machine,
     /// What was recorded.
     pub journal: &'a [Entry],
+    /// How many cards of decks are in hand.
+    pub hand: usize,
     /// The breaks and watches.
     pub stops: &'a Stops,
     /// Why the last run ended, as `put_why` said it; empty if there was none.
     pub why: &'a [u8],
 }
 
-/// Adds the registers in words, and how many commands are recorded.
+/// Adds the line with the features that a machine is fitted with, if there are some.
+fn put_fitted(text: &mut Vec<u8>, features: Features) -> Result<(), AllocError> {
+    let mut is_any = false;
+    for feature in Feature::ALL {
+        if features.has(feature) {
+            let before = if is_any {
+                b", ".as_slice()
+            } else {
+                b"fitted: ".as_slice()
+            };
+            text.extend_from_slice(before)?;
+            text.extend_from_slice(feature.name().as_bytes())?;
+            is_any = true;
+        }
+    }
+    if is_any {
+        text.push(b'\n')?;
+    }
+    Ok(())
+}
+
+/// Adds the registers in words, what the machine is fitted with, how many commands are recorded, and how many cards are in hand, if some are.
 fn put_panel(
     alloc: Global,
     text: &mut Vec<u8>,
     program: &Program,
-    machine: &Machine,
-    journal: &[Entry],
+    seen: &Seen<'_>,
 ) -> Result<(), AllocError> {
+    let machine = seen.machine;
     let regs = machine.regs();
     let there = instruction_at(alloc, program, machine.core(), regs.i)?;
     let a_label = label_at(program, regs.a);
@@ -55,7 +79,8 @@ fn put_panel(
         word_in(a_label.as_slice()),
         word_in(b_label.as_slice()),
     )?;
-    put_recorded(text, journal)
+    put_fitted(text, machine.features())?;
+    put_recorded(text, seen.journal, seen.hand)
 }
 
 /// Adds the last printed lines.
@@ -141,8 +166,8 @@ fn put_others_seen(
 ) -> Result<(), AllocError> {
     let devices = seen.machine.devices();
     match look {
-        Look::Registers => put_panel(alloc, text, program, seen.machine, seen.journal),
-        Look::Cards => put_cards(alloc, text, devices, seen.journal),
+        Look::Registers => put_panel(alloc, text, program, seen),
+        Look::Cards => put_cards(alloc, text, devices, seen.journal, seen.hand),
         Look::Paper(most) => put_last_lines(alloc, text, devices, *most),
         Look::Symbols(letters) => put_symbols(text, program, letters.as_slice()),
         Look::Breaks => put_breaks(text, program, seen.stops),

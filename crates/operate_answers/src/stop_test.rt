@@ -1,4 +1,6 @@
 //! The test of a break or a watch.
+ghost use Rattle.std.specs.Prelude.{◌≡◌};
+ghost use Rattle.operate_answers.specs.StopTest.{is_test_met};
 
 use crate::asked::Asked;
 use cpu_1401::Machine;
@@ -17,7 +19,9 @@ pub enum StopTest {
 
 impl StopTest {
     /// Whether the last step met it.
-    pub fn is_met(&self) -> bool {
+    pub fn is_met(&self) -> bool
+        ensures { result ≡ is_test_met self.now }
+    {
         match self {
             StopTest::Arrival(test) => test.is_met,
             StopTest::Places(test) => test.is_met(),

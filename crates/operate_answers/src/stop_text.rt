@@ -1,4 +1,9 @@
 //! Breaks and watches in words: as they are set, as they are met, and all of them.
+ghost use Rattle.std.specs.Prelude.{◌≡◌, ◌++◌, OnOk};
+ghost use Rattle.operate_answers.specs.StopText.{if_text, kind_text, name_text, no_instruction_text, nth_text, other_text};
+ghost use Rattle.operate_answers.specs.StopText.{often_text, other_name_text, others_text, printed_text, printed_with_text};
+ghost use Rattle.operate_answers.specs.StopText.{terms_text, there_too_text, times_text, watched_text};
+
 use crate::counted::{label_at, put_count, put_some_cells, put_span};
 use crate::stop_test::StopTest;
 use crate::stops::{NumberedStop, Said, Stops};
@@ -17,37 +22,67 @@ use std::alloc::{AllocError, Global};
 /// The most places of a watch whose cells are all shown when it is met; of more, those that changed.
 const MOST_WHOLE: usize = 40;
 
+/// Adds at which visit a break stops, if not at each.
+fn put_nth(text: &mut Vec<u8>, after: Option<u32>) -> Result<(), AllocError>
+    ensures { OnOk result (text.new.items ≡ text.old.items ++ nth_text after) }
+{
+    match after {
+        None => Ok(()),
+        Some(visits) => {
+            text.extend_from_slice(b" after ".as_slice())?;
+            put_digits(text, 1, u64::from(visits))
+        }
+    }
+}
+
+/// Adds where a break stops, if not always.
+fn put_if(text: &mut Vec<u8>, condition: &Option<Condition>) -> Result<(), AllocError>
+    ensures { OnOk result (text.new.items ≡ text.old.items ++ if_text condition.now) }
+{
+    match condition {
+        None => Ok(()),
+        Some(condition) => {
+            text.extend_from_slice(b" if ".as_slice())?;
+            put_typed_condition(text, condition)
+        }
+    }
+}
+
 /// Adds `after N` and `if CONDITION`, as far as a break has them.
 fn put_terms(
     text: &mut Vec<u8>,
     after: Option<u32>,
     condition: &Option<Condition>,
-) -> Result<(), AllocError> {
-    if let Some(visits) = after {
-        text.extend_from_slice(b" after ".as_slice())?;
-        put_digits(text, 1, u64::from(visits))?;
-    }
-    if let Some(condition) = condition {
-        text.extend_from_slice(b" if ".as_slice())?;
-        put_typed_condition(text, condition)?;
-    }
-    Ok(())
+) -> Result<(), AllocError>
+    ensures { OnOk result (text.new.items ≡ text.old.items ++ terms_text after condition.now) }
+{
+    put_nth(text, after)?;
+    put_if(text, condition)
+}
+
+/// Adds a printed line with a text.
+#[tactic(auto, unfolding(crate::specs::StopText::printed_with_text))]
+fn put_printed_with(text: &mut Vec<u8>, printed: &[u8]) -> Result<(), AllocError>
+    ensures { OnOk result (text.new.items ≡ text.old.items ++ printed_with_text printed.now) }
+{
+    text.extend_from_slice(b"a printed line with ".as_slice())?;
+    put_quoted(text, printed)
 }
 
 /// Adds a printed line, with a text if there is one.
-fn put_printed_line(text: &mut Vec<u8>, printed: &Option<Text>) -> Result<(), AllocError> {
-    text.extend_from_slice(b"a printed line".as_slice())?;
+fn put_printed_line(text: &mut Vec<u8>, printed: &Option<Text>) -> Result<(), AllocError>
+    ensures { OnOk result (text.new.items ≡ text.old.items ++ printed_text printed.now) }
+{
     match printed {
-        None => Ok(()),
-        Some(printed) => {
-            text.extend_from_slice(b" with ".as_slice())?;
-            put_quoted(text, printed.as_slice())
-        }
+        None => text.extend_from_slice(b"a printed line".as_slice()),
+        Some(printed) => put_printed_with(text, printed.as_slice()),
     }
 }
 
 /// Adds what is watched.
-fn put_watched(text: &mut Vec<u8>, watched: &Watched) -> Result<(), AllocError> {
+fn put_watched(text: &mut Vec<u8>, watched: &Watched) -> Result<(), AllocError>
+    ensures { OnOk result (text.new.items ≡ text.old.items ++ watched_text watched.now) }
+{
     match watched {
         Watched::Places(range) => put_typed_range(text, range),
         Watched::Paper(printed) => put_printed_line(text, printed),
@@ -56,12 +91,21 @@ fn put_watched(text: &mut Vec<u8>, watched: &Watched) -> Result<(), AllocError> 
     }
 }
 
-/// Adds what kind of a stop it is, and its number.
-fn put_name(text: &mut Vec<u8>, stop: &NumberedStop) -> Result<(), AllocError> {
-    match stop.said {
-        Said::Break { .. } => text.extend_from_slice(b"break ".as_slice())?,
-        Said::Watch(_) => text.extend_from_slice(b"watch ".as_slice())?,
+/// Adds what kind of a stop it is.
+fn put_kind(text: &mut Vec<u8>, said: &Said) -> Result<(), AllocError>
+    ensures { OnOk result (text.new.items ≡ text.old.items ++ kind_text said.now) }
+{
+    match said {
+        Said::Break { .. } => text.extend_from_slice(b"break ".as_slice()),
+        Said::Watch(_) => text.extend_from_slice(b"watch ".as_slice()),
     }
+}
+
+/// Adds what kind of a stop it is, and its number.
+fn put_name(text: &mut Vec<u8>, stop: &NumberedStop) -> Result<(), AllocError>
+    ensures { OnOk result (text.new.items ≡ text.old.items ++ name_text stop.now) }
+{
+    put_kind(text, &stop.said)?;
     put_digits(text, 1, u64::from(stop.number))
 }
 
@@ -100,7 +144,98 @@ fn put_held_by(text: &mut Vec<u8>, test: &StopTest) -> Result<(), AllocError> {
     }
 }
 
-/// Adds the line of a break or a watch that is set.
+/// Adds that no instruction begins at an address, if there is no word mark.
+#[tactic(auto, unfolding(crate::specs::StopText::no_instruction_text))]
+fn put_no_instruction(text: &mut Vec<u8>, core: &Core, at: u16) -> Result<(), AllocError>
+    ensures { OnOk result (text.new.items ≡ text.old.items ++ no_instruction_text core.now at) }
+{
+    if core.in_core(at) && core.get(at).mark {
+        return Ok(());
+    }
+    text.extend_from_slice(b"; no instruction begins there now".as_slice())
+}
+
+/// Adds the number of another break.
+#[tactic(auto, unfolding(crate::specs::StopText::other_name_text))]
+fn put_other_name(text: &mut Vec<u8>, number: u32) -> Result<(), AllocError>
+    ensures { OnOk result (text.new.items ≡ text.old.items ++ other_name_text number) }
+{
+    text.extend_from_slice(b"; break ".as_slice())?;
+    put_digits(text, 1, u64::from(number))
+}
+
+/// Adds that the break of this number is there too.
+#[tactic(auto, unfolding(crate::specs::StopText::there_too_text))]
+fn put_there_too(text: &mut Vec<u8>, number: u32) -> Result<(), AllocError>
+    ensures { OnOk result (text.new.items ≡ text.old.items ++ there_too_text number) }
+{
+    put_other_name(text, number)?;
+    text.extend_from_slice(b" is there too".as_slice())
+}
+
+/// Adds a break that is at an address, if it has another number.
+fn put_other_at(
+    text: &mut Vec<u8>,
+    stop: &NumberedStop,
+    number: u32,
+    at: u16,
+) -> Result<(), AllocError>
+    ensures { OnOk result (text.new.items ≡ text.old.items ++ other_text number at stop.now) }
+{
+    if stop.number != number && stop.is_break_at(at) {
+        put_there_too(text, stop.number)
+    } else {
+        Ok(())
+    }
+}
+
+/// Adds which other breaks are at an address.
+fn put_others_at(
+    text: &mut Vec<u8>,
+    stops: &[NumberedStop],
+    number: u32,
+    at: u16,
+) -> Result<(), AllocError>
+    ensures { OnOk result (text.new.items ≡ text.old.items ++ others_text number at stops.now) }
+{
+    for stop in stops {
+        put_other_at(text, stop, number, at)?;
+    }
+    Ok(())
+}
+
+/// Adds the break that was set last: where it is, when it stops, whether an instruction begins there, and which other
+/// breaks are there.
+fn put_break_set(
+    alloc: Global,
+    text: &mut Vec<u8>,
+    program: &Program,
+    core: &Core,
+    stops: &[NumberedStop],
+    stop: &NumberedStop,
+) -> Result<(), AllocError> {
+    let at = address_of(&stop.test);
+    text.extend_from_slice(b" at ".as_slice())?;
+    put_address(alloc, text, program, core, at)?;
+    if let Said::Break { after, condition } = &stop.said {
+        put_terms(text, *after, condition)?;
+    }
+    put_no_instruction(text, core, at)?;
+    put_others_at(text, stops, stop.number, at)
+}
+
+/// Adds the watch that was set last: what is watched, and what its places hold.
+fn put_watch_set(
+    text: &mut Vec<u8>,
+    watched: &Watched,
+    stop: &NumberedStop,
+) -> Result<(), AllocError> {
+    text.extend_from_slice(b", ".as_slice())?;
+    put_watched(text, watched)?;
+    put_held_by(text, &stop.test)
+}
+
+/// Adds the line of the break or the watch that was set last, if there is one.
 ///
 /// # Errors
 ///
@@ -110,20 +245,15 @@ pub fn put_set(
     text: &mut Vec<u8>,
     program: &Program,
     core: &Core,
-    stop: &NumberedStop,
+    stops: &Stops,
 ) -> Result<(), AllocError> {
+    let Some(stop) = stops.stops().last() else {
+        return Ok(());
+    };
     put_name(text, stop)?;
     match &stop.said {
-        Said::Break { after, condition } => {
-            text.extend_from_slice(b" at ".as_slice())?;
-            put_address(alloc, text, program, core, address_of(&stop.test))?;
-            put_terms(text, *after, condition)?;
-        }
-        Said::Watch(watched) => {
-            text.extend_from_slice(b", ".as_slice())?;
-            put_watched(text, watched)?;
-            put_held_by(text, &stop.test)?;
-        }
+        Said::Break { .. } => put_break_set(alloc, text, program, core, stops.stops(), stop)?,
+        Said::Watch(watched) => put_watch_set(text, watched, stop)?,
     }
     Ok(text.push(b'\n')?)
 }
@@ -220,16 +350,27 @@ pub(crate) fn put_met(text: &mut Vec<u8>, stop: &NumberedStop) -> Result<(), All
     }
 }
 
+/// Adds that a break or a watch ended so many runs.
+#[tactic(auto, unfolding(crate::specs::StopText::often_text))]
+fn put_often(text: &mut Vec<u8>, times: u64) -> Result<(), AllocError>
+    ensures { OnOk result (text.new.items ≡ text.old.items ++ often_text times) }
+{
+    text.extend_from_slice(b", met ".as_slice())?;
+    put_count(text, times, b"time")?;
+    text.extend_from_slice(b"\n".as_slice())
+}
+
 /// Adds how often a break or a watch ended a run.
-fn put_times(text: &mut Vec<u8>, times: u64) -> Result<(), AllocError> {
-    match times {
-        0 => text.extend_from_slice(b", never met\n".as_slice()),
-        1 => text.extend_from_slice(b", met once\n".as_slice()),
-        times => {
-            text.extend_from_slice(b", met ".as_slice())?;
-            put_count(text, times, b"time")?;
-            Ok(text.push(b'\n')?)
-        }
+#[tactic(auto, unfolding(crate::specs::StopText::times_text))]
+fn put_times(text: &mut Vec<u8>, times: u64) -> Result<(), AllocError>
+    ensures { OnOk result (text.new.items ≡ text.old.items ++ times_text times) }
+{
+    if times == 0 {
+        text.extend_from_slice(b", never met\n".as_slice())
+    } else if times == 1 {
+        text.extend_from_slice(b", met once\n".as_slice())
+    } else {
+        put_often(text, times)
     }
 }
 

@@ -1,5 +1,13 @@
 //! Breaks and watches, with their numbers.
-ghost use Rattle.std.specs.Prelude.{◌≡◌, false};
+ghost use Rattle.std.specs.Prelude.{◌≡◌, ◌⊎◌, ◌+◌, ◌<◌, ◌≤◌, ◌++◌, ◌∷◌, [], not, length, map, filter, option_map, Ok, Err, IfErr, OnOk, OnErr};
+ghost use Rattle.std.specs.List.{find, list_any};
+ghost use Rattle.operate_answers.specs.Answers.{Gives};
+ghost use Rattle.operate_answers.specs.Stops.{asked_by, break_added, break_test, device_test, first_missing, has_number};
+ghost use Rattle.operate_answers.specs.Stops.{if_place, is_break_at, is_listed, is_stop_met, next_number, no_stops};
+ghost use Rattle.operate_answers.specs.Stops.{places_of_field, places_test, range_test, stop_counted, stops_counted};
+ghost use Rattle.operate_answers.specs.Stops.{stops_deleted, watch_added, watch_test, watched_places, with_stop};
+ghost use Rattle.operate_program.specs.Range.{range_of};
+ghost use Rattle.operate_program.specs.Value.{address_of};
 
 use crate::asked::Asked;
 use crate::fault::LookFault;
@@ -7,15 +15,10 @@ use crate::stop_test::StopTest;
 use cpu_1401::Machine;
 use operate_orders::{Condition, MOST_LISTED, Place, Range, Watched};
 use operate_program::Program;
-use operate_scout::{
-    Always, Break, Device, DeviceWatch, PlaceWatch, Test, begin_each, see_by_each,
-};
-use operate_views::field_cells;
+use operate_scout::{Break, Device, DeviceWatch, PlaceWatch, Test, begin_each, see_by_each};
+use operate_views::FieldFault;
 use std::alloc::Global;
 use std::marker::Model;
-
-/// An address at which no instruction is.
-const NOWHERE: u16 = u16::MAX;
 
 /// A break or a watch, as it is typed.
 #[derive(Clone, Copy, Debug, PartialEq, Eq)]
@@ -44,6 +47,18 @@ pub struct NumberedStop {
     pub test: StopTest,
 }
 
+impl NumberedStop {
+    /// Whether it is a break at this address.
+    pub(crate) fn is_break_at(&self, at: u16) -> bool
+        ensures { result ≡ is_break_at at self.now }
+    {
+        match &self.test {
+            StopTest::Arrival(test) => test.address == at,
+            StopTest::Places(_) | StopTest::Device(_) => false,
+        }
+    }
+}
+
 impl Test for NumberedStop {
     ghost use Rattle.operate_answers.specs.StopTest.{is_test_met};
     ghost use Rattle.operate_answers.specs.Stops.{stop_begun, stop_seen};
@@ -63,11 +78,9 @@ impl Test for NumberedStop {
     }
 }
 
-/// Breaks and watches in the order in which they were set, and the address up to which a run goes, if one was named. As
-/// a test it is met by a step that meets any of them.
+/// Breaks and watches in the order in which they were set. As a test they are met by a step that meets any of them.
 #[derive(Drop)]
 pub struct Stops {
-    until: Break<Always>,
     stops: Vec<NumberedStop>,
     last: u32,
 }
@@ -78,8 +91,8 @@ impl Model for Stops {
     ghost Value = { AllStops };
 
     ghost view = { λ it. record {
-      until = it.until;
       stops = it.stops.items;
+      last = it.last;
     } };
 }
 
@@ -93,53 +106,110 @@ impl Test for Stops {
     ghost is_met = { λ it. is_any_met it };
 
     fn begin(&mut self, machine: &Machine) {
-        self.until.begin(machine);
         begin_each(self.stops.as_mut_slice(), machine);
     }
 
     fn see(&mut self, machine: &Machine) -> bool {
-        let has_come = self.until.see(machine);
-        let meets = see_by_each(self.stops.as_mut_slice(), machine);
-        has_come || meets
+        see_by_each(self.stops.as_mut_slice(), machine)
     }
 }
 
-/// The lowest of the places that a watch names, and how many there are: those of a range, or of the field with its
-/// units at a place.
+/// The places of the field that a place names: the lowest, and how many.
+#[tactic(auto, unfolding(crate::specs::Stops::places_of_field))]
+fn places_of_field(
+    alloc: Global,
+    program: &Program,
+    machine: &Machine,
+    place: &Place,
+) -> Result<(u16, u16), LookFault>
+    ensures { Gives (λ places. places) result (places_of_field program.now machine.now place.now) }
+{
+    let field = match program.field(machine, place) {
+        Ok(field) => field,
+        Err(fault) => return Err(LookFault::Place(fault)),
+    };
+    // No core storage is so large that one of its places has no address.
+    let _ = machine.core().size();
+    match field.cells(alloc, machine.core()) {
+        Ok(cells) => {
+            let count = cells.len() as u16;
+            Ok((field.units() + 1 - count, count))
+        }
+        Err(FieldFault::Memory) => Err(LookFault::Memory),
+        Err(fault) => Err(LookFault::Field(fault)),
+    }
+}
+
+/// The places of a range: the lowest, and how many.
+fn places_of_range(
+    program: &Program,
+    machine: &Machine,
+    range: &Range,
+) -> Result<(u16, u16), LookFault>
+    ensures { result ≡ if_place (range_of program.now machine.now range.now) }
+{
+    match program.range(machine, range) {
+        Ok(places) => Ok(places),
+        Err(fault) => Err(LookFault::Place(fault)),
+    }
+}
+
+/// The lowest of the places that a watch names, and how many there are: those of a field, or of a range.
 fn watched_places(
     alloc: Global,
     program: &Program,
     machine: &Machine,
     range: &Range,
-) -> Result<(u16, u16), LookFault> {
-    let Range::At(place) = range else {
-        return match program.range(machine, range) {
-            Ok(places) => Ok(places),
-            Err(fault) => Err(LookFault::Place(fault)),
-        };
-    };
-    let at = match program.address(machine, place) {
-        Ok(at) => at,
-        Err(fault) => return Err(LookFault::Place(fault)),
-    };
-    let cells = field_cells(alloc, machine.core(), at)?;
-    // No core storage has more places than there are addresses.
-    let _ = machine.core().size();
-    let count = cells.len() as u16;
-    Ok((at + 1 - count, count))
+) -> Result<(u16, u16), LookFault>
+    ensures { Gives (λ places. places) result (watched_places program.now machine.now range.now) }
+{
+    match range {
+        Range::At(place) => places_of_field(alloc, program, machine, place),
+        Range::Area(_) | Range::Between { .. } | Range::Counted { .. } => {
+            places_of_range(program, machine, range)
+        }
+    }
 }
 
-/// A watch on places, which has seen what they hold.
-fn places_watch(
+/// A watch on so many places from one on, which has seen what they hold.
+fn places_test(
+    alloc: Global,
+    machine: &Machine,
+    from: u16,
+    count: u16,
+) -> Result<StopTest, LookFault>
+    ensures { Gives (λ test. test) result (places_test machine.now (from, count)) }
+{
+    match PlaceWatch::new(alloc, from, count) {
+        Ok(mut watch) => {
+            watch.begin(machine);
+            Ok(StopTest::Places(watch))
+        }
+        Err(_) => Err(LookFault::Memory),
+    }
+}
+
+/// A watch on the places that a range names, which has seen what they hold.
+#[tactic(auto, unfolding(crate::specs::Stops::range_test))]
+fn range_test(
     alloc: Global,
     program: &Program,
     machine: &Machine,
     range: &Range,
-) -> Result<PlaceWatch, LookFault> {
-    let (from, count) = watched_places(alloc, program, machine, range)?;
-    let mut watch = PlaceWatch::new(alloc, from, count)?;
-    watch.begin(machine);
-    Ok(watch)
+) -> Result<StopTest, LookFault>
+    ensures { Gives (λ test. test) result (range_test program.now machine.now range.now) }
+{
+    match watched_places(alloc, program, machine, range) {
+        Ok((from, count)) => places_test(alloc, machine, from, count),
+        Err(fault) => Err(fault),
+    }
+}
+
+/// The test of a watch on a device.
+fn device_test(device: Device, asked: Asked) -> StopTest
+    ensures { result ≡ device_test device asked }
+{
+    StopTest::Device(DeviceWatch::new(device, asked))
 }
 
 /// The test of a watch.
@@ -148,11 +218,11 @@ fn watch_test(
     program: &Program,
     machine: &Machine,
     watched: &Watched,
-) -> Result<StopTest, LookFault> {
+) -> Result<StopTest, LookFault>
+    ensures { Gives (λ test. test) result (watch_test program.now machine.now watched.now) }
+{
     match watched {
-        Watched::Places(range) => Ok(StopTest::Places(places_watch(
-            alloc, program, machine, range,
-        )?)),
+        Watched::Places(range) => range_test(alloc, program, machine, range),
         Watched::Paper(None) => Ok(device_test(Device::Printer, Asked::Anything)),
         Watched::Paper(Some(text)) => Ok(device_test(Device::Printer, Asked::Printed(*text))),
         Watched::Reader => Ok(device_test(Device::Reader, Asked::Anything)),
@@ -160,17 +230,14 @@ fn watch_test(
     }
 }
 
-/// The test of a watch on a device.
-fn device_test(device: Device, asked: Asked) -> StopTest {
-    StopTest::Device(DeviceWatch::new(device, asked))
-}
-
 /// What must hold where a break is come to.
 fn asked_by(
     program: &Program,
     machine: &Machine,
     condition: &Option<Condition>,
-) -> Result<Asked, LookFault> {
+) -> Result<Asked, LookFault>
+    ensures { result ≡ asked_by program.now machine.now condition.now }
+{
     match condition {
         None => Ok(Asked::Anything),
         Some(condition) => match program.comparison(machine, condition) {
@@ -180,21 +247,92 @@ fn asked_by(
     }
 }
 
+/// The address of a break.
+fn break_address(program: &Program, machine: &Machine, place: &Place) -> Result<u16, LookFault>
+    ensures { result ≡ if_place (address_of program.now machine.now place.now) }
+{
+    match program.address(machine, place) {
+        Ok(address) => Ok(address),
+        Err(fault) => Err(LookFault::Place(fault)),
+    }
+}
+
+/// The test of a break at an address, at the visit of this number, or at each.
+fn break_test(address: u16, nth: Option<u32>, asked: Asked) -> StopTest
+    ensures { result ≡ break_test address nth asked }
+{
+    StopTest::Arrival(Break {
+        address,
+        condition: asked,
+        only: nth,
+        is_met: false,
+    })
+}
+
 /// Whether a number is among those that are listed.
-fn is_listed(numbers: &[Option<u32>; MOST_LISTED], number: u32) -> bool {
-    for i in 0..MOST_LISTED {
-        if numbers[i] == Some(number) {
-            return true;
+fn is_listed(numbers: &[Option<u32>; MOST_LISTED], number: u32) -> bool
+    ensures { result ≡ is_listed numbers.now number }
+{
+    numbers.iter().any(|listed| *listed == Some(number))
+}
+
+/// Whether a break or a watch has this number.
+fn has_number(stops: &[NumberedStop], number: u32) -> bool
+    ensures { result ≡ has_number stops.now number }
+{
+    stops.iter().any(|stop| stop.number == number)
+}
+
+/// The first of the numbers that none of the breaks and watches has.
+fn first_missing(stops: &[NumberedStop], numbers: &[Option<u32>]) -> Option<u32>
+    ensures { result ≡ first_missing stops.now numbers.now }
+{
+    let [number, more @ ..] = numbers else {
+        return None;
+    };
+    match number {
+        None => first_missing(stops, more),
+        Some(number) => {
+            if has_number(stops, *number) {
+                first_missing(stops, more)
+            } else {
+                Some(*number)
+            }
         }
     }
-    false
+}
+
+/// Removes the breaks and watches that are listed.
+fn remove_listed(stops: &mut Vec<NumberedStop>, numbers: &[Option<u32>; MOST_LISTED])
+    ensures { stops.new.items ≡ filter (λ stop. not (is_listed numbers.now stop.number)) stops.old.items }
+{
+    stops.retain(|stop| !is_listed(numbers, stop.number));
+}
+
+/// A break or a watch counts one run more, if the last step met it.
+fn count(stop: &mut NumberedStop)
+    ensures { stop.new ≡ stop_counted stop.old }
+{
+    if stop.test.is_met() {
+        stop.times = stop.times.saturating_add(1);
+    }
+}
+
+/// Each of the breaks and watches that the last step met counts one run more.
+fn count_each(stops: &mut [NumberedStop])
+    ensures { stops.new ≡ map stop_counted stops.old }
+{
+    for stop in stops.iter_mut() {
+        count(stop);
+    }
 }
 
 impl Stops {
     /// None.
-    pub fn new(alloc: Global) -> Stops {
+    pub fn new(alloc: Global) -> Stops
+        ensures { result ≡ no_stops }
+    {
         Stops {
-            until: Break::new(NOWHERE, Always),
             stops: Vec::new(alloc),
             last: 0,
         }
@@ -208,7 +346,9 @@ impl Stops {
     }
 
     /// The number of the next break or watch: 1 if there is none, else the one after the last that was given.
-    fn next_number(&self) -> u32 {
+    fn next_number(&self) -> u32
+        ensures { result ≡ next_number self.now }
+    {
         if self.stops.is_empty() {
             1
         } else {
@@ -216,8 +356,12 @@ impl Stops {
         }
     }
 
-    /// Adds a break or a watch, and answers its number.
-    fn add(&mut self, said: Said, test: StopTest) -> Result<u32, LookFault> {
+    /// Adds a break or a watch.
+    fn add(&mut self, said: Said, test: StopTest) -> Result<(), LookFault>
+        ensures ok { OnOk result (self.new ≡ with_stop said test self.old) }
+        ensures err { OnErr result (self.new ≡ self.old) }
+        ensures memory { IfErr result (λ why. why ≡ LookFault.Memory) }
+    {
         let number = self.next_number();
         let stop = NumberedStop {
             number,
@@ -229,14 +373,15 @@ impl Stops {
             return Err(LookFault::Memory);
         }
         self.last = number;
-        Ok(number)
+        Ok(())
     }
 
-    /// Adds a break, at the address that its place means now.
+    /// Adds a break at the end, at the address that its place means now.
     ///
     /// # Errors
     ///
     /// `Place` if it means none, or if the condition names no field; `Memory`. Nothing has changed then.
+    #[tactic(auto, unfolding(crate::specs::Stops::break_added))]
     pub fn add_break(
         &mut self,
         program: &Program,
@@ -244,45 +389,48 @@ impl Stops {
         place: &Place,
         after: Option<u32>,
         condition: Option<Condition>,
-    ) -> Result<u32, LookFault> {
-        let address = match program.address(machine, place) {
+    ) -> Result<(), LookFault>
+        ensures ok { OnOk result
+            (break_added program.now machine.now place.now after condition self.old ≡ Ok self.new) }
+        ensures err { OnErr result (self.new ≡ self.old) }
+        ensures why { IfErr result (λ why. (why ≡ LookFault.Memory)
+            ⊎ (break_added program.now machine.now place.now after condition self.old ≡ Err why)) }
+    {
+        let address = match break_address(program, machine, place) {
             Ok(address) => address,
-            Err(fault) => return Err(LookFault::Place(fault)),
+            Err(fault) => return Err(fault),
         };
-        let mut test = Break::new(address, asked_by(program, machine, &condition)?);
-        test.only = after;
-        self.add(Said::Break { after, condition }, StopTest::Arrival(test))
+        let asked = match asked_by(program, machine, &condition) {
+            Ok(asked) => asked,
+            Err(fault) => return Err(fault),
+        };
+        self.add(
+            Said::Break { after, condition },
+            break_test(address, after, asked),
+        )
     }
 
-    /// Adds a watch.
+    /// Adds a watch at the end.
     ///
     /// # Errors
     ///
     /// `Place` or `Field` if the places aren't in core, or if no field ends there; `Memory`. Nothing has changed then.
+    #[tactic(auto, unfolding(crate::specs::Stops::watch_added))]
     pub fn add_watch(
         &mut self,
         alloc: Global,
         program: &Program,
         machine: &Machine,
         watched: &Watched,
-    ) -> Result<u32, LookFault> {
-        let test = watch_test(alloc, program, machine, watched)?;
-        self.add(Said::Watch(*watched), test)
-    }
-
-    /// Whether a break or a watch has this number.
-    fn has(&self, number: u32) -> bool {
-        self.stops.iter().any(|stop| stop.number == number)
-    }
-
-    /// Removes the breaks and watches that are listed.
-    fn remove_listed(&mut self, numbers: &[Option<u32>; MOST_LISTED]) {
-        let count = self.stops.len();
-        for i in 0..count {
-            let at = count - 1 - i;
-            if at < self.stops.len() && is_listed(numbers, self.stops[at].number) {
-                self.stops.remove(at);
-            }
+    ) -> Result<(), LookFault>
+        ensures ok { OnOk result (watch_added program.now machine.now watched.now self.old ≡ Ok self.new) }
+        ensures err { OnErr result (self.new ≡ self.old) }
+        ensures why { IfErr result (λ why. (why ≡ LookFault.Memory)
+            ⊎ (watch_added program.now machine.now watched.now self.old ≡ Err why)) }
+    {
+        match watch_test(alloc, program, machine, watched) {
+            Ok(test) => self.add(Said::Watch(*watched), test),
+            Err(fault) => Err(fault),
         }
     }
 
@@ -291,52 +439,41 @@ impl Stops {
     /// # Errors
     ///
     /// `NoStop` with the first number that none has. Nothing has changed then.
-    pub fn delete(&mut self, numbers: &[Option<u32>; MOST_LISTED]) -> Result<(), LookFault> {
+    #[tactic(auto, unfolding(crate::specs::Stops::stops_deleted))]
+    pub fn delete(&mut self, numbers: &[Option<u32>; MOST_LISTED]) -> Result<(), LookFault>
+        ensures ok { OnOk result (stops_deleted numbers.now self.old ≡ Ok self.new) }
+        ensures err { OnErr result (self.new ≡ self.old) }
+        ensures why { IfErr result (λ why. stops_deleted numbers.now self.old ≡ Err why) }
+    {
         if numbers[0].is_none() {
             self.stops.clear();
             return Ok(());
         }
-        for i in 0..MOST_LISTED {
-            if let Some(number) = numbers[i] {
-                if !self.has(number) {
-                    return Err(LookFault::NoStop { number });
-                }
-            }
+        if let Some(number) = first_missing(self.stops.as_slice(), numbers.as_slice()) {
+            return Err(LookFault::NoStop { number });
         }
-        self.remove_listed(numbers);
+        remove_listed(&mut self.stops, numbers);
         Ok(())
     }
 
-    /// The next run goes up to this address, if nothing stops it before.
-    pub fn go_until(&mut self, address: u16) {
-        self.until = Break::new(address, Always);
-    }
-
-    /// The next run goes up to no address.
-    pub fn go_on(&mut self) {
-        self.until = Break::new(NOWHERE, Always);
-    }
-
     /// Counts a run that ended because a step met one of the breaks and watches.
-    pub fn count_met(&mut self) {
-        for stop in self.stops.iter_mut() {
-            if stop.test.is_met() {
-                stop.times = stop.times.saturating_add(1);
-            }
-        }
+    pub fn count_met(&mut self)
+        ensures { self.new ≡ stops_counted self.old }
+    {
+        count_each(self.stops.as_mut_slice());
     }
 
-    /// The first of the breaks and watches that the last step met; `None` if it met none of them, but came to the
-    /// address up to which the run was to go.
-    pub fn met(&self) -> Option<&NumberedStop> {
+    /// The first of the breaks and watches that the last step met; `None` if it met none of them.
+    pub fn met(&self) -> Option<&NumberedStop>
+        ensures { option_map (λ stop. stop.now) result ≡ find is_stop_met self.now.stops }
+    {
         self.stops.iter().find(|stop| stop.test.is_met())
     }
 
     /// Whether there is a break at an address.
-    pub fn has_break_at(&self, at: u16) -> bool {
-        self.stops.iter().any(|stop| match &stop.test {
-            StopTest::Arrival(test) => test.address == at,
-            StopTest::Places(_) | StopTest::Device(_) => false,
-        })
+    pub fn has_break_at(&self, at: u16) -> bool
+        ensures { result ≡ list_any (is_break_at at) self.now.stops }
+    {
+        self.stops.iter().any(|stop| stop.is_break_at(at))
     }
 }

@@ -22,6 +22,18 @@ fn a_word_is_near(rt: HostRuntime) {
 }
 
 #[test]
+fn a_beginning_of_two_words(rt: HostRuntime) {
+    let mut text = Vec::new(rt.alloc());
+    let fault = OrderFault::Word(Text::as_typed(b"res"));
+    put_order_fault(&mut text, &fault).expect(&rt, "a text");
+    expect_text(
+        &rt,
+        text.as_slice(),
+        b"res is no word here; did you mean restart or restore?",
+    );
+}
+
+#[test]
 fn help_has_the_shortest_form(rt: HostRuntime) {
     let mut text = Vec::new(rt.alloc());
     put_help(&mut text, Some(Keyword::Registers)).expect(&rt, "a text");

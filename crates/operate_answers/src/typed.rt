@@ -1,22 +1,17 @@
 //! Places, ranges, values and conditions as they are typed.
+ghost use Rattle.std.specs.Prelude.{◌≡◌, ◌++◌, OnOk};
+ghost use Rattle.operate_answers.specs.Typed.{adjustment_text, area_word, base_text, condition_text, held_name, minus_text};
+ghost use Rattle.operate_answers.specs.Typed.{place_text, quoted_text, range_text, relation_text, value_text};
 
 use machine_notation::put_digits;
-use operate_orders::{
-    Adjustment, Area, Base, Condition, IndexRegister, Place, Range, Register, Relation, Value,
-};
+use operate_orders::{Adjustment, Area, Base, Condition, Place, Range, Register, Relation, Value};
+use operate_program::index_name;
 use std::alloc::AllocError;
 
-/// The name of an index register.
-pub(crate) fn index_name(register: IndexRegister) -> &'static [u8] {
-    match register {
-        IndexRegister::X1 => b"X1",
-        IndexRegister::X2 => b"X2",
-        IndexRegister::X3 => b"X3",
-    }
-}
-
 /// The name of a register that holds an address.
-fn held_name(register: Register) -> &'static [u8] {
+fn held_name(register: Register) -> &'static [u8]
+    ensures { result.now ≡ held_name register }
+{
     match register {
         Register::I => b"$I",
         Register::A => b"$A",
@@ -25,12 +20,14 @@ fn held_name(register: Register) -> &'static [u8] {
 }
 
 /// Adds where an address begins.
-fn put_base(text: &mut Vec<u8>, base: &Base) -> Result<(), AllocError> {
+fn put_base(text: &mut Vec<u8>, base: &Base) -> Result<(), AllocError>
+    ensures { OnOk result (text.new.items ≡ text.old.items ++ base_text base.now) }
+{
     match base {
         Base::Number(number) => put_digits(text, 1, u64::from(*number)),
         Base::Label(label) => text.extend_from_slice(label.as_slice()),
         Base::Line(line) => {
-            text.push(b':')?;
+            text.extend_from_slice(b":".as_slice())?;
             put_digits(text, 1, u64::from(*line))
         }
         Base::Index(register) => text.extend_from_slice(index_name(*register)),
@@ -39,19 +36,21 @@ fn put_base(text: &mut Vec<u8>, base: &Base) -> Result<(), AllocError> {
 }
 
 /// Adds an adjustment with its sign, if there is one.
-fn put_adjustment(text: &mut Vec<u8>, adjustment: Option<Adjustment>) -> Result<(), AllocError> {
+fn put_adjustment(text: &mut Vec<u8>, adjustment: Option<Adjustment>) -> Result<(), AllocError>
+    ensures { OnOk result (text.new.items ≡ text.old.items ++ adjustment_text adjustment) }
+{
     match adjustment {
         None => Ok(()),
         Some(Adjustment::Plus(number)) => {
-            text.push(b'+')?;
+            text.extend_from_slice(b"+".as_slice())?;
             put_digits(text, 1, u64::from(number))
         }
         Some(Adjustment::Minus(number)) => {
-            text.push(b'-')?;
+            text.extend_from_slice(b"-".as_slice())?;
             put_digits(text, 1, u64::from(number))
         }
         Some(Adjustment::Indexed(register)) => {
-            text.push(b'+')?;
+            text.extend_from_slice(b"+".as_slice())?;
             text.extend_from_slice(index_name(register))
         }
     }
@@ -62,16 +61,20 @@ fn put_adjustment(text: &mut Vec<u8>, adjustment: Option<Adjustment>) -> Result<
 /// # Errors
 ///
 /// If the memory for the text is refused. Some of the text may have been added then.
-pub fn put_typed_place(text: &mut Vec<u8>, place: &Place) -> Result<(), AllocError> {
+#[tactic(auto, unfolding(crate::specs::Typed::place_text))]
+pub fn put_typed_place(text: &mut Vec<u8>, place: &Place) -> Result<(), AllocError>
+    ensures { OnOk result (text.new.items ≡ text.old.items ++ place_text place.now) }
+{
     put_base(text, &place.base)?;
-    for i in 0..3 {
-        put_adjustment(text, place.adjustments[i])?;
-    }
-    Ok(())
+    put_adjustment(text, place.adjustments[0])?;
+    put_adjustment(text, place.adjustments[1])?;
+    put_adjustment(text, place.adjustments[2])
 }
 
 /// The word of an area.
-fn area_word(area: Area) -> &'static [u8] {
+fn area_word(area: Area) -> &'static [u8]
+    ensures { result.now ≡ area_word area }
+{
     match area {
         Area::Read => b"read",
         Area::Punch => b"punch",
@@ -84,7 +87,9 @@ fn area_word(area: Area) -> &'static [u8] {
 /// # Errors
 ///
 /// If the memory for the text is refused. Some of the text may have been added then.
-pub fn put_typed_range(text: &mut Vec<u8>, range: &Range) -> Result<(), AllocError> {
+pub fn put_typed_range(text: &mut Vec<u8>, range: &Range) -> Result<(), AllocError>
+    ensures { OnOk result (text.new.items ≡ text.old.items ++ range_text range.now) }
+{
     match range {
         Range::Area(area) => text.extend_from_slice(area_word(*area)),
         Range::Between { first, last } => {
@@ -94,7 +99,7 @@ pub fn put_typed_range(text: &mut Vec<u8>, range: &Range) -> Result<(), AllocErr
         }
         Range::Counted { first, count } => {
             put_typed_place(text, first)?;
-            text.push(b'/')?;
+            text.extend_from_slice(b"/".as_slice())?;
             put_digits(text, 1, u64::from(*count))
         }
         Range::At(place) => put_typed_place(text, place),
@@ -102,7 +107,9 @@ pub fn put_typed_range(text: &mut Vec<u8>, range: &Range) -> Result<(), AllocErr
 }
 
 /// How a relation is typed.
-fn relation_sign(relation: Relation) -> &'static [u8] {
+fn relation_sign(relation: Relation) -> &'static [u8]
+    ensures { result.now ≡ relation_text relation }
+{
     match relation {
         Relation::Equal => b"=",
         Relation::Unequal => b"<>",
@@ -114,19 +121,32 @@ fn relation_sign(relation: Relation) -> &'static [u8] {
 }
 
 /// Adds a text between at signs.
-pub(crate) fn put_quoted(text: &mut Vec<u8>, quoted: &[u8]) -> Result<(), AllocError> {
-    text.push(b'@')?;
+pub(crate) fn put_quoted(text: &mut Vec<u8>, quoted: &[u8]) -> Result<(), AllocError>
+    ensures { OnOk result (text.new.items ≡ text.old.items ++ quoted_text quoted.now) }
+{
+    text.extend_from_slice(b"@".as_slice())?;
     text.extend_from_slice(quoted)?;
-    Ok(text.push(b'@')?)
+    text.extend_from_slice(b"@".as_slice())
+}
+
+/// Adds a minus, if there is one.
+fn put_minus(text: &mut Vec<u8>, minus: bool) -> Result<(), AllocError>
+    ensures { OnOk result (text.new.items ≡ text.old.items ++ minus_text minus) }
+{
+    if minus {
+        text.extend_from_slice(b"-".as_slice())
+    } else {
+        Ok(())
+    }
 }
 
 /// Adds a value as it is typed.
-fn put_typed_value(text: &mut Vec<u8>, value: &Value) -> Result<(), AllocError> {
+fn put_typed_value(text: &mut Vec<u8>, value: &Value) -> Result<(), AllocError>
+    ensures { OnOk result (text.new.items ≡ text.old.items ++ value_text value.now) }
+{
     match value {
         Value::Number { minus, digits } => {
-            if *minus {
-                text.push(b'-')?;
-            }
+            put_minus(text, *minus)?;
             text.extend_from_slice(digits.as_slice())
         }
         Value::Text(quoted) => put_quoted(text, quoted.as_slice()),
@@ -138,10 +158,13 @@ fn put_typed_value(text: &mut Vec<u8>, value: &Value) -> Result<(), AllocError> 
 /// # Errors
 ///
 /// If the memory for the text is refused. Some of the text may have been added then.
-pub fn put_typed_condition(text: &mut Vec<u8>, condition: &Condition) -> Result<(), AllocError> {
+#[tactic(auto, unfolding(crate::specs::Typed::condition_text))]
+pub fn put_typed_condition(text: &mut Vec<u8>, condition: &Condition) -> Result<(), AllocError>
+    ensures { OnOk result (text.new.items ≡ text.old.items ++ condition_text condition.now) }
+{
     put_typed_place(text, &condition.field)?;
-    text.push(b' ')?;
+    text.extend_from_slice(b" ".as_slice())?;
     text.extend_from_slice(relation_sign(condition.relation))?;
-    text.push(b' ')?;
+    text.extend_from_slice(b" ".as_slice())?;
     put_typed_value(text, &condition.value)
 }

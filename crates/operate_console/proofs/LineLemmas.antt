@@ -1,26 +1,37 @@
 -- Lines, and the commands that they stand for.
-use Rattle.std.proofs.Common.{◌≡◌, ℕ, List, [], ◌∷◌, ◌++◌, refl, sym, ◌∙◌, ap, subst, inl, inr, ◌⊎◌, Result, Ok, Err}
+use Rattle.std.proofs.Common.{◌≡◌, ℕ, List, [], ◌∷◌, ◌++◌, length, refl, sym, ◌∙◌, ap, subst, inl, inr, Option, None}
+use Rattle.std.proofs.Common.{Some, Result, Ok, Err, Bool, true, false, not, ◌||◌, is_some}
 use Rattle.cpu_1401.specs.State.{State}
+use Rattle.devices_1401.specs.declared.card.Card.{Card}
 use Rattle.machine_commands.specs.declared.answer.Answer.{Answer}
 use Rattle.machine_commands.specs.declared.command.Command.{Command}
+use Rattle.machine_commands.specs.declared.command.Command.TheVariants.{LoadKey}
+use Rattle.operate_answers.specs.Stops.{AllStops, no_stops}
+use Rattle.operate_answers.specs.declared.fault.LookFault.{LookFault}
 use Rattle.operate_orders.specs.OrderLine.{order_of}
 use Rattle.operate_orders.specs.declared.fault.OrderFault.{OrderFault}
 use Rattle.operate_orders.specs.declared.orders.Act.{Act}
-use Rattle.operate_orders.specs.declared.orders.Act.TheVariants as act
+use Rattle.operate_orders.specs.declared.orders.Note.{Note}
 use Rattle.operate_orders.specs.declared.orders.Order.{Order}
 use Rattle.operate_orders.specs.declared.orders.Past.{Past}
 use Rattle.operate_program.specs.Act.{commands_of}
 use Rattle.operate_program.specs.Known.{Known}
 use Rattle.operate_program.specs.declared.fault.ActFault.{ActFault}
+use Rattle.operate_program.specs.declared.fault.PlaceFault.{PlaceFault}
+use Rattle.operate_sitting.specs.Notes.{begun, held, notes_after}
 use Rattle.operate_sitting.specs.Sitting.{EarlierAccount, SittingAccount, journal_of, machine_of}
 use Rattle.operate_sitting.specs.Tending.{carried_on}
-use Rattle.operate_console.specs.Line.{ActBy, ActDid, ActOfLine, CarriedFirst, CommandsDid, EarlierIs, FollowDid, IsEarlier, LineDid}
-use Rattle.operate_console.specs.Line.{OperatedBy, PastDid, SomeLineDid}
-use Rattle.operate_console.specs.Run.{InTurn, IsSame}
-use Rattle.operate_console.proofs.RunLemmas.{no_pieces, not_begun}
+use Rattle.operate_console.specs.Line.{ActDid, AfterLines, CardsDone, CardsOfLine, CarriedFirst, CommandsBegun, CommandsDid}
+use Rattle.operate_console.specs.Line.{CommandsOfAct, DeckOfLine, EarlierIs, FeedDid, FollowDid, IsEarlier, IsLeft, IsOrigin}
+use Rattle.operate_console.specs.Line.{IsSet, LineDid, LinesDid, LinesSoFar, LoadOfLine, PartOfCards}
+use Rattle.operate_console.specs.Line.{NoteOfLine, OperatedBy, PartOfAct, PastDid, PastOfLine, SomeLineDid, StopsNoted}
+use Rattle.operate_console.specs.Line.{UntilDid, faults_with, is_cut, least_of}
+use Rattle.operate_console.specs.Run.{AtConsole, IsSame, NotebookAccount, RanAsFar, TendedAll, TendedPart, at_console}
+use Rattle.operate_console.specs.declared.ends.OperateEnd.{OperateEnd}
+use Rattle.operate_console.specs.declared.extent.Reach.{Reach}
 use Rattle.room_alone.specs.Account.{Account}
 use Rattle.room_alone.specs.Kept.{KeptAccount}
-use Rattle.room_alone.specs.Journal.{answer_to, entry}
+use Rattle.room_alone.specs.Journal.{answer_to, entry, state_of}
 use Rattle.room_alone.specs.declared.entry.Entry.{Entry}
 
 -- none of some commands was carried out
@@ -61,82 +72,363 @@ pub refused : (size : ℕ) (command : Command) (more : List Command) (before aft
     → after ≡ before → CarriedFirst size (command ∷ more) before after
 refused size command more before after same = inl same
 
--- a line begins, and commands are carried out; or it doesn't begin
+-- a line begins, and commands are carried out, or the first of them; or it doesn't begin
 pub commands_did : (commands : List Command) (before middle after : SittingAccount)
+    → middle.account ≡ before.account → middle.notes ≡ begun (length (journal_of before)) before.notes
+    → journal_of after ≡ carried_on middle.account.room.size (journal_of middle) commands
+    → after.account.room.size ≡ middle.account.room.size → after.notes ≡ middle.notes
+    → CommandsDid commands before after
+commands_did commands before middle after same began carried size notes = record {
+  carried = subst (λ (it : KeptAccount). journal_of after ≡ carried_on it.room.size it.room.journal commands) same carried;
+  size = size ∙ ap (λ (it : KeptAccount). it.room.size) same;
+  notes = notes ∙ began;
+}
+
+pub commands_began : (commands : List Command) (before middle after : SittingAccount)
     → middle.account ≡ before.account
     → CarriedFirst middle.account.room.size commands (journal_of middle) (journal_of after)
-    → after.account.room.size ≡ middle.account.room.size → CommandsDid commands before after
-commands_did commands before middle after same first size = record {
+    → after.account.room.size ≡ middle.account.room.size → CommandsBegun commands before after
+commands_began commands before middle after same first size = record {
   carried = subst (λ (it : KeptAccount). CarriedFirst it.room.size commands it.room.journal (journal_of after)) same first;
   size = size ∙ ap (λ (it : KeptAccount). it.room.size) same;
 }
 
-pub not_carried : (commands : List Command) (before after : SittingAccount)
-    → after.account ≡ before.account → CommandsDid commands before after
-not_carried commands before after same =
-    commands_did commands before after after same
+pub commands_none : (commands : List Command) (before after : SittingAccount)
+    → after.account ≡ before.account → CommandsBegun commands before after
+commands_none commands before after same =
+    commands_began commands before after after same
     (none_carried after.account.room.size commands (journal_of after)) refl
 
--- the commands that an act stands for were carried out
+-- the commands that an act stands for were carried out, or the first of them
 pub act_did : (known : Known) (it : Act) (machine : State) (commands : List Command) (before after : SittingAccount)
     → commands_of known machine it ≡ Ok commands → machine ≡ machine_of before → CommandsDid commands before after
-    → ActDid known it before after
-act_did known it machine commands before after is same did =
-    inr (subst (λ (given : Result (List Command) ActFault). ActBy given before after)
-    (sym is ∙ ap (λ (s : State). commands_of known s it) same) did)
+    → CommandsOfAct known it before after
+act_did known it machine commands before after is same did = record {
+  commands = commands;
+  commands_are = ap (λ (s : State). commands_of known s it) (sym same) ∙ is;
+  did = did;
+}
+
+pub act_began : (known : Known) (it : Act) (machine : State) (commands : List Command) (before after : SittingAccount)
+    → commands_of known machine it ≡ Ok commands → machine ≡ machine_of before → CommandsBegun commands before after
+    → PartOfAct known it before after
+act_began known it machine commands before after is same began = inr (record {
+  commands = commands;
+  commands_are = ap (λ (s : State). commands_of known s it) (sym same) ∙ is;
+  began = began;
+})
 
 -- nothing was recorded
-pub same : (before after : SittingAccount) → after ≡ before → IsSame before after
-same before after is =
-    subst (λ (it : SittingAccount). IsSame before it) (sym is) (record { journal = refl; size = refl })
+pub same : (it : SittingAccount) → IsSame it it
+same it = record { journal = refl; size = refl; notes = refl }
 
-pub no_act : (known : Known) (it : Act) (before : SittingAccount) → ActDid known it before before
-no_act known it before = inl (same before before refl)
+pub no_act : (known : Known) (it : Act) (before : SittingAccount) → PartOfAct known it before before
+no_act known it before = inl (same before)
 
-pub no_past : (it : Past) (before : SittingAccount) → PastDid it before before
-no_past it before = inl (same before before refl)
+-- a fault is reported, and nothing has changed
+pub is_told : (is_last : Bool) (notebook : NotebookAccount) → notebook.is_faulted ≡ true → is_cut is_last notebook ≡ true
+is_told true notebook told = refl
+is_told false notebook told = told
 
--- a line goes back to a room
-pub went_back : (it : Past) (before after : SittingAccount) (earlier : EarlierAccount)
-    → after.account.room ≡ earlier.room → EarlierIs it before earlier → PastDid it before after
-went_back it before after earlier is found =
-    inr (subst (λ (room : Account). IsEarlier it before room.size room.journal) (sym is) found)
+pub left : (sitting sitting' : SittingAccount) (before after : NotebookAccount)
+    → sitting' ≡ sitting → after.stops ≡ before.stops → IsLeft (at_console sitting before) (at_console sitting' after)
+left sitting sitting' before after is stops = record {
+  same = subst (λ (it : SittingAccount). IsSame sitting it) (sym is) (same sitting);
+  stops = stops;
+}
 
--- no line was done yet, and a line more
-pub no_line : (known : Known) (before : SittingAccount) → OperatedBy known before before
-no_line known before = ([], refl)
+-- cards came into the hand, and were fed, or some of them; or none came
+pub cards_done : (cards : List Card) (before middle after : SittingAccount)
+    → middle.account ≡ before.account → middle.notes ≡ held cards before.notes → TendedAll middle after
+    → CardsDone cards before after
+cards_done cards before middle after account notes tended = record {
+  middle = middle;
+  in_hand = record { account = account; notes = notes };
+  tended = tended;
+}
 
-pub line_more : (known : Known) (line : List ℕ) (said : Result Order OrderFault) (before middle after : SittingAccount)
-    → said ≡ order_of line → OperatedBy known before middle → LineDid known said middle after
-    → OperatedBy known before after
-line_more known line said before middle after is so_far did = (
-  middle ∷ so_far.0,
-  (
-    so_far.1,
-    (
-      line,
-      subst (λ (given : Result Order OrderFault). LineDid known given middle after)
-          is did,
-    ),
-  ),
-)
+pub cards_part : (cards : List Card) (before middle after : SittingAccount)
+    → middle.account ≡ before.account → middle.notes ≡ held cards before.notes → TendedPart middle after
+    → PartOfCards cards before after
+cards_part cards before middle after account notes tended = inr (record {
+  middle = middle;
+  in_hand = record { account = account; notes = notes };
+  tended = tended;
+})
 
--- what an act is, from its parts
-pub followed : (known : Known) (it : Act) (before middle after : SittingAccount)
-    → ActDid known it before middle → FollowDid it middle after → ActOfLine known it before after
-followed known it before middle after did more = (middle, did, more)
+pub no_cards : (cards : List Card) (before after : SittingAccount)
+    → after.account ≡ before.account → after.notes ≡ before.notes → PartOfCards cards before after
+no_cards cards before after account notes = inl (record {
+  journal = ap (λ (it : KeptAccount). it.room.journal) account;
+  size = ap (λ (it : KeptAccount). it.room.size) account;
+  notes = notes;
+})
 
-pub nothing_follows : (it : Act) (before : SittingAccount) → FollowDid it before before
-nothing_follows (act.Deposit place what) before = same before before refl
-nothing_follows (act.Set field value) before = same before before refl
-nothing_follows (act.Mark place) before = same before before refl
-nothing_follows (act.Unmark place) before = same before before refl
-nothing_follows (act.Start place) before = same before before refl
-nothing_follows (act.Switch switch on) before = same before before refl
-nothing_follows (act.Feed text) before = same before before refl
-nothing_follows (act.Deck name) before = no_pieces before
-nothing_follows act.Load before = same before before refl
-nothing_follows (act.Step count) before = not_begun before
-nothing_follows (act.Continue count) before = not_begun before
-nothing_follows (act.Until place) before = not_begun before
-nothing_follows (act.Go place) before = not_begun before
+-- the same of a line
+cards_line_done : (is_so : Bool) (cards : List Card) (sitting sitting' : SittingAccount) (before after : NotebookAccount)
+    → CardsDone cards sitting sitting' → after.stops ≡ before.stops
+    → CardsOfLine is_so cards (at_console sitting before) (at_console sitting' after)
+cards_line_done is_so cards sitting sitting' before after did stops = record { did = inl did; stops = stops }
+
+cards_line_part : (is_so : Bool) (cards : List Card) (sitting sitting' : SittingAccount) (before after : NotebookAccount)
+    → is_so ≡ true → PartOfCards cards sitting sitting' → after.stops ≡ before.stops
+    → CardsOfLine is_so cards (at_console sitting before) (at_console sitting' after)
+cards_line_part is_so cards sitting sitting' before after cut part stops =
+    record { did = inr (cut, part); stops = stops }
+
+-- the cards of a deck
+pub deck_line_done : (is_so : Bool) (cards : List Card) (sitting sitting' : SittingAccount) (before after : NotebookAccount)
+    → CardsDone cards sitting sitting' → after.stops ≡ before.stops
+    → DeckOfLine is_so (at_console sitting before) (at_console sitting' after)
+deck_line_done is_so cards sitting sitting' before after did stops = record {
+  cards = cards;
+  did = cards_line_done is_so cards sitting sitting' before after did stops;
+}
+
+pub deck_line_part : (is_so : Bool) (cards : List Card) (sitting sitting' : SittingAccount) (before after : NotebookAccount)
+    → is_so ≡ true → PartOfCards cards sitting sitting' → after.stops ≡ before.stops
+    → DeckOfLine is_so (at_console sitting before) (at_console sitting' after)
+deck_line_part is_so cards sitting sitting' before after cut part stops = record {
+  cards = cards;
+  did = cards_line_part is_so cards sitting sitting' before after cut part stops;
+}
+
+pub ruleset deck_did = (deck_line_done, deck_line_part)
+
+pub no_deck : (is_so : Bool) (sitting : SittingAccount) (before after : NotebookAccount)
+    → is_so ≡ true → after.stops ≡ before.stops
+    → DeckOfLine is_so (at_console sitting before) (at_console sitting after)
+no_deck is_so sitting before after cut stops =
+    deck_line_part is_so [] sitting sitting before after cut (inl (same sitting)) stops
+
+-- one card
+pub card_line_done : (is_so : Bool) (card : Card) (cards : List Card) (sitting sitting' : SittingAccount)
+    (before after : NotebookAccount)
+    → cards ≡ card ∷ [] → CardsDone cards sitting sitting' → after.stops ≡ before.stops
+    → CardsOfLine is_so (card ∷ []) (at_console sitting before) (at_console sitting' after)
+card_line_done is_so card cards sitting sitting' before after is did stops =
+    subst (λ (some : List Card). CardsOfLine is_so some (at_console sitting before) (at_console sitting' after)) is
+    (cards_line_done is_so cards sitting sitting' before after did stops)
+
+pub card_line_part : (is_so : Bool) (card : Card) (cards : List Card) (sitting sitting' : SittingAccount)
+    (before after : NotebookAccount)
+    → cards ≡ card ∷ [] → is_so ≡ true → PartOfCards cards sitting sitting' → after.stops ≡ before.stops
+    → CardsOfLine is_so (card ∷ []) (at_console sitting before) (at_console sitting' after)
+card_line_part is_so card cards sitting sitting' before after is cut part stops =
+    subst (λ (some : List Card). CardsOfLine is_so some (at_console sitting before) (at_console sitting' after)) is
+    (cards_line_part is_so cards sitting sitting' before after cut part stops)
+
+pub ruleset card_did = (card_line_done, card_line_part)
+
+pub no_card : (is_so : Bool) (card : Card) (it : AtConsole) → is_so ≡ true → CardsOfLine is_so (card ∷ []) it it
+no_card is_so card it cut = record { did = inr (cut, inl (same it.sitting)); stops = refl }
+
+-- the card of a line, or the fault of its text
+pub feed_did : (is_so : Bool) (answer : Result Card ActFault) (card : Card) (before after : AtConsole)
+    → answer ≡ Ok card → CardsOfLine is_so (card ∷ []) before after → FeedDid is_so answer before after
+feed_did is_so answer card before after is did =
+    subst (λ (it : Result Card ActFault). FeedDid is_so it before after) (sym is) did
+
+pub feed_nothing : (is_so : Bool) (answer : Result Card ActFault) (why : ActFault) (before after : AtConsole)
+    → answer ≡ Err why → is_so ≡ true → IsLeft before after → FeedDid is_so answer before after
+feed_nothing is_so answer why before after is cut left =
+    subst (λ (it : Result Card ActFault). FeedDid is_so it before after) (sym is) (cut, left)
+
+-- the load key, after what devices want; or not all of that
+pub load_done : (before middle after : SittingAccount) (commands : List Command) (is_so : Bool)
+    (noted noted' : NotebookAccount)
+    → TendedAll before middle → commands ≡ LoadKey ∷ []
+    → journal_of after ≡ carried_on middle.account.room.size (journal_of middle) commands
+    → after.account.room.size ≡ middle.account.room.size → after.notes ≡ middle.notes → noted'.stops ≡ noted.stops
+    → LoadOfLine is_so (at_console before noted) (at_console after noted')
+load_done before middle after commands is_so noted noted' tended is pressed size notes stops = record {
+  did = inl (record {
+    middle = middle;
+    tended = tended;
+    pressed = pressed ∙ ap (λ (some : List Command). carried_on middle.account.room.size (journal_of middle) some) is;
+    size = size;
+    notes = notes;
+  });
+  stops = stops;
+}
+
+pub load_part : (before middle after : SittingAccount) (commands : List Command) (is_so : Bool)
+    (noted noted' : NotebookAccount)
+    → TendedPart before middle → commands ≡ LoadKey ∷ [] → is_so ≡ true
+    → CarriedFirst middle.account.room.size commands (journal_of middle) (journal_of after)
+    → after.account.room.size ≡ middle.account.room.size → after.notes ≡ middle.notes → noted'.stops ≡ noted.stops
+    → LoadOfLine is_so (at_console before noted) (at_console after noted')
+load_part before middle after commands is_so noted noted' tended is cut pressed size notes stops = record {
+  did = inr (
+    cut,
+    record {
+      middle = middle;
+      tended = tended;
+      pressed = subst (λ (some : List Command). CarriedFirst middle.account.room.size some (journal_of middle)
+          (journal_of after)) is pressed;
+      size = size;
+      notes = notes;
+    },
+  );
+  stops = stops;
+}
+
+pub no_load : (before after : SittingAccount) (is_so : Bool) (noted noted' : NotebookAccount)
+    → TendedPart before after → is_so ≡ true → noted'.stops ≡ noted.stops
+    → LoadOfLine is_so (at_console before noted) (at_console after noted')
+no_load before after is_so noted noted' tended cut stops =
+    load_part before after after (LoadKey ∷ []) is_so noted noted' tended refl cut
+    (none_carried after.account.room.size (LoadKey ∷ []) (journal_of after)) refl refl stops
+
+-- a run up to the address that a place means, or its fault
+pub until_did : (limit : Option ℕ) (is_so : Bool) (place : Result ℕ PlaceFault) (at : ℕ) (reach : Reach)
+    (before after : AtConsole)
+    → place ≡ Ok at → reach ≡ record { most = least_of None limit; until = Some at }
+    → RanAsFar limit is_so reach before after → UntilDid limit is_so place before after
+until_did limit is_so place at reach before after is far ran =
+    subst (λ (it : Result ℕ PlaceFault). UntilDid limit is_so it before after) (sym is)
+    (subst (λ (it : Reach). RanAsFar limit is_so it before after) far ran)
+
+pub until_nowhere : (limit : Option ℕ) (is_so : Bool) (place : Result ℕ PlaceFault) (why : PlaceFault)
+    (before after : AtConsole)
+    → place ≡ Err why → is_so ≡ true → IsLeft before after → UntilDid limit is_so place before after
+until_nowhere limit is_so place why before after is cut left =
+    subst (λ (it : Result ℕ PlaceFault). UntilDid limit is_so it before after) (sym is) (cut, left)
+
+-- a run of this reach
+pub ran_of : (limit : Option ℕ) (is_so : Bool) (reach far : Reach) (before after : AtConsole)
+    → reach ≡ far → RanAsFar limit is_so reach before after → RanAsFar limit is_so far before after
+ran_of limit is_so reach far before after is ran =
+    subst (λ (it : Reach). RanAsFar limit is_so it before after) is ran
+
+-- an act from its parts, and an act that was cut off
+pub whole_act : (known : Known) (limit : Option ℕ) (is_so : Bool) (it : Act) (before middle after : AtConsole)
+    → CommandsOfAct known it before.sitting middle.sitting → middle.stops ≡ before.stops
+    → FollowDid known limit is_so it middle after → ActDid known limit is_so it before after
+whole_act known limit is_so it before middle after did stops more =
+    inl (record { middle = middle; commands = did; stops = stops; follows = more })
+
+pub cut_act : (known : Known) (limit : Option ℕ) (is_so : Bool) (it : Act) (before after : AtConsole)
+    → is_so ≡ true → PartOfAct known it before.sitting after.sitting → after.stops ≡ before.stops
+    → ActDid known limit is_so it before after
+cut_act known limit is_so it before after cut part stops = inr (record { is_so = cut; part = part; stops = stops })
+
+-- a line goes back to a room, or nowhere
+pub went_back : (is_so : Bool) (it : Past) (before after : SittingAccount) (earlier : EarlierAccount)
+    → after.account.room ≡ earlier.room
+    → after.notes ≡ notes_after earlier.origin (length earlier.room.journal) before.notes
+    → EarlierIs it before earlier → PastDid is_so it before after
+went_back is_so it before after earlier is notes found = inl (record {
+  journal = subst (λ (room : Account). IsEarlier it before room.size room.journal) (sym is) found.journal;
+  from = earlier.origin;
+  origin = found.origin;
+  notes = notes
+      ∙ ap (λ (room : Account). notes_after earlier.origin (length room.journal) before.notes) (sym is);
+})
+
+-- an earlier room
+pub earlier_is : (it : Past) (before : SittingAccount) (earlier : EarlierAccount)
+    → IsEarlier it before earlier.room.size earlier.room.journal → IsOrigin it before earlier.origin
+    → EarlierIs it before earlier
+earlier_is it before earlier journal origin = record { journal = journal; origin = origin }
+
+-- no read has failed if the sitting goes on
+pub is_heard : (end : Option OperateEnd) (has_failed : Bool)
+    → end ≡ None → (is_some end || not has_failed) ≡ true → has_failed ≡ false
+is_heard None false none sound = refl
+is_heard None true none sound = absurd cc
+is_heard (Some why) has_failed none sound = absurd cc
+
+pub no_past : (is_so : Bool) (it : Past) (before : SittingAccount) → is_so ≡ true → PastDid is_so it before before
+no_past is_so it before cut = inr (cut, same before)
+
+pub past_of_line : (is_so : Bool) (it : Past) (sitting sitting' : SittingAccount) (before after : NotebookAccount)
+    → PastDid is_so it sitting sitting' → after.stops ≡ before.stops
+    → PastOfLine is_so it (at_console sitting before) (at_console sitting' after)
+past_of_line is_so it sitting sitting' before after did stops = record { did = did; stops = stops }
+
+-- a note
+pub note_of_line : (known : Known) (is_so : Bool) (it : Note) (room : Account) (sitting sitting' : SittingAccount)
+    (before after : NotebookAccount)
+    → room ≡ sitting.account.room → sitting' ≡ sitting
+    → StopsNoted known (state_of room.size room.journal) is_so it before.stops after.stops
+    → NoteOfLine known is_so it (at_console sitting before) (at_console sitting' after)
+note_of_line known is_so it room sitting sitting' before after here is stops = record {
+  same = subst (λ (now : SittingAccount). IsSame sitting now) (sym is) (same sitting);
+  stops = subst
+      (λ (at : Account). StopsNoted known (state_of at.size at.journal) is_so it before.stops after.stops) here stops;
+}
+
+-- breaks and watches are set, or a fault is reported
+pub set_so : (is_so : Bool) (answer : Result AllStops LookFault) (before after now : AllStops)
+    → answer ≡ Ok after → now ≡ after → IsSet is_so answer before now
+set_so is_so answer before after now is same =
+    subst (λ (it : AllStops). IsSet is_so answer before it) (sym same) (inl is)
+
+pub not_set : (is_so : Bool) (answer : Result AllStops LookFault) (before after now : AllStops)
+    → is_so ≡ true → after ≡ before → now ≡ after → IsSet is_so answer before now
+not_set is_so answer before after now cut stays same = inr (cut, same ∙ stays)
+
+pub ruleset is_set = (set_so, not_set)
+
+-- no line was done yet
+pub no_line : (known : Known) (limit : Option ℕ) (it : AfterLines) → LinesSoFar known limit it it
+no_line known limit it = ([], refl)
+
+-- a line was done, from these breaks and watches
+pub line_did : (known : Known) (limit : Option ℕ) (ended is_last : Bool) (line : List ℕ) (said : Result Order OrderFault)
+    (sitting sitting' : SittingAccount) (found begun after : NotebookAccount) (faults faults' : ℕ)
+    → ended ≡ is_last → said ≡ order_of line → begun.stops ≡ found.stops
+    → LineDid known limit (is_cut ended after) said (at_console sitting begun) (at_console sitting' after)
+    → faults' ≡ faults_with faults after.is_faulted
+    → SomeLineDid known limit is_last (record { at = at_console sitting found; faults = faults })
+    (record { at = at_console sitting' after; faults = faults' })
+line_did known limit ended is_last line said sitting sitting' found begun after faults faults' last is stops did so =
+    record {
+      line = line;
+      is_faulted = after.is_faulted;
+      did = subst (λ (it : Bool). LineDid known limit (is_cut it after) (order_of line)
+          (at_console sitting found) (at_console sitting' after)) last
+          (subst (λ (it : Result Order OrderFault). LineDid known limit (is_cut ended after) it
+          (at_console sitting found) (at_console sitting' after)) is
+          (subst (λ (it : AllStops). LineDid known limit (is_cut ended after) said
+          (record { sitting = sitting; stops = it }) (at_console sitting' after)) stops did));
+      faults = so;
+    }
+
+-- a line more, and the last line
+pub line_more : (known : Known) (limit : Option ℕ) (before middle after : AfterLines)
+    → LinesSoFar known limit before middle → SomeLineDid known limit false middle after
+    → LinesSoFar known limit before after
+line_more known limit before middle after so_far did = (middle ∷ so_far.0, (so_far.1, did))
+
+pub lines_end : (known : Known) (limit : Option ℕ) (before after : AfterLines)
+    → LinesSoFar known limit before after → LinesDid known limit before after
+lines_end known limit before after so_far = record { last = after; lines = so_far; ends = inl refl }
+
+pub last_line : (known : Known) (limit : Option ℕ) (before middle after : AfterLines)
+    → LinesSoFar known limit before middle → SomeLineDid known limit true middle after
+    → LinesDid known limit before after
+last_line known limit before middle after so_far did = record { last = middle; lines = so_far; ends = inr did }
+
+-- the same of a sitting
+pub operated : (known : Known) (limit : Option ℕ) (before after : SittingAccount) (begun left : NotebookAccount)
+    (faults : ℕ)
+    → begun.stops ≡ no_stops
+    → LinesDid known limit (record { at = at_console before begun; faults = 0 })
+    (record { at = at_console after left; faults = faults })
+    → OperatedBy known limit before faults after
+operated known limit before after begun left faults none did = record {
+  left = left.stops;
+  lines = subst (λ (stops : AllStops). LinesDid known limit
+      (record { at = record { sitting = before; stops = stops }; faults = 0 })
+      (record { at = at_console after left; faults = faults })) none did;
+}
+
+pub not_operated : (known : Known) (limit : Option ℕ) (before : SittingAccount) → OperatedBy known limit before 0 before
+not_operated known limit before = record {
+  left = no_stops;
+  lines = lines_end known limit (record { at = record { sitting = before; stops = no_stops }; faults = 0 })
+      (record { at = record { sitting = before; stops = no_stops }; faults = 0 })
+      (no_line known limit (record { at = record { sitting = before; stops = no_stops }; faults = 0 }));
+}

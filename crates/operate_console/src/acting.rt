@@ -1,26 +1,34 @@
 //! Lines that act.
-ghost use Rattle.std.specs.Prelude.{◌≡◌, false, OnOk};
-ghost use Rattle.operate_console.specs.Line.{ActDid, ActOfLine, CommandsDid, FollowDid};
-ghost use Rattle.operate_console.specs.Run.{RunDid, TwoPieces};
+ghost use Rattle.std.specs.Prelude.{◌≡◌, ◌∷◌, [], true, false, is_err, IfOk, IfErr, OnOk, OnErr};
+ghost use Rattle.operate_console.specs.Line.{ActDid, CardsDone, CardsOfLine, CommandsBegun, CommandsDid, CommandsOfAct};
+ghost use Rattle.operate_console.specs.Line.{DeckOfLine, FeedDid, FollowDid, LoadOfLine, PartOfAct, PartOfCards, UntilDid};
+ghost use Rattle.operate_console.specs.Line.{is_cut};
+ghost use Rattle.operate_console.specs.Run.{at_console};
+ghost use Rattle.operate_program.specs.Act.{card_in};
+ghost use Rattle.operate_program.specs.Value.{address_of};
+ghost use Rattle.operate_sitting.specs.Sitting.{machine_of};
 
 use crate::carrying::carry_all;
 use crate::desk::Desk;
 use crate::ends::OperateEnd;
-use crate::faults::{put_no_act, put_no_file, put_no_look, put_no_place, put_refused};
+use crate::extent::Extent;
+use crate::faults::{put_no_act, put_no_file, put_no_look, put_no_place, put_refusal, put_refused};
 use crate::manner::Manner;
 use crate::notebook::Notebook;
-use crate::running::{Extent, run, tend};
+use crate::rounds::tend;
+use crate::running::run;
 use crate::terminal::Terminal;
 use bytes_streams::{Sink, Source};
 use cpu_1401::Machine;
 use devices_1401::Card;
-use machine_execution::Command;
-use operate_answers::{LookFault, put_deck, put_done};
+use machine_execution::{Answer, Command, Refusal};
+use operate_answers::{LookFault, put_deck, put_done, put_fed, put_next};
 use operate_orders::{Act, Place, Text};
-use operate_program::{ActFault, Program, commands_of};
+use operate_program::{ActFault, Program, commands_of, read_card};
 use operate_sitting::Sitting;
-use room_alone::Keeper;
+use room_alone::{Entry, Keeper, Room, RoomFault};
 use std::alloc::{AllocError, Global};
+use std::slice::from_ref;
 
 /// Adds what an act has done.
 fn put_acted(
@@ -30,7 +38,9 @@ fn put_acted(
     machine: &Machine,
     act: &Act,
     commands: &[Command],
-) -> Result<(), AllocError> {
+) -> Result<(), AllocError>
+    ensures { notebook.new.stops ≡ notebook.old.stops }
+{
     let from = notebook.page.here();
     match put_done(
         alloc,
@@ -49,17 +59,63 @@ fn put_acted(
     }
 }
 
-/// Whether the commands of a line were carried out.
+/// The refusal of the last of some commands, which the last entry of a journal has.
+fn refusal_of_last(journal: &[Entry], commands: &[Command]) -> Option<Refusal> {
+    if commands.is_empty() {
+        return None;
+    }
+    match journal.last() {
+        Some(entry) => match entry.answer {
+            Answer::Refused(refusal) => Some(refusal),
+            _ => None,
+        },
+        None => None,
+    }
+}
+
+/// Adds what an act has done, or that the machine refused it.
+fn put_carried(
+    alloc: Global,
+    program: &Program,
+    notebook: &mut Notebook,
+    room: &Room,
+    act: &Act,
+    commands: &[Command],
+) -> Result<(), AllocError>
+    ensures { notebook.new.stops ≡ notebook.old.stops }
+{
+    match refusal_of_last(room.journal(), commands) {
+        Some(refusal) => put_refusal(notebook, refusal),
+        None => put_acted(alloc, program, notebook, room.machine(), act, commands),
+    }
+}
+
+/// Why an act is cut off.
 #[derive(Clone, Copy, Debug, PartialEq, Eq)]
-enum Carried {
-    /// All of them were.
-    All,
-    /// There was a fault, which is in the answer.
+pub(crate) enum Cut {
+    /// There is a fault, which is in the answer.
     Faulted,
+    /// The sitting ends.
+    Over(OperateEnd),
+}
+
+/// A refusal of the room in the answer.
+fn refused(notebook: &mut Notebook, fault: RoomFault) -> Cut
+    ensures faulted { result ≡ Cut.Faulted → notebook.new.is_faulted ≡ true }
+    ensures stops { notebook.new.stops ≡ notebook.old.stops }
+{
+    match put_refused(notebook, fault) {
+        Ok(()) => Cut::Faulted,
+        Err(end) => Cut::Over(end),
+    }
 }
 
 /// A line begins, and its commands are carried out. Then it is said what they did.
-#[tactic(auto, using(crate::proofs::LineLemmas::commands_did, crate::proofs::LineLemmas::not_carried))]
+///
+/// # Errors
+///
+/// If the act is cut off; or if memory is refused for what is said.
+#[tactic(auto, using(crate::proofs::LineLemmas::commands_did, crate::proofs::LineLemmas::commands_began, crate::proofs::LineLemmas::commands_none))]
 fn carry_act<K: Keeper + Drop>(
     alloc: Global,
     program: &Program,
@@ -67,148 +123,145 @@ fn carry_act<K: Keeper + Drop>(
     sitting: &mut Sitting<K>,
     act: &Act,
     commands: &[Command],
-) -> Result<Carried, OperateEnd>
-    ensures did { CommandsDid commands.now sitting.old sitting.new }
+) -> Result<(), Cut>
+    ensures all { OnOk result (CommandsDid commands.now sitting.old sitting.new) }
+    ensures part { OnErr result (CommandsBegun commands.now sitting.old sitting.new) }
+    ensures faulted { IfErr result (λ cut. cut ≡ Cut.Faulted → notebook.new.is_faulted ≡ true) }
+    ensures stops { notebook.new.stops ≡ notebook.old.stops }
 {
     if sitting.begin_line().is_err() {
-        return Err(OperateEnd::Memory);
+        return Err(Cut::Over(OperateEnd::Memory));
     }
     if let Err(fault) = carry_all(sitting, commands) {
-        return match put_refused(notebook, fault) {
-            Ok(()) => Ok(Carried::Faulted),
-            Err(end) => Err(end),
-        };
+        return Err(refused(notebook, fault));
     }
-    match put_acted(alloc, program, notebook, sitting.machine(), act, commands) {
-        Ok(()) => Ok(Carried::All),
-        Err(_) => Err(OperateEnd::Memory),
+    match put_carried(alloc, program, notebook, sitting.room(), act, commands) {
+        Ok(()) => Ok(()),
+        Err(_) => Err(Cut::Over(OperateEnd::Memory)),
     }
 }
 
 /// An act's commands in turn, or its fault.
-#[tactic(auto, using(crate::proofs::LineLemmas::act_did, crate::proofs::LineLemmas::no_act))]
+///
+/// # Errors
+///
+/// As those of `carry_act`.
+#[tactic(auto, using(crate::proofs::LineLemmas::act_did, crate::proofs::LineLemmas::act_began, crate::proofs::LineLemmas::no_act))]
 fn do_commands<K: Keeper + Drop>(
     alloc: Global,
     program: &Program,
     notebook: &mut Notebook,
     sitting: &mut Sitting<K>,
     act: &Act,
-) -> Result<Carried, OperateEnd>
-    ensures did { ActDid program.now act.now sitting.old sitting.new }
+) -> Result<(), Cut>
+    ensures all { OnOk result (CommandsOfAct program.now act.now sitting.old sitting.new) }
+    ensures part { OnErr result (PartOfAct program.now act.now sitting.old sitting.new) }
+    ensures faulted { IfErr result (λ cut. cut ≡ Cut.Faulted → notebook.new.is_faulted ≡ true) }
+    ensures stops { notebook.new.stops ≡ notebook.old.stops }
 {
     match commands_of(alloc, program, sitting.machine(), act) {
         Ok(commands) => carry_act(alloc, program, notebook, sitting, act, commands.as_slice()),
-        Err(ActFault::Memory) => Err(OperateEnd::Memory),
+        Err(ActFault::Memory) => Err(Cut::Over(OperateEnd::Memory)),
         Err(fault) => match put_no_act(alloc, notebook, program, &fault) {
-            Ok(()) => Ok(Carried::Faulted),
-            Err(_) => Err(OperateEnd::Memory),
+            Ok(()) => Err(Cut::Faulted),
+            Err(_) => Err(Cut::Over(OperateEnd::Memory)),
         },
     }
 }
 
-/// `until ADDRESS`: how far it runs; none if its place has a fault, which is in the answer.
-fn extent_until(
-    alloc: Global,
-    program: &Program,
-    manner: &Manner,
-    notebook: &mut Notebook,
-    machine: &Machine,
-    place: &Place,
-) -> Result<Option<Extent>, AllocError> {
-    match program.address(machine, place) {
-        Ok(address) => Ok(Some(Extent::new(None, manner).up_to(address))),
-        Err(fault) => {
-            put_no_place(alloc, notebook, program, &fault)?;
-            Ok(None)
-        }
-    }
-}
-
-/// How far an act runs; none if it doesn't.
-fn extent_of(
-    alloc: Global,
-    program: &Program,
-    manner: &Manner,
-    notebook: &mut Notebook,
-    machine: &Machine,
-    act: &Act,
-) -> Result<Option<Extent>, AllocError> {
-    match act {
-        Act::Deposit { .. } | Act::Set { .. } | Act::Mark(_) | Act::Unmark(_) => Ok(None),
-        Act::Start(_) | Act::Switch { .. } | Act::Feed(_) | Act::Load => Ok(None),
-        Act::Deck(_) => Ok(None),
-        Act::Step(count) => Ok(Some(Extent::new(Some(*count), manner).with_lines())),
-        Act::Continue(count) => Ok(Some(Extent::new(*count, manner))),
-        Act::Until(place) => extent_until(alloc, program, manner, notebook, machine, place),
-        Act::Go(_) => Ok(Some(Extent::new(None, manner))),
-    }
-}
-
-/// The run of an act.
-#[tactic(auto, using(crate::proofs::RunLemmas::not_begun))]
-fn do_run<K: Keeper + Drop, D: Desk, R: Source + Terminal, W: Sink>(
+/// `until ADDRESS`.
+#[tactic(auto, using(crate::proofs::LineLemmas::until_did, crate::proofs::LineLemmas::until_nowhere))]
+fn do_until<K: Keeper + Drop, D: Desk, R: Source + Terminal, W: Sink>(
     alloc: Global,
     program: &Program,
     manner: &Manner,
     notebook: &mut Notebook,
     sitting: &mut Sitting<K>,
-    act: &Act,
+    place: &Place,
     desk: &mut D,
     reader: &mut R,
     writer: &mut W,
 ) -> Result<(), OperateEnd>
     requires { R.has_failed reader.old ≡ false }
-    ensures did { RunDid sitting.old sitting.new }
+    ensures did { UntilDid manner.now.limit (is_cut (is_err result) notebook.new)
+        (address_of program.now (machine_of sitting.old) place.now)
+        (at_console sitting.old notebook.old) (at_console sitting.new notebook.new) }
     ensures good { OnOk result (R.has_failed reader.new ≡ false) }
 {
-    match extent_of(alloc, program, manner, notebook, sitting.machine(), act) {
-        Ok(Some(extent)) => run(
-            alloc, program, manner, notebook, sitting, &extent, desk, reader, writer,
-        ),
-        Ok(None) => Ok(()),
-        Err(_) => Err(OperateEnd::Memory),
+    match program.address(sitting.machine(), place) {
+        Ok(address) => {
+            let extent = Extent::new(None, manner).up_to(address);
+            run(
+                alloc, program, manner, notebook, sitting, &extent, desk, reader, writer,
+            )
+        }
+        Err(fault) => match put_no_place(alloc, notebook, program, &fault) {
+            Ok(()) => Ok(()),
+            Err(_) => Err(OperateEnd::Memory),
+        },
     }
 }
 
-/// Takes the cards of a deck into the hand, and feeds what the hopper takes.
-#[tactic(auto, using(crate::proofs::RunLemmas::held_then, crate::proofs::RunLemmas::not_held))]
+/// Takes cards into the hand, and feeds what the hopper takes.
+///
+/// # Errors
+///
+/// As those of `carry_act`.
+#[tactic(auto, using(crate::proofs::LineLemmas::cards_done, crate::proofs::LineLemmas::cards_part, crate::proofs::LineLemmas::no_cards))]
+fn hold_cards<K: Keeper + Drop>(
+    notebook: &mut Notebook,
+    sitting: &mut Sitting<K>,
+    cards: Vec<Card>,
+) -> Result<(), Cut>
+    ensures all { OnOk result (CardsDone cards.items sitting.old sitting.new) }
+    ensures part { OnErr result (PartOfCards cards.items sitting.old sitting.new) }
+    ensures faulted { IfErr result (λ cut. cut ≡ Cut.Faulted → notebook.new.is_faulted ≡ true) }
+    ensures stops { notebook.new.stops ≡ notebook.old.stops }
+{
+    if sitting.hold(cards).is_err() {
+        return Err(Cut::Over(OperateEnd::Memory));
+    }
+    match tend(sitting) {
+        Ok(()) => Ok(()),
+        Err(fault) => Err(refused(notebook, fault)),
+    }
+}
+
+/// The cards of a deck.
+#[tactic(auto, using(crate::proofs::LineLemmas::deck_did))]
 fn do_cards<K: Keeper + Drop>(
     notebook: &mut Notebook,
     sitting: &mut Sitting<K>,
     name: &[u8],
     cards: Vec<Card>,
 ) -> Result<(), OperateEnd>
-    ensures did { TwoPieces sitting.old sitting.new }
+    ensures { DeckOfLine (is_cut (is_err result) notebook.new)
+        (at_console sitting.old notebook.old) (at_console sitting.new notebook.new) }
 {
     let count = cards.len() as u64;
-    if sitting.hold(cards).is_err() {
-        return Err(OperateEnd::Memory);
+    match hold_cards(notebook, sitting, cards) {
+        Ok(()) => {}
+        Err(Cut::Faulted) => return Ok(()),
+        Err(Cut::Over(end)) => return Err(end),
     }
-    if let Err(fault) = tend(sitting) {
-        return put_refused(notebook, fault);
-    }
-    let hand = sitting.hand() as u64;
-    match put_deck(
-        &mut notebook.page.text,
-        name,
-        count,
-        sitting.machine(),
-        hand,
-    ) {
+    let hand = sitting.hand();
+    let text = &mut notebook.page.text;
+    match put_deck(text, name, count, sitting.machine(), hand) {
         Ok(()) => Ok(()),
         Err(_) => Err(OperateEnd::Memory),
     }
 }
 
 /// The cards of a file.
-#[tactic(auto, using(crate::proofs::RunLemmas::no_pieces))]
+#[tactic(auto, using(crate::proofs::LineLemmas::no_deck))]
 fn do_deck<K: Keeper + Drop, D: Desk>(
     notebook: &mut Notebook,
     sitting: &mut Sitting<K>,
     name: &Text,
     desk: &mut D,
 ) -> Result<(), OperateEnd>
-    ensures did { TwoPieces sitting.old sitting.new }
+    ensures { DeckOfLine (is_cut (is_err result) notebook.new)
+        (at_console sitting.old notebook.old) (at_console sitting.new notebook.new) }
 {
     match desk.cards(name.as_slice()) {
         Ok(cards) => do_cards(notebook, sitting, name.as_slice(), cards),
@@ -219,8 +272,108 @@ fn do_deck<K: Keeper + Drop, D: Desk>(
     }
 }
 
-/// What follows the commands of an act: a run, or the cards of a deck.
-#[tactic(auto, using(crate::proofs::LineLemmas::nothing_follows))]
+/// A card in a list.
+fn listed(alloc: Global, card: Card) -> Result<Vec<Card>, AllocError>
+    ensures { IfOk result (λ cards. cards.items ≡ card ∷ []) }
+{
+    Vec::from_slice(alloc, from_ref(&card))
+}
+
+/// One card more.
+#[tactic(auto, using(crate::proofs::LineLemmas::card_did, crate::proofs::LineLemmas::no_card))]
+fn do_card<K: Keeper + Drop>(
+    alloc: Global,
+    notebook: &mut Notebook,
+    sitting: &mut Sitting<K>,
+    card: Card,
+) -> Result<(), OperateEnd>
+    ensures { CardsOfLine (is_cut (is_err result) notebook.new) (card ∷ [])
+        (at_console sitting.old notebook.old) (at_console sitting.new notebook.new) }
+{
+    let Ok(cards) = listed(alloc, card) else {
+        return Err(OperateEnd::Memory);
+    };
+    match hold_cards(notebook, sitting, cards) {
+        Ok(()) => {}
+        Err(Cut::Faulted) => return Ok(()),
+        Err(Cut::Over(end)) => return Err(end),
+    }
+    let hand = sitting.hand();
+    match put_fed(&mut notebook.page.text, sitting.machine(), hand) {
+        Ok(()) => Ok(()),
+        Err(_) => Err(OperateEnd::Memory),
+    }
+}
+
+/// `feed TEXT`.
+#[tactic(auto, using(crate::proofs::LineLemmas::feed_did, crate::proofs::LineLemmas::feed_nothing))]
+fn do_feed<K: Keeper + Drop>(
+    alloc: Global,
+    program: &Program,
+    notebook: &mut Notebook,
+    sitting: &mut Sitting<K>,
+    text: &Text,
+) -> Result<(), OperateEnd>
+    ensures { FeedDid (is_cut (is_err result) notebook.new) (card_in text.now)
+        (at_console sitting.old notebook.old) (at_console sitting.new notebook.new) }
+{
+    match read_card(text.as_slice()) {
+        Ok(card) => do_card(alloc, notebook, sitting, card),
+        Err(fault) => match put_no_act(alloc, notebook, program, &fault) {
+            Ok(()) => Ok(()),
+            Err(_) => Err(OperateEnd::Memory),
+        },
+    }
+}
+
+/// Adds what the load key has done: the instruction that is next, or that the machine refused it.
+fn put_loaded(
+    alloc: Global,
+    program: &Program,
+    notebook: &mut Notebook,
+    room: &Room,
+    commands: &[Command],
+) -> Result<(), AllocError>
+    ensures { notebook.new.stops ≡ notebook.old.stops }
+{
+    match refusal_of_last(room.journal(), commands) {
+        Some(refusal) => put_refusal(notebook, refusal),
+        None => put_next(alloc, &mut notebook.page.text, program, room.machine()),
+    }
+}
+
+/// `load`, after what devices want: the hopper has cards then, if some are in hand.
+#[tactic(auto, using(crate::proofs::LineLemmas::load_done, crate::proofs::LineLemmas::load_part, crate::proofs::LineLemmas::no_load))]
+fn do_load<K: Keeper + Drop>(
+    alloc: Global,
+    program: &Program,
+    notebook: &mut Notebook,
+    sitting: &mut Sitting<K>,
+) -> Result<(), OperateEnd>
+    ensures { LoadOfLine (is_cut (is_err result) notebook.new)
+        (at_console sitting.old notebook.old) (at_console sitting.new notebook.new) }
+{
+    let commands = [Command::LoadKey];
+    if let Err(fault) = tend(sitting) {
+        return put_refused(notebook, fault);
+    }
+    if let Err(fault) = carry_all(sitting, commands.as_slice()) {
+        return put_refused(notebook, fault);
+    }
+    match put_loaded(
+        alloc,
+        program,
+        notebook,
+        sitting.room(),
+        commands.as_slice(),
+    ) {
+        Ok(()) => Ok(()),
+        Err(_) => Err(OperateEnd::Memory),
+    }
+}
+
+/// What follows the commands of an act: a run, cards, or the load key.
+#[tactic(auto, using(crate::proofs::LineLemmas::left))]
 fn follow<K: Keeper + Drop, D: Desk, R: Source + Terminal, W: Sink>(
     alloc: Global,
     program: &Program,
@@ -233,16 +386,37 @@ fn follow<K: Keeper + Drop, D: Desk, R: Source + Terminal, W: Sink>(
     writer: &mut W,
 ) -> Result<(), OperateEnd>
     requires { R.has_failed reader.old ≡ false }
-    ensures did { FollowDid act.now sitting.old sitting.new }
+    ensures did { FollowDid program.now manner.now.limit (is_cut (is_err result) notebook.new) act.now
+        (at_console sitting.old notebook.old) (at_console sitting.new notebook.new) }
     ensures good { OnOk result (R.has_failed reader.new ≡ false) }
 {
     match act {
         Act::Deposit { .. } | Act::Set { .. } | Act::Mark(_) | Act::Unmark(_) => Ok(()),
-        Act::Start(_) | Act::Switch { .. } | Act::Feed(_) | Act::Load => Ok(()),
+        Act::Start(_) | Act::Switch { .. } => Ok(()),
+        Act::Load => do_load(alloc, program, notebook, sitting),
+        Act::Feed(text) => do_feed(alloc, program, notebook, sitting, text),
         Act::Deck(name) => do_deck(notebook, sitting, name, desk),
-        Act::Step(_) | Act::Continue(_) | Act::Until(_) | Act::Go(_) => do_run(
-            alloc, program, manner, notebook, sitting, act, desk, reader, writer,
+        Act::Until(place) => do_until(
+            alloc, program, manner, notebook, sitting, place, desk, reader, writer,
         ),
+        Act::Step(count) => {
+            let extent = Extent::new(Some(*count), manner).with_lines();
+            run(
+                alloc, program, manner, notebook, sitting, &extent, desk, reader, writer,
+            )
+        }
+        Act::Continue(count) => {
+            let extent = Extent::new(*count, manner);
+            run(
+                alloc, program, manner, notebook, sitting, &extent, desk, reader, writer,
+            )
+        }
+        Act::Go(_) => {
+            let extent = Extent::new(None, manner);
+            run(
+                alloc, program, manner, notebook, sitting, &extent, desk, reader, writer,
+            )
+        }
     }
 }
 
@@ -251,7 +425,7 @@ fn follow<K: Keeper + Drop, D: Desk, R: Source + Terminal, W: Sink>(
 /// # Errors
 ///
 /// If the sitting ends.
-#[tactic(auto, using(crate::proofs::LineLemmas::followed, crate::proofs::LineLemmas::nothing_follows))]
+#[tactic(auto, using(crate::proofs::LineLemmas::whole_act, crate::proofs::LineLemmas::cut_act))]
 pub(crate) fn do_act<K: Keeper + Drop, D: Desk, R: Source + Terminal, W: Sink>(
     alloc: Global,
     program: &Program,
@@ -264,14 +438,15 @@ pub(crate) fn do_act<K: Keeper + Drop, D: Desk, R: Source + Terminal, W: Sink>(
     writer: &mut W,
 ) -> Result<(), OperateEnd>
     requires { R.has_failed reader.old ≡ false }
-    ensures did { ActOfLine program.now act.now sitting.old sitting.new }
+    ensures did { ActDid program.now manner.now.limit (is_cut (is_err result) notebook.new) act.now
+        (at_console sitting.old notebook.old) (at_console sitting.new notebook.new) }
     ensures good { OnOk result (R.has_failed reader.new ≡ false) }
 {
     match do_commands(alloc, program, notebook, sitting, act) {
-        Ok(Carried::All) => follow(
+        Ok(()) => follow(
             alloc, program, manner, notebook, sitting, act, desk, reader, writer,
         ),
-        Ok(Carried::Faulted) => Ok(()),
-        Err(end) => Err(end),
+        Err(Cut::Faulted) => Ok(()),
+        Err(Cut::Over(end)) => Err(end),
     }
 }

@@ -23,6 +23,7 @@ pub(crate) fn carry_all<K: Keeper + Drop>(
     ensures first { CarriedFirst sitting.old.account.room.size commands.now
         (journal_of sitting.old) (journal_of sitting.new) }
     ensures size { sitting.new.account.room.size ≡ sitting.old.account.room.size }
+    ensures notes { sitting.new.notes ≡ sitting.old.notes }
 {
     let [command, more @ ..] = commands else {
         return Ok(());

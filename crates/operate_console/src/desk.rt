@@ -12,6 +12,9 @@ pub enum FileFault {
     /// It isn't there, or can't be read.
     #[error("can't be read")]
     Unreadable,
+    /// It is a folder, a pipe or a device: reading it might never end.
+    #[error("isn't a regular file")]
+    Irregular,
     /// It is there already, and isn't written over.
     #[error("is there already")]
     Exists,
@@ -85,6 +88,7 @@ pub fn put_file_fault(text: &mut Vec<u8>, name: &[u8], fault: FileFault) -> Resu
     text.extend_from_slice(name)?;
     match fault {
         FileFault::Unreadable => text.extend_from_slice(b" can't be read".as_slice()),
+        FileFault::Irregular => text.extend_from_slice(b" isn't a regular file".as_slice()),
         FileFault::Exists => text.extend_from_slice(
             b" is there already, and isn't written over".as_slice(),
         ),

@@ -41,6 +41,6 @@ pub struct Operated<K: Keeper + Drop> {
     pub sitting: Option<Sitting<K>>,
     /// Why it ended.
     pub end: OperateEnd,
-    /// Whether a line had a fault, or an `assert` failed.
-    pub has_faults: bool,
+    /// How many lines had a fault. An `assert` that fails is one.
+    pub faults: u32,
 }

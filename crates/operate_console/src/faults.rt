@@ -1,8 +1,13 @@
 //! The faults of a line in its answer.
+ghost use Rattle.std.specs.Prelude.{◌≡◌, true, is_err};
+ghost use Rattle.operate_console.specs.Line.{is_cut};
+ghost use Rattle.operate_console.specs.Run.{faulted};
 
 use crate::desk::{FileFault, put_file_fault};
 use crate::ends::OperateEnd;
 use crate::notebook::Notebook;
+use machine_execution::Refusal;
+use machine_notation::put_digits;
 use operate_answers::{LookFault, put_look_fault, put_order_fault};
 use operate_orders::OrderFault;
 use operate_program::{ActFault, PlaceFault, Program, put_act_fault, put_place_fault};
@@ -11,7 +16,9 @@ use room_alone::RoomFault;
 use std::alloc::{AllocError, Global};
 
 /// The line says nothing.
-pub(crate) fn put_no_order(notebook: &mut Notebook, fault: &OrderFault) -> Result<(), AllocError> {
+pub(crate) fn put_no_order(notebook: &mut Notebook, fault: &OrderFault) -> Result<(), AllocError>
+    ensures { notebook.new ≡ faulted notebook.old }
+{
     let from = notebook.begin_fault()?;
     put_order_fault(&mut notebook.page.text, fault)?;
     notebook.end_fault(from)
@@ -23,7 +30,9 @@ pub(crate) fn put_no_act(
     notebook: &mut Notebook,
     program: &Program,
     fault: &ActFault,
-) -> Result<(), AllocError> {
+) -> Result<(), AllocError>
+    ensures { notebook.new ≡ faulted notebook.old }
+{
     let from = notebook.begin_fault()?;
     put_act_fault(alloc, &mut notebook.page.text, program, fault)?;
     notebook.end_fault(from)
@@ -35,7 +44,9 @@ pub(crate) fn put_no_place(
     notebook: &mut Notebook,
     program: &Program,
     fault: &PlaceFault,
-) -> Result<(), AllocError> {
+) -> Result<(), AllocError>
+    ensures { notebook.new ≡ faulted notebook.old }
+{
     let from = notebook.begin_fault()?;
     put_place_fault(alloc, &mut notebook.page.text, program, fault)?;
     notebook.end_fault(from)
@@ -47,7 +58,9 @@ pub(crate) fn put_no_look(
     notebook: &mut Notebook,
     program: &Program,
     fault: &LookFault,
-) -> Result<(), AllocError> {
+) -> Result<(), AllocError>
+    ensures { notebook.new ≡ faulted notebook.old }
+{
     let from = notebook.begin_fault()?;
     put_look_fault(alloc, &mut notebook.page.text, program, fault)?;
     notebook.end_fault(from)
@@ -58,22 +71,62 @@ pub(crate) fn put_no_file(
     notebook: &mut Notebook,
     name: &[u8],
     fault: FileFault,
-) -> Result<(), AllocError> {
+) -> Result<(), AllocError>
+    ensures { notebook.new ≡ faulted notebook.old }
+{
     let from = notebook.begin_fault()?;
     put_file_fault(&mut notebook.page.text, name, fault)?;
     notebook.end_fault(from)
 }
 
+/// Fewer lines can be taken back than are to be.
+fn put_undoable(notebook: &mut Notebook, lines: usize) -> Result<(), AllocError>
+    ensures { notebook.new ≡ faulted notebook.old }
+{
+    let from = notebook.begin_fault()?;
+    let text = &mut notebook.page.text;
+    match lines {
+        0 => text.extend_from_slice(b"no line has recorded anything by now".as_slice())?,
+        1 => text.extend_from_slice(b"only one line has recorded anything".as_slice())?,
+        lines => {
+            text.extend_from_slice(b"only ".as_slice())?;
+            put_digits(text, 1, lines as u64)?;
+            text.extend_from_slice(b" lines have recorded anything".as_slice())?;
+        }
+    }
+    notebook.end_fault(from)
+}
+
 /// The machine can't go back.
-pub(crate) fn put_no_past(notebook: &mut Notebook, fault: PastFault) -> Result<(), AllocError> {
+pub(crate) fn put_no_past(notebook: &mut Notebook, fault: PastFault) -> Result<(), AllocError>
+    ensures { notebook.new ≡ faulted notebook.old }
+{
     match fault {
         PastFault::Memory => notebook.put_fault(
             b"there is no memory for the earlier machine".as_slice(),
         ),
-        PastFault::NothingToUndo => notebook.put_fault(
-            b"fewer lines recorded something".as_slice(),
+        PastFault::NothingToUndo { lines } => put_undoable(notebook, lines),
+        PastFault::Interrupted => notebook.put_fault(
+            b"interrupted: the machine is where it was".as_slice(),
         ),
         PastFault::TooFew => notebook.put_fault(b"fewer instructions were carried out".as_slice()),
+    }
+}
+
+/// The machine refused the last command of a line. The journal has it with that answer.
+pub(crate) fn put_refusal(notebook: &mut Notebook, refusal: Refusal) -> Result<(), AllocError>
+    ensures { notebook.new ≡ faulted notebook.old }
+{
+    match refusal {
+        Refusal::Hopper => notebook.put_fault(
+            b"refused: the hopper is full, it has 500 cards".as_slice(),
+        ),
+        Refusal::Reader => notebook.put_fault(
+            b"refused: the load key needs a card in the hopper".as_slice(),
+        ),
+        Refusal::Address | Refusal::Empty | Refusal::Limit | Refusal::Count => {
+            notebook.put_fault(b"the machine refused it".as_slice())
+        }
     }
 }
 
@@ -82,7 +135,10 @@ pub(crate) fn put_no_past(notebook: &mut Notebook, fault: PastFault) -> Result<(
 /// # Errors
 ///
 /// `Unkept` if an entry isn't kept: the sitting is over. `Memory` if there is none for the text.
-pub(crate) fn put_refused(notebook: &mut Notebook, fault: RoomFault) -> Result<(), OperateEnd> {
+pub(crate) fn put_refused(notebook: &mut Notebook, fault: RoomFault) -> Result<(), OperateEnd>
+    ensures cut { is_cut (is_err result) notebook.new ≡ true }
+    ensures stops { notebook.new.stops ≡ notebook.old.stops }
+{
     match fault {
         RoomFault::Unkept => return Err(OperateEnd::Unkept),
         RoomFault::JournalFull => notebook.put_fault(

@@ -1,149 +1,154 @@
 //! Lines that go back.
-ghost use Rattle.std.specs.Prelude.{◌≡◌, IfOk, IfSome};
-ghost use Rattle.operate_console.specs.Line.{EarlierIs, PastDid};
+ghost use Rattle.std.specs.Prelude.{◌≡◌, ◌||◌, true, false, not, None, Ok, IfOk, OnOk, is_some};
+ghost use Rattle.operate_console.specs.Line.{EarlierIs, PastDid, is_cut};
+ghost use Rattle.operate_console.specs.Run.{faulted};
 
-use crate::desk::Desk;
+use crate::desk::{Desk, FileFault};
 use crate::ends::OperateEnd;
 use crate::faults::{put_no_file, put_no_past};
+use crate::listening::Listener;
+use crate::manner::Manner;
 use crate::notebook::Notebook;
+use crate::terminal::Terminal;
+use crate::waiting::Waiting;
+use bytes_streams::Source;
 use cpu_1401::Machine;
-use operate_answers::{put_next, put_undone};
+use operate_answers::{put_dropped, put_next, put_undone};
 use operate_orders::{Past, Text};
 use operate_program::Program;
 use operate_sitting::{Cutter, Earlier, PastFault, Sitting};
-use room_alone::{Keeper, Room};
+use room_alone::Keeper;
 use std::alloc::{AllocError, Global};
+use std::mem::replace;
 
 /// A sitting after a line, and its end, if that was it.
 pub(crate) type After<K> = (Sitting<K>, Option<OperateEnd>);
 
-/// The room of a journal in a file; none if it can't be read, and its fault is in the answer.
-fn room_of<D: Desk>(
-    notebook: &mut Notebook,
-    desk: &mut D,
-    name: &Text,
-) -> Result<Option<Room>, AllocError> {
-    match desk.journal(name.as_slice()) {
-        Ok(room) => Ok(Some(room)),
-        Err(fault) => {
-            put_no_file(notebook, name.as_slice(), fault)?;
-            Ok(None)
-        }
-    }
+/// Why a line goes nowhere.
+#[derive(Clone, Copy, Debug, PartialEq, Eq)]
+enum NoPast {
+    /// The sitting can't go back.
+    Past(PastFault),
+    /// The journal of a file isn't read.
+    File(FileFault),
 }
 
-/// The room of `undo`.
-fn undone<K: Keeper + Drop>(
-    alloc: Global,
-    notebook: &mut Notebook,
-    sitting: &Sitting<K>,
-    lines: u32,
-) -> Result<Option<Earlier>, AllocError>
-    ensures { IfOk result (λ found. IfSome found (EarlierIs (Past.Undo lines) sitting.now)) }
+/// An earlier room of the sitting's own journal.
+fn own(found: Result<Earlier, PastFault>) -> Result<Earlier, NoPast>
+    ensures { IfOk result (λ earlier. found ≡ Ok earlier) }
 {
-    match sitting.undone(alloc, lines) {
-        Ok(earlier) => Ok(Some(earlier)),
-        Err(fault) => {
-            put_no_past(notebook, fault)?;
-            Ok(None)
-        }
+    match found {
+        Ok(earlier) => Ok(earlier),
+        Err(fault) => Err(NoPast::Past(fault)),
     }
 }
 
-/// The room of `back`.
-fn earlier<K: Keeper + Drop>(
-    alloc: Global,
-    notebook: &mut Notebook,
-    sitting: &Sitting<K>,
-    instructions: u32,
-) -> Result<Option<Earlier>, AllocError>
-    ensures { IfOk result (λ found. IfSome found (EarlierIs (Past.Back instructions) sitting.now)) }
-{
-    match sitting.earlier(alloc, u64::from(instructions)) {
-        Ok(earlier) => Ok(Some(earlier)),
-        Err(fault) => {
-            put_no_past(notebook, fault)?;
-            Ok(None)
-        }
-    }
-}
-
-/// The room of `restart`.
-fn restarted<K: Keeper + Drop>(
-    alloc: Global,
-    notebook: &mut Notebook,
-    sitting: &Sitting<K>,
-) -> Result<Option<Earlier>, AllocError>
-    ensures { IfOk result (λ found. IfSome found (EarlierIs Past.Restart sitting.now)) }
-{
-    match sitting.restarted(alloc) {
-        Ok(earlier) => Ok(Some(earlier)),
-        Err(fault) => {
-            put_no_past(notebook, fault)?;
-            Ok(None)
-        }
-    }
-}
-
-/// The room of `restore`.
+/// The room of the journal in a file.
+#[tactic(auto, using(crate::proofs::LineLemmas::earlier_is))]
 fn restored<K: Keeper + Drop, D: Desk>(
     alloc: Global,
-    notebook: &mut Notebook,
     sitting: &Sitting<K>,
     name: &Text,
     desk: &mut D,
-) -> Result<Option<Earlier>, AllocError>
-    ensures { IfOk result (λ found. IfSome found (EarlierIs (Past.Restore name.now) sitting.now)) }
+) -> Result<Earlier, NoPast>
+    ensures { IfOk result (EarlierIs (Past.Restore name.now) sitting.now) }
 {
-    let Some(room) = room_of(notebook, desk, name)? else {
-        return Ok(None);
-    };
-    match Sitting::<K>::restored(alloc, room) {
-        Ok(earlier) => Ok(Some(earlier)),
-        Err(fault) => {
-            put_no_past(notebook, fault)?;
-            Ok(None)
-        }
+    match desk.journal(name.as_slice()) {
+        Ok(room) => own(Sitting::<K>::restored(alloc, room)),
+        Err(fault) => Err(NoPast::File(fault)),
     }
 }
 
-/// The room that a line goes back to; none if there is none, and its fault is in the answer.
-fn earlier_of<K: Keeper + Drop, D: Desk>(
+/// The room that a line goes back to. A person may interrupt its commands, which are carried out again.
+#[tactic(auto, using(crate::proofs::LineLemmas::earlier_is))]
+fn earlier_of<K: Keeper + Drop, D: Desk, R: Source + Terminal>(
     alloc: Global,
-    notebook: &mut Notebook,
     sitting: &Sitting<K>,
     past: &Past,
     desk: &mut D,
-) -> Result<Option<Earlier>, AllocError>
-    ensures { IfOk result (λ found. IfSome found (EarlierIs past.now sitting.now)) }
+    listener: &mut Listener,
+    reader: &mut R,
+) -> Result<Earlier, NoPast>
+    requires { (is_some listener.old.end || not (R.has_failed reader.old)) ≡ true }
+    ensures earlier { IfOk result (EarlierIs past.now sitting.now) }
+    ensures good { (is_some listener.new.end || not (R.has_failed reader.new)) ≡ true }
 {
     match past {
-        Past::Undo(lines) => undone(alloc, notebook, sitting, *lines),
-        Past::Back(instructions) => earlier(alloc, notebook, sitting, *instructions),
-        Past::Restart => restarted(alloc, notebook, sitting),
-        Past::Restore(name) => restored(alloc, notebook, sitting, name, desk),
+        Past::Undo(lines) => own(sitting.undone(alloc, *lines, listener, reader)),
+        Past::Back(count) => own(sitting.earlier(alloc, u64::from(*count), listener, reader)),
+        Past::Restart => own(sitting.restarted(alloc, listener, reader)),
+        Past::Restore(name) => restored(alloc, sitting, name, desk),
     }
 }
 
-/// Adds where the machine is now, and after `undo` how many commands are gone.
+/// Adds why a line goes nowhere, as its fault.
+fn put_nowhere(notebook: &mut Notebook, past: &Past, fault: NoPast) -> Result<(), AllocError>
+    ensures { notebook.new ≡ faulted notebook.old }
+{
+    match fault {
+        NoPast::Past(fault) => put_no_past(notebook, fault),
+        NoPast::File(fault) => put_no_file(notebook, name_in(past), fault),
+    }
+}
+
+/// The file that a line names which goes back; empty if it names none.
+fn name_in(past: &Past) -> &[u8] {
+    match past {
+        Past::Restore(name) => name.as_slice(),
+        Past::Undo(_) | Past::Back(_) | Past::Restart => &[],
+    }
+}
+
+/// Adds that the file of this name, if there is one, has the journal of the machine.
+fn put_file(text: &mut Vec<u8>, file: &[u8]) -> Result<(), AllocError> {
+    if file.is_empty() {
+        return Ok(());
+    }
+    text.extend_from_slice(file)?;
+    text.extend_from_slice(b" has the journal up to here; ".as_slice())
+}
+
+/// What is gone after a line that went back.
+#[derive(Clone, Copy, Debug, PartialEq, Eq)]
+struct Gone {
+    /// How many commands.
+    commands: u64,
+    /// How many cards in hand.
+    cards: usize,
+}
+
+/// Adds where the machine is now, what its file has, and what is gone: after `undo` commands and cards, after `restore`
+/// the cards in hand.
 fn put_gone(
     alloc: Global,
     program: &Program,
     notebook: &mut Notebook,
     machine: &Machine,
     past: &Past,
-    gone: u64,
+    gone: Gone,
     file: &[u8],
-) -> Result<(), AllocError> {
+) -> Result<(), AllocError>
+    ensures { notebook.new ≡ notebook.old }
+{
     notebook.why.clear();
+    notebook
+        .why
+        .extend_from_slice(b"nothing has run since the machine went back".as_slice())?;
     notebook.pass_paper(machine);
     let text = &mut notebook.page.text;
     match past {
         Past::Undo(_) => {
             let file = if file.is_empty() { None } else { Some(file) };
-            put_undone(alloc, text, program, machine, gone, file)
+            let Gone { commands, cards } = gone;
+            put_undone(alloc, text, program, machine, commands, cards as u64, file)
         }
-        Past::Back(_) | Past::Restart | Past::Restore(_) => {
+        Past::Back(_) | Past::Restart => {
+            put_file(text, file)?;
+            put_next(alloc, text, program, machine)
+        }
+        Past::Restore(_) => {
+            put_dropped(text, gone.cards)?;
+            put_file(text, file)?;
             put_next(alloc, text, program, machine)
         }
     }
@@ -162,14 +167,20 @@ fn go_back<K: Keeper + Drop, C: Cutter<K>, D: Desk>(
     cutter: &mut C,
 ) -> Result<After<K>, OperateEnd>
     requires { EarlierIs past.now sitting earlier }
-    ensures { IfOk result (λ after. PastDid past.now sitting after.0) }
+    ensures did { IfOk result (λ after.
+        PastDid (is_cut (is_some after.1) notebook.new) past.now sitting after.0) }
+    ensures stops { notebook.new.stops ≡ notebook.old.stops }
 {
-    let before = sitting.journal().len();
+    let entries = sitting.journal().len();
+    let hand = sitting.hand();
     let sitting = match sitting.take_over(earlier, cutter) {
         Ok(sitting) => sitting,
         Err(_) => return Err(OperateEnd::Unkept),
     };
-    let gone = before.saturating_sub(sitting.journal().len()) as u64;
+    let gone = Gone {
+        commands: entries.saturating_sub(sitting.journal().len()) as u64,
+        cards: hand.saturating_sub(sitting.hand()),
+    };
     match put_gone(
         alloc,
         program,
@@ -184,28 +195,67 @@ fn go_back<K: Keeper + Drop, C: Cutter<K>, D: Desk>(
     }
 }
 
+/// The room that a line goes back to, unless the sitting ends while it is made.
+#[tactic(auto, using(crate::proofs::LineLemmas::is_heard))]
+fn listened<K: Keeper + Drop, D: Desk, R: Source + Terminal>(
+    alloc: Global,
+    manner: &Manner,
+    notebook: &mut Notebook,
+    sitting: &Sitting<K>,
+    past: &Past,
+    desk: &mut D,
+    reader: &mut R,
+) -> Result<Result<Earlier, NoPast>, OperateEnd>
+    requires { R.has_failed reader.old ≡ false }
+    ensures earlier { IfOk result (λ found. IfOk found (EarlierIs past.now sitting.now)) }
+    ensures noted { notebook.new ≡ notebook.old }
+    ensures good { OnOk result (R.has_failed reader.new ≡ false) }
+{
+    let waiting = replace(&mut notebook.waiting, Waiting::new(alloc));
+    let mut listener = Listener::new(alloc, manner, waiting);
+    let found = earlier_of(alloc, sitting, past, desk, &mut listener, reader);
+    let Listener { waiting, end, .. } = listener;
+    notebook.waiting = waiting;
+    match end {
+        None => Ok(found),
+        Some(end) => Err(end),
+    }
+}
+
 /// Does a line that goes back.
 ///
 /// # Errors
 ///
 /// `Unkept` if an entry wasn't kept, or what keeps the journal couldn't be cut. The sitting is lost then.
 #[tactic(auto, using(crate::proofs::LineLemmas::no_past))]
-pub(crate) fn do_past<K: Keeper + Drop, C: Cutter<K>, D: Desk>(
+pub(crate) fn do_past<K: Keeper + Drop, C: Cutter<K>, D: Desk, R: Source + Terminal>(
     alloc: Global,
     program: &Program,
+    manner: &Manner,
     notebook: &mut Notebook,
     sitting: Sitting<K>,
     past: &Past,
     desk: &mut D,
     cutter: &mut C,
+    reader: &mut R,
 ) -> Result<After<K>, OperateEnd>
-    ensures { IfOk result (λ after. PastDid past.now sitting after.0) }
+    requires { R.has_failed reader.old ≡ false }
+    ensures did { IfOk result (λ after.
+        PastDid (is_cut (is_some after.1) notebook.new) past.now sitting after.0) }
+    ensures stops { notebook.new.stops ≡ notebook.old.stops }
+    ensures good { IfOk result (λ after. after.1 ≡ None → R.has_failed reader.new ≡ false) }
 {
-    match earlier_of(alloc, notebook, &sitting, past, desk) {
-        Ok(Some(earlier)) => go_back(
+    let found = match listened(alloc, manner, notebook, &sitting, past, desk, reader) {
+        Ok(found) => found,
+        Err(end) => return Ok((sitting, Some(end))),
+    };
+    match found {
+        Ok(earlier) => go_back(
             alloc, program, notebook, sitting, past, earlier, desk, cutter,
         ),
-        Ok(None) => Ok((sitting, None)),
-        Err(_) => Ok((sitting, Some(OperateEnd::Memory))),
+        Err(fault) => match put_nowhere(notebook, past, fault) {
+            Ok(()) => Ok((sitting, None)),
+            Err(_) => Ok((sitting, Some(OperateEnd::Memory))),
+        },
     }
 }

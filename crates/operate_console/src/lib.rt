@@ -18,8 +18,9 @@ pub mod terminal;
 // how it ends
 pub mod ends;
 
-// lines that are typed, and those that wait
+// lines that are typed, those of files, and those that wait
 mod listening;
+pub mod script;
 mod typed;
 mod waiting;
 
@@ -28,12 +29,17 @@ mod faults;
 mod notebook;
 mod page;
 
+// runs: how far they go, what ends them, and their rounds
+mod extent;
+mod rounds;
+mod run_stops;
+mod running;
+
 // lines that act, those that go back, and all others
 mod acting;
 mod carrying;
 mod going_back;
 mod noting;
-mod running;
 
 // a line, and lines one after the other
 mod lines;
@@ -43,4 +49,5 @@ pub use desk::{Desk, FileFault};
 pub use ends::{OperateEnd, Operated};
 pub use manner::Manner;
 pub use operating::operate;
+pub use script::Script;
 pub use terminal::Terminal;

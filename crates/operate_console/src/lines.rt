@@ -1,6 +1,7 @@
 //! What a line does.
-ghost use Rattle.std.specs.Prelude.{◌≡◌, false, None, IfOk};
-ghost use Rattle.operate_console.specs.Line.{ActOfLine, LineDid, OrderDid};
+ghost use Rattle.std.specs.Prelude.{◌≡◌, false, None, IfOk, is_some};
+ghost use Rattle.operate_console.specs.Line.{ActDid, LineDid, NoteOfLine, OrderDid, is_cut};
+ghost use Rattle.operate_console.specs.Run.{at_console};
 
 use crate::acting::do_act;
 use crate::desk::Desk;
@@ -12,7 +13,7 @@ use crate::notebook::Notebook;
 use crate::noting::{do_look, do_note};
 use crate::terminal::Terminal;
 use bytes_streams::{Sink, Source};
-use operate_orders::{Act, Order, OrderFault};
+use operate_orders::{Act, Note, Order, OrderFault};
 use operate_program::Program;
 use operate_sitting::{Cutter, Sitting};
 use room_alone::Keeper;
@@ -22,6 +23,34 @@ use std::alloc::{AllocError, Global};
 fn same<K: Keeper + Drop>(sitting: Sitting<K>, done: Result<(), AllocError>) -> After<K>
     ensures { result.0 ≡ sitting }
 {
+    match done {
+        Ok(()) => (sitting, None),
+        Err(_) => (sitting, Some(OperateEnd::Memory)),
+    }
+}
+
+/// A line that notes something.
+#[tactic(auto, using(crate::proofs::LineLemmas::note_of_line))]
+fn note<K: Keeper + Drop, D: Desk>(
+    alloc: Global,
+    program: &Program,
+    notebook: &mut Notebook,
+    sitting: Sitting<K>,
+    note: &Note,
+    desk: &mut D,
+) -> After<K>
+    ensures { NoteOfLine program.now (is_cut (is_some result.1) notebook.new) note.now
+        (at_console sitting notebook.old) (at_console result.0 notebook.new) }
+{
+    let done = do_note(
+        alloc,
+        program,
+        notebook,
+        sitting.room(),
+        sitting.hand(),
+        note,
+        desk,
+    );
     match done {
         Ok(()) => (sitting, None),
         Err(_) => (sitting, Some(OperateEnd::Memory)),
@@ -41,7 +70,8 @@ fn act<K: Keeper + Drop, D: Desk, R: Source + Terminal, W: Sink>(
     writer: &mut W,
 ) -> After<K>
     requires { R.has_failed reader.old ≡ false }
-    ensures did { ActOfLine program.now act.now sitting result.0 }
+    ensures did { ActDid program.now manner.now.limit (is_cut (is_some result.1) notebook.new) act.now
+        (at_console sitting notebook.old) (at_console result.0 notebook.new) }
     ensures good { result.1 ≡ None → R.has_failed reader.new ≡ false }
 {
     let mut sitting = sitting;
@@ -63,7 +93,7 @@ fn act<K: Keeper + Drop, D: Desk, R: Source + Terminal, W: Sink>(
 }
 
 /// Does what a line orders.
-#[tactic(auto, using(crate::proofs::LineLemmas::same))]
+#[tactic(auto, using(crate::proofs::LineLemmas::left, crate::proofs::LineLemmas::past_of_line))]
 fn do_order<K: Keeper + Drop, C: Cutter<K>, D: Desk, R: Source + Terminal, W: Sink>(
     alloc: Global,
     program: &Program,
@@ -77,23 +107,31 @@ fn do_order<K: Keeper + Drop, C: Cutter<K>, D: Desk, R: Source + Terminal, W: Si
     writer: &mut W,
 ) -> Result<After<K>, OperateEnd>
     requires { R.has_failed reader.old ≡ false }
-    ensures did { IfOk result (λ after. OrderDid program.now order.now sitting after.0) }
+    ensures did { IfOk result (λ after. OrderDid program.now manner.now.limit
+        (is_cut (is_some after.1) notebook.new) order.now
+        (at_console sitting notebook.old) (at_console after.0 notebook.new)) }
     ensures good { IfOk result (λ after. after.1 ≡ None → R.has_failed reader.new ≡ false) }
 {
     match order {
         Order::Nothing => Ok((sitting, None)),
         Order::Look(look) => {
-            let done = do_look(alloc, program, notebook, sitting.room(), look);
+            let done = do_look(
+                alloc,
+                program,
+                notebook,
+                sitting.room(),
+                sitting.hand(),
+                look,
+            );
             Ok(same(sitting, done))
         }
-        Order::Note(note) => {
-            let done = do_note(alloc, program, notebook, sitting.room(), note, desk);
-            Ok(same(sitting, done))
-        }
+        Order::Note(order) => Ok(note(alloc, program, notebook, sitting, order, desk)),
         Order::Act(order) => Ok(act(
             alloc, program, manner, notebook, sitting, order, desk, reader, writer,
         )),
-        Order::Past(past) => do_past(alloc, program, notebook, sitting, past, desk, cutter),
+        Order::Past(past) => do_past(
+            alloc, program, manner, notebook, sitting, past, desk, cutter, reader,
+        ),
         Order::Quit => Ok((sitting, Some(OperateEnd::Quit))),
     }
 }
@@ -103,7 +141,7 @@ fn do_order<K: Keeper + Drop, C: Cutter<K>, D: Desk, R: Source + Terminal, W: Si
 /// # Errors
 ///
 /// `Unkept` if what keeps the journal couldn't be cut. The sitting is lost then.
-#[tactic(auto, using(crate::proofs::LineLemmas::same))]
+#[tactic(auto, using(crate::proofs::LineLemmas::left))]
 pub(crate) fn do_line<K: Keeper + Drop, C: Cutter<K>, D: Desk, R: Source + Terminal, W: Sink>(
     alloc: Global,
     program: &Program,
@@ -117,7 +155,9 @@ pub(crate) fn do_line<K: Keeper + Drop, C: Cutter<K>, D: Desk, R: Source + Termi
     writer: &mut W,
 ) -> Result<After<K>, OperateEnd>
     requires { R.has_failed reader.old ≡ false }
-    ensures did { IfOk result (λ after. LineDid program.now said.now sitting after.0) }
+    ensures did { IfOk result (λ after. LineDid program.now manner.now.limit
+        (is_cut (is_some after.1) notebook.new) said.now
+        (at_console sitting notebook.old) (at_console after.0 notebook.new)) }
     ensures good { IfOk result (λ after. after.1 ≡ None → R.has_failed reader.new ≡ false) }
 {
     match said {

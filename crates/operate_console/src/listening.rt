@@ -1,5 +1,5 @@
 //! A person who types while the machine runs.
-ghost use Rattle.std.specs.Prelude.{◌≡◌, false, OnOk};
+ghost use Rattle.std.specs.Prelude.{◌≡◌, true, false, None, Ok, OnOk};
 
 use crate::ends::OperateEnd;
 use crate::manner::Manner;
@@ -7,6 +7,7 @@ use crate::terminal::Terminal;
 use crate::typed::{Typed, read_line};
 use crate::waiting::Waiting;
 use bytes_streams::Source;
+use operate_past::Interrupter;
 use std::alloc::{AllocError, Global};
 
 /// Whether a line was typed that interrupts a run: it is empty, or Ctrl-C ended it. Any other waits for its turn.
@@ -22,6 +23,7 @@ pub(crate) fn is_interrupted<R: Source + Terminal>(
     waiting: &mut Waiting,
 ) -> Result<bool, OperateEnd>
     requires { R.has_failed reader.old ≡ false }
+    ensures attended { result ≡ Ok true → manner.now.limit ≡ None }
     ensures good { OnOk result (R.has_failed reader.new ≡ false) }
 {
     if manner.limit.is_some() || !reader.is_ready() {
@@ -50,6 +52,51 @@ fn interrupts(typed: Typed, waiting: &mut Waiting) -> Result<bool, AllocError> {
         Typed::Last(line) => {
             waiting.end_input(line.as_slice())?;
             Ok(true)
+        }
+    }
+}
+
+/// Who listens to a person at a terminal while something takes long. What is typed meanwhile waits for its turn.
+#[derive(Drop)]
+pub(crate) struct Listener {
+    alloc: Global,
+    manner: Manner,
+    /// The lines that wait.
+    pub(crate) waiting: Waiting,
+    /// Why the sitting ends, if something failed meanwhile.
+    pub(crate) end: Option<OperateEnd>,
+}
+
+impl Listener {
+    /// Who listens so, with these lines that wait by now.
+    pub(crate) fn new(alloc: Global, manner: &Manner, waiting: Waiting) -> Listener
+        ensures { result.end ≡ None }
+    {
+        Listener {
+            alloc,
+            manner: *manner,
+            waiting,
+            end: None,
+        }
+    }
+}
+
+impl<R: Source + Terminal> Interrupter<R> for Listener {
+    ghost use Rattle.std.specs.Prelude.{◌||◌, is_some, not};
+
+    // No read has failed, unless the sitting ends.
+    ghost is_sound = { λ it reader. is_some it.end || not (R.has_failed reader) };
+
+    fn interrupts(&mut self, console: &mut R) -> bool {
+        if self.end.is_some() {
+            return true;
+        }
+        match is_interrupted(self.alloc, &self.manner, console, &mut self.waiting) {
+            Ok(is_so) => is_so,
+            Err(end) => {
+                self.end = Some(end);
+                true
+            }
         }
     }
 }

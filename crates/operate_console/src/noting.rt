@@ -1,8 +1,13 @@
 //! Lines that look, and those that note something. They have the machine to look at, and nothing of them is recorded.
+ghost use Rattle.std.specs.Prelude.{◌≡◌, true, is_err};
+ghost use Rattle.operate_answers.specs.Stops.{break_added, stops_deleted, watch_added};
+ghost use Rattle.operate_console.specs.Line.{IsSet, StopsNoted, is_cut};
+ghost use Rattle.room_alone.specs.Journal.{state_of};
 
 use crate::desk::Desk;
 use crate::faults::{put_no_file, put_no_look, put_no_place};
 use crate::notebook::Notebook;
+use crate::script::Script;
 use cpu_1401::Machine;
 use operate_answers::{LookFault, Seen, put_help, put_look, put_not_so, put_saved, put_set};
 use operate_orders::{Condition, Look, MOST_LISTED, Note, Place, Text, Watched};
@@ -19,7 +24,9 @@ fn shown(
     notebook: &mut Notebook,
     from: usize,
     looked: Result<(), LookFault>,
-) -> Result<(), AllocError> {
+) -> Result<(), AllocError>
+    ensures { notebook.new.stops ≡ notebook.old.stops }
+{
     match looked {
         Ok(()) => Ok(()),
         Err(LookFault::Memory) => Err(AllocError),
@@ -40,12 +47,16 @@ pub(crate) fn do_look(
     program: &Program,
     notebook: &mut Notebook,
     room: &Room,
+    hand: usize,
     look: &Look,
-) -> Result<(), AllocError> {
+) -> Result<(), AllocError>
+    ensures { notebook.new.stops ≡ notebook.old.stops }
+{
     let from = notebook.page.here();
     let seen = Seen {
         machine: room.machine(),
         journal: room.journal(),
+        hand,
         stops: &notebook.stops,
         why: notebook.why.as_slice(),
     };
@@ -59,16 +70,33 @@ fn put_last_set(
     program: &Program,
     notebook: &mut Notebook,
     machine: &Machine,
-) -> Result<(), AllocError> {
-    match notebook.stops.stops().last() {
-        Some(stop) => put_set(
-            alloc,
-            &mut notebook.page.text,
-            program,
-            machine.core(),
-            stop,
-        ),
-        None => Ok(()),
+) -> Result<(), AllocError>
+    ensures { notebook.new.stops ≡ notebook.old.stops }
+{
+    let core = machine.core();
+    put_set(
+        alloc,
+        &mut notebook.page.text,
+        program,
+        core,
+        &notebook.stops,
+    )
+}
+
+/// Ends a line that sets a break or a watch, or takes some away: a fault is reported.
+fn noted(
+    alloc: Global,
+    program: &Program,
+    notebook: &mut Notebook,
+    done: &Result<(), LookFault>,
+) -> Result<(), AllocError>
+    ensures stops { notebook.new.stops ≡ notebook.old.stops }
+    ensures cut { is_err done.now ≡ true → is_cut (is_err result) notebook.new ≡ true }
+{
+    match done {
+        Ok(()) => Ok(()),
+        Err(LookFault::Memory) => Err(AllocError),
+        Err(fault) => put_no_look(alloc, notebook, program, fault),
     }
 }
 
@@ -78,16 +106,20 @@ fn set(
     program: &Program,
     notebook: &mut Notebook,
     machine: &Machine,
-    number: Result<u32, LookFault>,
-) -> Result<(), AllocError> {
-    match number {
-        Ok(_) => put_last_set(alloc, program, notebook, machine),
-        Err(LookFault::Memory) => Err(AllocError),
-        Err(fault) => put_no_look(alloc, notebook, program, &fault),
+    done: &Result<(), LookFault>,
+) -> Result<(), AllocError>
+    ensures stops { notebook.new.stops ≡ notebook.old.stops }
+    ensures cut { is_err done.now ≡ true → is_cut (is_err result) notebook.new ≡ true }
+{
+    if done.is_ok() {
+        put_last_set(alloc, program, notebook, machine)
+    } else {
+        noted(alloc, program, notebook, done)
     }
 }
 
 /// `break ADDRESS`.
+#[tactic(auto, using(crate::proofs::LineLemmas::is_set))]
 fn do_break(
     alloc: Global,
     program: &Program,
@@ -96,46 +128,65 @@ fn do_break(
     place: &Place,
     after: Option<u32>,
     condition: Option<Condition>,
-) -> Result<(), AllocError> {
-    let number = notebook
+) -> Result<(), AllocError>
+    ensures { IsSet (is_cut (is_err result) notebook.new)
+        (break_added program.now machine.now place.now after condition notebook.old.stops)
+        notebook.old.stops notebook.new.stops }
+{
+    let done = notebook
         .stops
         .add_break(program, machine, place, after, condition);
-    set(alloc, program, notebook, machine, number)
+    set(alloc, program, notebook, machine, &done)
 }
 
 /// `watch ..`.
+#[tactic(auto, using(crate::proofs::LineLemmas::is_set))]
 fn do_watch(
     alloc: Global,
     program: &Program,
     notebook: &mut Notebook,
     machine: &Machine,
     watched: &Watched,
-) -> Result<(), AllocError> {
-    let number = notebook.stops.add_watch(alloc, program, machine, watched);
-    set(alloc, program, notebook, machine, number)
+) -> Result<(), AllocError>
+    ensures { IsSet (is_cut (is_err result) notebook.new)
+        (watch_added program.now machine.now watched.now notebook.old.stops) notebook.old.stops notebook.new.stops }
+{
+    let done = notebook.stops.add_watch(alloc, program, machine, watched);
+    set(alloc, program, notebook, machine, &done)
 }
 
 /// `delete [N ..]`.
+#[tactic(auto, using(crate::proofs::LineLemmas::is_set))]
 fn do_delete(
     alloc: Global,
     program: &Program,
     notebook: &mut Notebook,
     numbers: &[Option<u32>; MOST_LISTED],
-) -> Result<(), AllocError> {
-    match notebook.stops.delete(numbers) {
-        Ok(()) => Ok(()),
-        Err(LookFault::Memory) => Err(AllocError),
-        Err(fault) => put_no_look(alloc, notebook, program, &fault),
-    }
+) -> Result<(), AllocError>
+    ensures { IsSet (is_cut (is_err result) notebook.new) (stops_deleted numbers.now notebook.old.stops)
+        notebook.old.stops notebook.new.stops }
+{
+    let done = notebook.stops.delete(numbers);
+    noted(alloc, program, notebook, &done)
 }
 
 /// `do FILE`.
-fn do_file<D: Desk>(notebook: &mut Notebook, name: &Text, desk: &mut D) -> Result<(), AllocError> {
+fn do_file<D: Desk>(
+    alloc: Global,
+    notebook: &mut Notebook,
+    name: &Text,
+    desk: &mut D,
+) -> Result<(), AllocError>
+    ensures { notebook.new.stops ≡ notebook.old.stops }
+{
     if !notebook.waiting.may_begin() {
         return notebook.put_fault(b"do goes ten deep".as_slice());
     }
     match desk.lines(name.as_slice()) {
-        Ok(text) => notebook.waiting.begin(text),
+        Ok(text) => {
+            let name = Vec::from_slice(alloc, name.as_slice())?;
+            notebook.waiting.begin(Script { name, text })
+        }
         Err(fault) => put_no_file(notebook, name.as_slice(), fault),
     }
 }
@@ -145,7 +196,9 @@ fn do_transcript<D: Desk>(
     notebook: &mut Notebook,
     name: &Option<Text>,
     desk: &mut D,
-) -> Result<(), AllocError> {
+) -> Result<(), AllocError>
+    ensures { notebook.new.stops ≡ notebook.old.stops }
+{
     let Some(name) = name else {
         desk.end_transcript();
         return Ok(());
@@ -163,7 +216,9 @@ fn put_false(
     notebook: &mut Notebook,
     machine: &Machine,
     condition: &Condition,
-) -> Result<(), AllocError> {
+) -> Result<(), AllocError>
+    ensures { notebook.new.stops ≡ notebook.old.stops }
+{
     let from = notebook.begin_fault()?;
     match put_not_so(alloc, &mut notebook.page.text, program, machine, condition) {
         Ok(()) => notebook.end_fault(from),
@@ -182,7 +237,9 @@ fn do_assert(
     notebook: &mut Notebook,
     machine: &Machine,
     condition: &Condition,
-) -> Result<(), AllocError> {
+) -> Result<(), AllocError>
+    ensures { notebook.new.stops ≡ notebook.old.stops }
+{
     match program.comparison(machine, condition) {
         Ok(comparison) => {
             if comparison.is_so(machine) {
@@ -199,9 +256,12 @@ fn do_save<D: Desk>(
     alloc: Global,
     notebook: &mut Notebook,
     room: &Room,
+    hand: usize,
     name: &Text,
     desk: &mut D,
-) -> Result<(), AllocError> {
+) -> Result<(), AllocError>
+    ensures { notebook.new.stops ≡ notebook.old.stops }
+{
     let journal = room.journal();
     let text = write_journal(alloc, room.machine().core().size(), journal)?;
     match desk.save(name.as_slice(), text.as_slice()) {
@@ -209,6 +269,7 @@ fn do_save<D: Desk>(
             &mut notebook.page.text,
             journal.len() as u64,
             name.as_slice(),
+            hand,
         ),
         Err(fault) => put_no_file(notebook, name.as_slice(), fault),
     }
@@ -224,9 +285,13 @@ pub(crate) fn do_note<D: Desk>(
     program: &Program,
     notebook: &mut Notebook,
     room: &Room,
+    hand: usize,
     note: &Note,
     desk: &mut D,
-) -> Result<(), AllocError> {
+) -> Result<(), AllocError>
+    ensures { StopsNoted program.now (state_of room.now.size room.now.journal)
+        (is_cut (is_err result) notebook.new) note.now notebook.old.stops notebook.new.stops }
+{
     let machine = room.machine();
     match note {
         Note::Break {
@@ -236,10 +301,10 @@ pub(crate) fn do_note<D: Desk>(
         } => do_break(alloc, program, notebook, machine, place, *after, *condition),
         Note::Watch(watched) => do_watch(alloc, program, notebook, machine, watched),
         Note::Delete(numbers) => do_delete(alloc, program, notebook, numbers),
-        Note::Do(name) => do_file(notebook, name, desk),
+        Note::Do(name) => do_file(alloc, notebook, name, desk),
         Note::Transcript(name) => do_transcript(notebook, name, desk),
         Note::Assert(condition) => do_assert(alloc, program, notebook, machine, condition),
         Note::Help(keyword) => put_help(&mut notebook.page.text, *keyword),
-        Note::Save(name) => do_save(alloc, notebook, room, name, desk),
+        Note::Save(name) => do_save(alloc, notebook, room, hand, name, desk),
     }
 }

@@ -1,15 +1,18 @@
 //! Lines done one after the other.
 ghost use Rattle.std.specs.Prelude.{◌≡◌, false, OnOk, IfSome};
-ghost use Rattle.operate_console.specs.Line.{OperatedBy};
+ghost use Rattle.operate_console.specs.Line.{LinesDid, OperatedBy};
+ghost use Rattle.operate_console.specs.Run.{at_console};
 
 use crate::desk::Desk;
 use crate::ends::{OperateEnd, Operated};
 use crate::lines::do_line;
 use crate::manner::Manner;
 use crate::notebook::Notebook;
+use crate::script::Script;
 use crate::terminal::Terminal;
 use crate::typed::{Typed, read_line};
 use bytes_streams::{Sink, Source};
+use operate_answers::put_dropped;
 use operate_orders::parse_order;
 use operate_program::Program;
 use operate_sitting::{Cutter, Sitting};
@@ -23,44 +26,103 @@ const MOST_LINES: u32 = 16_777_216;
 const PROMPT: &[u8] = b"1401> ";
 
 /// Adds a line after a prompt, as if it had been typed here.
-fn put_echo(notebook: &mut Notebook, line: &[u8]) -> Result<(), AllocError> {
+fn put_echo(notebook: &mut Notebook, line: &[u8]) -> Result<(), AllocError>
+    ensures { notebook.new ≡ notebook.old }
+{
     notebook.page.put(PROMPT)?;
     notebook.page.put(line)?;
     notebook.page.put(b"\n".as_slice())
 }
 
-/// Has a line of a file, or of an input that is no terminal, in the transcript, and in the answer if it is echoed.
+/// Has a line in the transcript, as if it had been typed after a prompt.
+fn transcribe_line<D: Desk>(line: &[u8], desk: &mut D) {
+    desk.transcribe(PROMPT);
+    desk.transcribe(line);
+    desk.transcribe(b"\n".as_slice());
+}
+
+/// Has a line of an input that is no terminal in the transcript, and in the answer if it is echoed. The answers before
+/// it were shown.
 fn echo<D: Desk>(
     notebook: &mut Notebook,
     is_echoed: bool,
     line: &[u8],
     desk: &mut D,
-) -> Result<(), AllocError> {
+) -> Result<(), AllocError>
+    ensures { notebook.new ≡ notebook.old }
+{
     if is_echoed {
         return put_echo(notebook, line);
     }
-    desk.transcribe(PROMPT);
-    desk.transcribe(line);
-    desk.transcribe(b"\n".as_slice());
+    transcribe_line(line, desk);
     Ok(())
 }
 
-/// The next line that waits: of a file, or typed ahead.
-fn waiting_line<D: Desk>(
+/// Has a line of a file in the transcript, after the answers before it; or in the answer if it is echoed.
+///
+/// # Errors
+///
+/// `Write` if the answers can't be shown, `Memory` if there is none for them or for the line.
+fn echo_of_file<D: Desk, W: Sink>(
+    alloc: Global,
+    manner: &Manner,
+    notebook: &mut Notebook,
+    line: &[u8],
+    desk: &mut D,
+    writer: &mut W,
+) -> Result<(), OperateEnd>
+    ensures { notebook.new ≡ notebook.old }
+{
+    if manner.echo {
+        return match put_echo(notebook, line) {
+            Ok(()) => Ok(()),
+            Err(_) => Err(OperateEnd::Memory),
+        };
+    }
+    match notebook.page.show(alloc, manner, desk, writer) {
+        Ok(()) => {
+            transcribe_line(line, desk);
+            Ok(())
+        }
+        Err(end) => Err(end),
+    }
+}
+
+/// The next line of the files, if there is one.
+///
+/// # Errors
+///
+/// As those of `echo_of_file`.
+fn line_of_files<D: Desk, W: Sink>(
     alloc: Global,
     manner: &Manner,
     notebook: &mut Notebook,
     desk: &mut D,
-) -> Result<Option<Vec<u8>>, AllocError> {
-    if let Some(line) = notebook.waiting.take_of_files(alloc)? {
-        echo(notebook, manner.echo, line.as_slice(), desk)?;
-        return Ok(Some(line));
+    writer: &mut W,
+) -> Result<Option<Vec<u8>>, OperateEnd>
+    ensures { notebook.new ≡ notebook.old }
+{
+    match notebook.waiting.take_of_files(alloc) {
+        Ok(Some(line)) => {
+            match echo_of_file(alloc, manner, notebook, line.as_slice(), desk, writer) {
+                Ok(()) => Ok(Some(line)),
+                Err(end) => Err(end),
+            }
+        }
+        Ok(None) => Ok(None),
+        Err(_) => Err(OperateEnd::Memory),
     }
-    if let Some(line) = notebook.waiting.take_typed(alloc)? {
-        put_echo(notebook, line.as_slice())?;
-        return Ok(Some(line));
-    }
-    Ok(None)
+}
+
+/// The next line that was typed ahead, if there is one.
+fn line_ahead(alloc: Global, notebook: &mut Notebook) -> Result<Option<Vec<u8>>, AllocError>
+    ensures { notebook.new ≡ notebook.old }
+{
+    let Some(line) = notebook.waiting.take_typed(alloc)? else {
+        return Ok(None);
+    };
+    put_echo(notebook, line.as_slice())?;
+    Ok(Some(line))
 }
 
 /// What was read, as a line; none at the end of the input.
@@ -70,7 +132,9 @@ fn line_typed<D: Desk>(
     notebook: &mut Notebook,
     typed: Typed,
     desk: &mut D,
-) -> Result<Option<Vec<u8>>, AllocError> {
+) -> Result<Option<Vec<u8>>, AllocError>
+    ensures { notebook.new ≡ notebook.old }
+{
     let line = match typed {
         Typed::Line(line) => line,
         Typed::Dropped => Vec::new(alloc),
@@ -101,6 +165,7 @@ fn typed_line<D: Desk, R: Source, W: Sink>(
     writer: &mut W,
 ) -> Result<Option<Vec<u8>>, OperateEnd>
     requires { R.has_failed reader.old ≡ false }
+    ensures noted { notebook.new ≡ notebook.old }
     ensures good { OnOk result (R.has_failed reader.new ≡ false) }
 {
     if notebook.waiting.has_ended() {
@@ -124,7 +189,7 @@ fn typed_line<D: Desk, R: Source, W: Sink>(
     }
 }
 
-/// The next line, which waits or is read; none at the end of the input.
+/// The next line: one of a file, or typed ahead, or else a line that is read; none at the end of the input.
 fn next_line<D: Desk, R: Source, W: Sink>(
     alloc: Global,
     manner: &Manner,
@@ -134,17 +199,24 @@ fn next_line<D: Desk, R: Source, W: Sink>(
     writer: &mut W,
 ) -> Result<Option<Vec<u8>>, OperateEnd>
     requires { R.has_failed reader.old ≡ false }
+    ensures noted { notebook.new ≡ notebook.old }
     ensures good { OnOk result (R.has_failed reader.new ≡ false) }
 {
-    match waiting_line(alloc, manner, notebook, desk) {
+    match line_of_files(alloc, manner, notebook, desk, writer) {
+        Ok(Some(line)) => return Ok(Some(line)),
+        Ok(None) => {}
+        Err(end) => return Err(end),
+    }
+    match line_ahead(alloc, notebook) {
         Ok(Some(line)) => Ok(Some(line)),
         Ok(None) => typed_line(alloc, manner, notebook, desk, reader, writer),
         Err(_) => Err(OperateEnd::Memory),
     }
 }
 
-/// Does lines until one ends the sitting. The answer of the last line isn't written yet.
-#[tactic(auto, using(crate::proofs::LineLemmas::no_line))]
+/// Does lines until one ends the sitting. The answer of the last line isn't written yet. The last part of the result is
+/// how many of them had a fault.
+#[tactic(auto, using(crate::proofs::LineLemmas::no_line, crate::proofs::LineLemmas::lines_end))]
 fn do_lines<K: Keeper + Drop, C: Cutter<K>, D: Desk, R: Source + Terminal, W: Sink>(
     alloc: Global,
     sitting: Sitting<K>,
@@ -155,59 +227,66 @@ fn do_lines<K: Keeper + Drop, C: Cutter<K>, D: Desk, R: Source + Terminal, W: Si
     cutter: &mut C,
     reader: &mut R,
     writer: &mut W,
-) -> (Option<Sitting<K>>, OperateEnd)
+) -> (Option<Sitting<K>>, OperateEnd, u32)
     requires { R.has_failed reader.old ≡ false }
-    ensures { IfSome result.0 (OperatedBy program.now sitting) }
+    ensures { IfSome result.0 (λ after. LinesDid program.now manner.now.limit
+        (record { at = at_console sitting notebook.old; faults = 0 })
+        (record { at = at_console after notebook.new; faults = result.2 })) }
 {
     let mut sitting = sitting;
+    let mut faults = 0;
     for _line in 0..MOST_LINES {
         let line = match next_line(alloc, manner, notebook, desk, reader, writer) {
             Ok(Some(line)) => line,
-            Ok(None) => return (Some(sitting), OperateEnd::EndOfInput),
-            Err(end) => return (Some(sitting), end),
+            Ok(None) => return (Some(sitting), OperateEnd::EndOfInput, faults),
+            Err(end) => return (Some(sitting), end, faults),
         };
         let said = parse_order(line.as_slice());
+        notebook.begin_line();
         match do_line(
             alloc, program, manner, notebook, sitting, &said, desk, cutter, reader, writer,
         ) {
             Ok(after) => {
+                faults = notebook.faults_with(faults);
                 let (now, end) = after;
                 match end {
                     None => sitting = now,
-                    Some(end) => return (Some(now), end),
+                    Some(end) => return (Some(now), end, faults),
                 }
             }
-            Err(end) => return (None, end),
+            Err(end) => return (None, end, notebook.faults_with(faults)),
         }
     }
-    (Some(sitting), OperateEnd::Bound)
+    (Some(sitting), OperateEnd::Bound, faults)
 }
 
 /// Begins with the lines of a file, if there are some, and with a greeting.
-fn begin(
-    notebook: &mut Notebook,
-    greeting: &[u8],
-    first: Option<Vec<u8>>,
-) -> Result<(), AllocError> {
+fn begin(notebook: &mut Notebook, greeting: &[u8], first: Option<Script>) -> Result<(), AllocError>
+    ensures { notebook.new ≡ notebook.old }
+{
     notebook.page.put(greeting)?;
     match first {
-        Some(text) => notebook.waiting.begin(text),
+        Some(script) => notebook.waiting.begin(script),
         None => Ok(()),
     }
 }
 
-/// Writes the last answer, if the sitting didn't end because nothing can be written.
+/// Writes the last answer, and how many cards in hand are gone, if the sitting didn't end because nothing can be written.
 fn show_last<D: Desk, W: Sink>(
     alloc: Global,
     manner: &Manner,
     notebook: &mut Notebook,
     end: OperateEnd,
+    hand: usize,
     desk: &mut D,
     writer: &mut W,
 ) -> OperateEnd {
     match end {
         OperateEnd::Write | OperateEnd::Memory | OperateEnd::Unkept => end,
         OperateEnd::Quit | OperateEnd::EndOfInput | OperateEnd::Read | OperateEnd::Bound => {
+            if put_dropped(&mut notebook.page.text, hand).is_err() {
+                return OperateEnd::Memory;
+            }
             match notebook.page.show(alloc, manner, desk, writer) {
                 Ok(()) => end,
                 Err(worse) => worse,
@@ -216,32 +295,40 @@ fn show_last<D: Desk, W: Sink>(
     }
 }
 
+/// How many cards are in hand at the end; none if the sitting is lost.
+fn hand_at_end<K: Keeper + Drop>(sitting: &Option<Sitting<K>>) -> usize {
+    match sitting {
+        Some(sitting) => sitting.hand(),
+        None => 0,
+    }
+}
+
 /// Does the lines of a person until `quit`, the end of the input or a failure: after a greeting those of `first`, then
 /// those that are read. The journal of the sitting that is returned is that of the lines, one after the other: a
 /// line stands for each command in it.
-#[tactic(auto, using(crate::proofs::LineLemmas::no_line))]
+#[tactic(auto, using(crate::proofs::LineLemmas::operated, crate::proofs::LineLemmas::not_operated))]
 pub fn operate<K: Keeper + Drop, C: Cutter<K>, D: Desk, R: Source + Terminal, W: Sink>(
     alloc: Global,
     sitting: Sitting<K>,
     program: &Program,
     manner: &Manner,
     greeting: &[u8],
-    first: Option<Vec<u8>>,
+    first: Option<Script>,
     desk: &mut D,
     cutter: &mut C,
     reader: &mut R,
     writer: &mut W,
 ) -> Operated<K>
-    ensures { IfSome result.sitting (OperatedBy program.now sitting) }
+    ensures lines { IfSome result.sitting (OperatedBy program.now manner.now.limit sitting result.faults) }
 {
     let mut notebook = Notebook::new(alloc, sitting.machine());
     if reader.has_failed() {
-        return ended(Some(sitting), OperateEnd::Read, &notebook);
+        return ended(Some(sitting), OperateEnd::Read, 0);
     }
     if begin(&mut notebook, greeting, first).is_err() {
-        return ended(Some(sitting), OperateEnd::Memory, &notebook);
+        return ended(Some(sitting), OperateEnd::Memory, 0);
     }
-    let (sitting, end) = do_lines(
+    let (sitting, end, faults) = do_lines(
         alloc,
         sitting,
         program,
@@ -252,21 +339,19 @@ pub fn operate<K: Keeper + Drop, C: Cutter<K>, D: Desk, R: Source + Terminal, W:
         reader,
         writer,
     );
-    let end = show_last(alloc, manner, &mut notebook, end, desk, writer);
-    ended(sitting, end, &notebook)
+    let hand = hand_at_end(&sitting);
+    let end = show_last(alloc, manner, &mut notebook, end, hand, desk, writer);
+    ended(sitting, end, faults)
 }
 
 /// A sitting that ended so.
-fn ended<K: Keeper + Drop>(
-    sitting: Option<Sitting<K>>,
-    end: OperateEnd,
-    notebook: &Notebook,
-) -> Operated<K>
-    ensures { result.sitting ≡ sitting }
+fn ended<K: Keeper + Drop>(sitting: Option<Sitting<K>>, end: OperateEnd, faults: u32) -> Operated<K>
+    ensures sitting { result.sitting ≡ sitting }
+    ensures faults { result.faults ≡ faults }
 {
     Operated {
         sitting,
         end,
-        has_faults: notebook.has_faults,
+        faults,
     }
 }

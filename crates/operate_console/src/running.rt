@@ -1,295 +1,126 @@
-//! Runs, slice by slice.
-ghost use Rattle.std.specs.Prelude.{◌≡◌, ◌<◌, ◌≤◌, false, OnOk};
-ghost use Rattle.cpu_1401.specs.Run.{most_steps};
-ghost use Rattle.operate_console.specs.Run.{PieceDid, RunDid, TwoPieces};
+//! Runs, round by round.
+ghost use Rattle.std.specs.Prelude.{◌≡◌, false, true, None, Ok, OnOk, is_err};
+ghost use Rattle.operate_console.specs.Line.{is_cut};
+ghost use Rattle.operate_console.specs.Run.{RanAsFar, RunDid, at_console, at_run, counted_if, is_ran_met, is_refused};
+ghost use Rattle.operate_console.specs.Run.{is_why_met, was_cut, was_met};
 
 use crate::desk::Desk;
 use crate::ends::OperateEnd;
+use crate::extent::Extent;
 use crate::faults::put_refused;
 use crate::listening::is_interrupted;
 use crate::manner::Manner;
 use crate::notebook::Notebook;
-use crate::page::Paint;
+use crate::rounds::{Progress, RunFault, go_on, is_spent};
+use crate::run_stops::RunStops;
 use crate::terminal::Terminal;
 use bytes_streams::{Sink, Source};
 use cpu_1401::Machine;
-use operate_answers::{Ended, Stops, put_ended, put_steps, put_why};
+use operate_answers::{Ended, Stops, put_ended, put_why};
 use operate_program::Program;
-use operate_scout::{FullDevices, MOST_STEPS, OneOf, RunEnd, SearchEnd};
+use operate_scout::{FullDevices, OneOf};
 use operate_sitting::Sitting;
 use room_alone::{Keeper, RoomFault};
 use std::alloc::{AllocError, Global};
 use std::mem::replace;
 
-/// The most slices of a run: each records a command, and a journal has no more.
-const MOST_SLICES: u32 = 100_000;
+/// The most rounds of a run: each records a command, and a journal has no more.
+const MOST_ROUNDS: u32 = 100_000;
 
-/// How far a run goes, if nothing stops it.
-#[derive(Clone, Copy, Debug, PartialEq, Eq)]
-pub(crate) struct Extent {
-    /// How many instructions are carried out at most.
-    most: u64,
-    /// Why a run ends that has carried out as many.
-    end: Ended,
-    /// The address up to which it goes, if there is one.
-    until: Option<u16>,
-    /// Whether there is a line for each instruction.
-    has_lines: bool,
-}
-
-impl Extent {
-    /// A run of this many instructions, or without an end; but not beyond the limit, if nobody can stop it.
-    pub(crate) fn new(count: Option<u32>, manner: &Manner) -> Extent {
-        let most = match count {
-            Some(count) => u64::from(count),
-            None => u64::MAX,
-        };
-        let limit = match manner.limit {
-            Some(limit) => u64::from(limit),
-            None => u64::MAX,
-        };
-        Extent {
-            most: most.min(limit),
-            end: if most <= limit {
-                Ended::Counted
-            } else {
-                Ended::Unattended
-            },
-            until: None,
-            has_lines: false,
-        }
-    }
-
-    /// The same with a line for each instruction.
-    pub(crate) fn with_lines(self) -> Extent {
-        Extent {
-            most: self.most,
-            end: self.end,
-            until: self.until,
-            has_lines: true,
-        }
-    }
-
-    /// The same up to an address.
-    pub(crate) fn up_to(self, address: u16) -> Extent {
-        Extent {
-            most: self.most,
-            end: self.end,
-            until: Some(address),
-            has_lines: self.has_lines,
-        }
-    }
-}
-
-/// How many instructions the next slice of a run has at most, of those that are left.
-fn slice_of(left: u64) -> u32
-    ensures some { 0 < result }
-    ensures most { result ≤ most_steps }
-{
-    left.max(1).min(u64::from(MOST_STEPS)) as u32
-}
-
-/// Why a slice ends the run: what was found is more than that devices want hands.
-fn end_of(found: SearchEnd, stops: &Stops, machine: &Machine, until: Option<u16>) -> Option<Ended> {
-    match found {
-        SearchEnd::Stop(stop) => Some(Ended::Stopped(stop)),
-        SearchEnd::Limit => None,
-        SearchEnd::Met => {
-            if stops.met().is_some() || until == Some(machine.regs().i) {
-                Some(Ended::Met)
-            } else {
-                None
-            }
-        }
-    }
-}
-
-/// One slice of a run.
+/// Shows what a run has printed so far; true if a person interrupts it.
 ///
 /// # Errors
 ///
-/// As those of `Sitting::run_until`, and `Unkept` if its entry isn't kept.
-#[tactic(auto, using(crate::proofs::RunLemmas::slice_did, crate::proofs::RunLemmas::same_piece))]
-fn run_slice<K: Keeper + Drop>(
-    sitting: &mut Sitting<K>,
-    test: &mut OneOf<Stops, FullDevices>,
-    most: u32,
-) -> Result<RunEnd, RoomFault>
-    requires some { 0 < most }
-    requires most { most ≤ most_steps }
-    ensures did { PieceDid sitting.old sitting.new }
+/// If the sitting ends.
+fn show_and_listen<D: Desk, R: Source + Terminal, W: Sink>(
+    alloc: Global,
+    manner: &Manner,
+    notebook: &mut Notebook,
+    desk: &mut D,
+    reader: &mut R,
+    writer: &mut W,
+) -> Result<bool, OperateEnd>
+    requires { R.has_failed reader.old ≡ false }
+    ensures attended { result ≡ Ok true → manner.now.limit ≡ None }
+    ensures noted { notebook.new ≡ notebook.old }
+    ensures good { OnOk result (R.has_failed reader.new ≡ false) }
 {
-    match sitting.run_until(test, most) {
-        Ok(end) => {
-            if end.kept {
-                Ok(end)
-            } else {
-                Err(RoomFault::Unkept)
-            }
-        }
-        Err(fault) => Err(fault),
+    match notebook.page.show(alloc, manner, desk, writer) {
+        Ok(()) => is_interrupted(alloc, manner, reader, &mut notebook.waiting),
+        Err(end) => Err(end),
     }
 }
 
-/// What devices want.
-///
-/// # Errors
-///
-/// As those of `Sitting::tend`, and `Unkept` if an entry isn't kept.
-#[tactic(auto, using(crate::proofs::RunLemmas::tended_did))]
-pub(crate) fn tend<K: Keeper + Drop>(sitting: &mut Sitting<K>) -> Result<(), RoomFault>
-    ensures did { PieceDid sitting.old sitting.new }
-{
-    match sitting.tend() {
-        Ok(tended) => {
-            if tended.kept {
-                Ok(())
-            } else {
-                Err(RoomFault::Unkept)
-            }
-        }
-        Err(fault) => Err(fault),
-    }
-}
-
-/// How far a run has come.
+/// How a run ended.
 #[derive(Clone, Copy, Debug, PartialEq, Eq)]
-enum Progress {
-    /// It goes on, after so many instructions.
-    On(u64),
-    /// It has ended, after so many instructions.
+pub enum Ran {
+    /// So, after so many instructions.
     Ended(Ended, u64),
-    /// It was refused, after so many instructions.
-    Refused(RoomFault, u64),
+    /// The room takes no command.
+    Refused(RoomFault),
 }
 
-/// Adds the lines of a slice of so many instructions: one for each of them, if they are asked for, and those that were
-/// printed. `ahead` is the machine before it.
-fn put_slice(
-    alloc: Global,
-    notebook: &mut Notebook,
-    program: &Program,
-    ahead: Option<Machine>,
-    machine: &Machine,
-    steps: u32,
-) -> Result<(), AllocError> {
-    match ahead {
-        Some(mut ahead) => {
-            notebook.pass_paper(machine);
-            put_steps(alloc, &mut notebook.page.text, program, &mut ahead, steps)
-        }
-        None => notebook.put_printed(alloc, machine),
-    }
-}
-
-/// The machine before a slice, if there is to be a line for each of its instructions.
-fn machine_ahead(
-    alloc: Global,
-    extent: &Extent,
-    machine: &Machine,
-) -> Result<Option<Machine>, AllocError> {
-    if !extent.has_lines {
-        return Ok(None);
-    }
-    match machine.copy(alloc) {
-        Ok(machine) => Ok(Some(machine)),
-        Err(fault) => Err(fault),
-    }
-}
-
-/// Goes on with a run that has carried out so many instructions, by a slice.
-#[tactic(auto, using(crate::proofs::RunLemmas::no_pieces, crate::proofs::RunLemmas::one_piece, crate::proofs::RunLemmas::two_pieces))]
-fn go_on<K: Keeper + Drop>(
-    alloc: Global,
-    program: &Program,
-    notebook: &mut Notebook,
-    sitting: &mut Sitting<K>,
-    test: &mut OneOf<Stops, FullDevices>,
-    extent: &Extent,
-    steps: u64,
-) -> Result<Progress, OperateEnd>
-    ensures did { TwoPieces sitting.old sitting.new }
-{
-    let ahead = match machine_ahead(alloc, extent, sitting.machine()) {
-        Ok(ahead) => ahead,
-        Err(_) => return Err(OperateEnd::Memory),
-    };
-    let most = slice_of(extent.most.saturating_sub(steps));
-    let end = match run_slice(sitting, test, most) {
-        Ok(end) => end,
-        Err(fault) => return Ok(Progress::Refused(fault, steps)),
-    };
-    let all = steps.saturating_add(u64::from(end.found.steps));
-    let ended = end_of(end.found.end, &test.first, sitting.machine(), extent.until);
-    if put_slice(
-        alloc,
-        notebook,
-        program,
-        ahead,
-        sitting.machine(),
-        end.found.steps,
-    )
-    .is_err()
-    {
-        return Err(OperateEnd::Memory);
-    }
-    if let Err(fault) = tend(sitting) {
-        return Ok(Progress::Refused(fault, all));
-    }
-    notebook.pass_paper(sitting.machine());
-    Ok(after_slice(extent, ended, all))
-}
-
-/// How far a run has come after so many instructions, if a slice ended it so.
-fn after_slice(extent: &Extent, ended: Option<Ended>, steps: u64) -> Progress {
-    match ended {
-        Some(ended) => Progress::Ended(ended, steps),
-        None => {
-            if steps >= extent.most {
-                Progress::Ended(extent.end, steps)
-            } else {
-                Progress::On(steps)
-            }
-        }
-    }
-}
-
-/// Runs, slice by slice, until something ends the run. What is printed is shown after each slice.
-#[tactic(auto, using(crate::proofs::RunLemmas::not_begun, crate::proofs::RunLemmas::goes_on))]
-fn run_slices<K: Keeper + Drop, D: Desk, R: Source + Terminal, W: Sink>(
+/// Runs, round by round, until something ends the run. What is printed is shown after each round.
+///
+/// # Errors
+///
+/// If the sitting ends.
+fn run_rounds<K: Keeper + Drop, D: Desk, R: Source + Terminal, W: Sink>(
     alloc: Global,
     program: &Program,
     manner: &Manner,
     notebook: &mut Notebook,
     sitting: &mut Sitting<K>,
-    test: &mut OneOf<Stops, FullDevices>,
+    test: &mut OneOf<RunStops, FullDevices>,
     extent: &Extent,
     desk: &mut D,
     reader: &mut R,
     writer: &mut W,
-) -> Result<Progress, OperateEnd>
+) -> Result<Ran, OperateEnd>
     requires { R.has_failed reader.old ≡ false }
-    ensures did { RunDid sitting.old sitting.new }
+    ensures did { RunDid manner.now.limit (was_cut result) (was_met result) extent.now.reach.most
+        (at_run sitting.old test.old) (at_run sitting.new test.new) }
+    ensures noted { notebook.new ≡ notebook.old }
     ensures good { OnOk result (R.has_failed reader.new ≡ false) }
 {
     let mut steps = 0;
-    for _slice in 0..MOST_SLICES {
+    if is_spent(extent.reach.most, steps) {
+        return Ok(Ran::Ended(extent.end(), steps));
+    }
+    for round in 0..MOST_ROUNDS {
         match go_on(alloc, program, notebook, sitting, test, extent, steps) {
             Ok(Progress::On(all)) => steps = all,
-            Ok(ended) => return Ok(ended),
-            Err(end) => return Err(end),
+            Ok(Progress::Ended(ended, all)) => return Ok(Ran::Ended(ended, all)),
+            Err(RunFault::Refused(fault)) => return Ok(Ran::Refused(fault)),
+            Err(RunFault::Over(end)) => return Err(end),
         }
-        match notebook.page.show(alloc, manner, desk, writer) {
-            Ok(()) => {}
-            Err(end) => return Err(end),
-        }
-        match is_interrupted(alloc, manner, reader, &mut notebook.waiting) {
-            Ok(true) => return Ok(Progress::Ended(Ended::Interrupted, steps)),
+        match show_and_listen(alloc, manner, notebook, desk, reader, writer) {
+            Ok(true) => return Ok(Ran::Ended(Ended::Interrupted, steps)),
             Ok(false) => {}
             Err(end) => return Err(end),
         }
     }
-    Ok(Progress::Refused(RoomFault::JournalFull, steps))
+    Ok(Ran::Refused(RoomFault::JournalFull))
+}
+
+/// Whether a run ended because its last step came to the address, or met a break or a watch.
+fn is_met(ended: Ended) -> bool
+    ensures { result ≡ is_why_met ended }
+{
+    match ended {
+        Ended::Met => true,
+        Ended::Stopped(_) | Ended::Counted | Ended::Interrupted | Ended::Unattended => false,
+    }
+}
+
+/// Counts the breaks and watches that the last step met, if that ended the run.
+fn count_met(notebook: &mut Notebook, ended: Ended)
+    ensures stops { notebook.new.stops ≡ counted_if (is_why_met ended) notebook.old.stops }
+    ensures fault { notebook.new.is_faulted ≡ notebook.old.is_faulted }
+{
+    if is_met(ended) {
+        notebook.stops.count_met();
+    }
 }
 
 /// Notes why a run ended, and adds it to the answer.
@@ -300,10 +131,9 @@ fn put_end(
     machine: &Machine,
     ended: Ended,
     steps: u64,
-) -> Result<(), AllocError> {
-    if ended == Ended::Met {
-        notebook.stops.count_met();
-    }
+) -> Result<(), AllocError>
+    ensures { notebook.new ≡ notebook.old }
+{
     notebook.why.clear();
     put_why(
         alloc,
@@ -320,23 +150,26 @@ fn put_end(
     Ok(())
 }
 
-/// Adds how a run ended.
-fn put_progress(
+/// Adds how a run ended. The breaks and watches that ended it are counted.
+fn end_run(
     alloc: Global,
     program: &Program,
     notebook: &mut Notebook,
     machine: &Machine,
-    progress: Progress,
-) -> Result<(), OperateEnd> {
-    match progress {
-        Progress::On(_) => Ok(()),
-        Progress::Ended(ended, steps) => {
+    ran: Ran,
+) -> Result<(), OperateEnd>
+    ensures cut { is_refused ran ≡ true → is_cut (is_err result) notebook.new ≡ true }
+    ensures stops { notebook.new.stops ≡ counted_if (is_ran_met ran) notebook.old.stops }
+{
+    match ran {
+        Ran::Ended(ended, steps) => {
+            count_met(notebook, ended);
             match put_end(alloc, program, notebook, machine, ended, steps) {
                 Ok(()) => Ok(()),
                 Err(_) => Err(OperateEnd::Memory),
             }
         }
-        Progress::Refused(fault, _) => put_refused(notebook, fault),
+        Ran::Refused(fault) => put_refused(notebook, fault),
     }
 }
 
@@ -345,6 +178,7 @@ fn put_progress(
 /// # Errors
 ///
 /// If the sitting ends.
+#[tactic(auto, using(crate::proofs::RunLemmas::ran_as_far))]
 pub(crate) fn run<K: Keeper + Drop, D: Desk, R: Source + Terminal, W: Sink>(
     alloc: Global,
     program: &Program,
@@ -357,25 +191,23 @@ pub(crate) fn run<K: Keeper + Drop, D: Desk, R: Source + Terminal, W: Sink>(
     writer: &mut W,
 ) -> Result<(), OperateEnd>
     requires { R.has_failed reader.old ≡ false }
-    ensures did { RunDid sitting.old sitting.new }
+    ensures did { RanAsFar manner.now.limit (is_cut (is_err result) notebook.new) extent.now.reach
+        (at_console sitting.old notebook.old) (at_console sitting.new notebook.new) }
     ensures good { OnOk result (R.has_failed reader.new ≡ false) }
 {
-    let mut stops = replace(&mut notebook.stops, Stops::new(alloc));
-    match extent.until {
-        Some(address) => stops.go_until(address),
-        None => stops.go_on(),
-    }
+    let stops = replace(&mut notebook.stops, Stops::new(alloc));
     let mut test = OneOf {
-        first: stops,
+        first: RunStops::new(extent.reach.until, stops),
         second: FullDevices::new(false),
     };
-    let progress = run_slices(
+    let ran = run_rounds(
         alloc, program, manner, notebook, sitting, &mut test, extent, desk, reader, writer,
     );
     let OneOf { first, .. } = test;
-    notebook.stops = first;
-    match progress {
-        Ok(progress) => put_progress(alloc, program, notebook, sitting.machine(), progress),
+    let RunStops { stops, .. } = first;
+    notebook.stops = stops;
+    match ran {
+        Ok(ran) => end_run(alloc, program, notebook, sitting.machine(), ran),
         Err(end) => Err(end),
     }
 }

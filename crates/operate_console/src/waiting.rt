@@ -1,6 +1,8 @@
 //! Lines that wait for their turn: those of files, and those typed ahead.
 ghost use Rattle.std.specs.Prelude.{◌≤◌, length};
 
+use crate::script::Script;
+use machine_notation::put_digits;
 use std::alloc::{AllocError, Global};
 
 /// How deep `do` goes.
@@ -53,12 +55,41 @@ impl Lines {
     }
 }
 
-/// Lines that wait: those of files, the file that was begun last first, and then those that were typed ahead.
+/// The lines of a file, its name, and how many of the lines were taken.
+#[derive(Drop)]
+struct NamedLines {
+    name: Vec<u8>,
+    lines: Lines,
+    number: u64,
+}
+
+impl NamedLines {
+    /// Takes the first line, if there is one.
+    fn take(&mut self, alloc: Global) -> Result<Option<Vec<u8>>, AllocError> {
+        let line = self.lines.take(alloc)?;
+        if line.is_some() {
+            self.number = self.number.saturating_add(1);
+        }
+        Ok(line)
+    }
+
+    /// Adds the name of the file, and the number of the line that was taken last.
+    fn put_place(&self, text: &mut Vec<u8>) -> Result<(), AllocError> {
+        text.extend_from_slice(self.name.as_slice())?;
+        text.extend_from_slice(b": line ".as_slice())?;
+        put_digits(text, 1, self.number)?;
+        text.extend_from_slice(b": ".as_slice())
+    }
+}
+
+/// Lines that wait: those of files, the file that was begun last first, and then those that were typed ahead; and where
+/// the last line came from that was taken.
 #[derive(Drop)]
 pub(crate) struct Waiting {
-    scripts: Vec<Lines>,
+    scripts: Vec<NamedLines>,
     typed: Lines,
     has_ended: bool,
+    place: Vec<u8>,
 }
 
 impl Waiting {
@@ -68,6 +99,7 @@ impl Waiting {
             scripts: Vec::new(alloc),
             typed: Lines::of_text(Vec::new(alloc)),
             has_ended: false,
+            place: Vec::new(alloc),
         }
     }
 
@@ -77,8 +109,14 @@ impl Waiting {
     }
 
     /// The lines of a file come next.
-    pub(crate) fn begin(&mut self, text: Vec<u8>) -> Result<(), AllocError> {
-        Ok(self.scripts.push(Lines::of_text(text))?)
+    pub(crate) fn begin(&mut self, script: Script) -> Result<(), AllocError> {
+        let Script { name, text } = script;
+        let lines = NamedLines {
+            name,
+            lines: Lines::of_text(text),
+            number: 0,
+        };
+        Ok(self.scripts.push(lines)?)
     }
 
     /// A line that was typed ahead waits.
@@ -105,17 +143,24 @@ impl Waiting {
         self.scripts.clear();
     }
 
+    /// The file and the line that the last line came from, as its fault has them in front; empty if it was typed.
+    pub(crate) fn place(&self) -> &[u8] {
+        self.place.as_slice()
+    }
+
     /// Takes the next line of the files, if there is one.
     ///
     /// # Errors
     ///
     /// If there is no memory for it.
     pub(crate) fn take_of_files(&mut self, alloc: Global) -> Result<Option<Vec<u8>>, AllocError> {
+        self.place.clear();
         for _file in 0..self.scripts.len() {
             let Some(mut script) = self.scripts.pop() else {
                 return Ok(None);
             };
             if let Some(line) = script.take(alloc)? {
+                script.put_place(&mut self.place)?;
                 self.scripts.push(script)?;
                 return Ok(Some(line));
             }

@@ -96,7 +96,7 @@ runs : AllSay (
     (codes "s x", Err (fault.Count (codes "x"))) ∷
     (codes "c", Ok (Act (Continue None))) ∷
     (codes "continue 999999999", Ok (Act (Continue (Some 999999999)))) ∷
-    (codes "c 1000000000", Err (fault.Count (codes "1000000000"))) ∷ [])
+    (codes "c 1000000000", Err (fault.Digits (codes "1000000000"))) ∷ [])
 unfolding says
 runs = refl
 

@@ -86,7 +86,7 @@ addresses = refl
 no_addresses : AllSay (
     (codes "ev", Err (fault.Usage keyword.Evaluate)) ∷
     (codes "ev 1 2", Err (fault.Usage keyword.Evaluate)) ∷
-    (codes "ev 1234567890", Err (fault.Place (codes "1234567890"))) ∷
+    (codes "ev 1234567890", Err (fault.Digits (codes "1234567890"))) ∷
     (codes "ev 12a", Err (fault.Place (codes "12a"))) ∷
     (codes "ev $C", Err (fault.Place (codes "$C"))) ∷
     (codes "ev :x", Err (fault.Place (codes ":x"))) ∷
@@ -135,6 +135,8 @@ counts_and_letters : AllSay (
     (codes "paper", Ok (Look (Paper None))) ∷
     (codes "pa 20", Ok (Look (Paper (Some 20)))) ∷
     (codes "pa x", Err (fault.Count (codes "x"))) ∷
+    (codes "e 4294967296", Err (fault.Digits (codes "4294967296"))) ∷
+    (codes "ev 4294967296+1", Err (fault.Place (codes "4294967296+1"))) ∷
     (codes "j 8", Ok (Look (Journal (Some 8)))) ∷
     (codes "j 8 9", Err (fault.Usage keyword.Journal)) ∷
     (codes "symbols", Ok (Look (Symbols []))) ∷

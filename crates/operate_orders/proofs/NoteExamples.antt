@@ -79,6 +79,7 @@ other_notes : AllSay (
     (codes "delete", Ok (Note (Delete (replicate 8 None)))) ∷
     (codes "del 1 12", Ok (Note (Delete (Some 1 ∷ Some 12 ∷ replicate 6 None)))) ∷
     (codes "del 0", Err (fault.Count (codes "0"))) ∷
+    (codes "del 1 0000000002", Err (fault.Digits (codes "0000000002"))) ∷
     (codes "del 1 2 3 4 5 6 7 8 9", Err (fault.Usage keyword.Delete)) ∷
     (codes "do Check.txt", Ok (Note (Do (codes "Check.txt")))) ∷
     (codes "transcript Today #1", Ok (Note (Transcript (Some (codes "Today #1"))))) ∷
@@ -105,9 +106,9 @@ faults_of_lines = refl
 
 texts : map fault_text (
     fault.Word (codes "stpe") ∷ fault.Count (codes "0") ∷ fault.Usage keyword.Deposit ∷ fault.Usage keyword.Switch ∷
-    fault.Byte 9 2 ∷ [])
+    fault.Byte 9 2 ∷ fault.Digits (codes "4294967296") ∷ [])
     ≡ codes "stpe is no word here" ∷ codes "0 is no number from 1 on" ∷
     codes "deposit ADDRESS TEXT, or deposit ADDRESS = STATEMENT" ∷ codes "switch A on, or switch A off, A to G" ∷
-    codes "byte 9 in column 2 is no character" ∷ []
+    codes "byte 9 in column 2 is no character" ∷ codes "4294967296 has more than nine digits" ∷ []
 unfolding fault_text byte_text digits
 texts = refl

@@ -16,6 +16,7 @@ fault_text (fault.Byte byte column) = byte_text byte column
 fault_text (fault.Word word) = word ++ codes " is no word here"
 fault_text (fault.Usage keyword) = (row_of keyword).usage
 fault_text (fault.Count word) = word ++ codes " is no number from 1 on"
+fault_text (fault.Digits word) = word ++ codes " has more than nine digits"
 fault_text (fault.Place word) = word ++ codes " is no address"
 fault_text (fault.Range word) = word ++ codes " is no range of places"
 fault_text (fault.Number word) = word ++ codes " is no number"

@@ -1,7 +1,7 @@
 -- The operands of a line, each with its fault (own).
 use Rattle.std.specs.Prelude.{ℕ, ◌==◌, if◌then◌else◌, List, length, Option, None, Some, Result, Ok, Err}
 use Rattle.std.specs.Option.{ok_or}
-use Rattle.operate_orders.specs.Parts.{operand_in, beyond_operand, is_end, file_in, numeral_in}
+use Rattle.operate_orders.specs.Parts.{operand_in, beyond_operand, is_end, are_digits, file_in, numeral_in}
 use Rattle.operate_orders.specs.Place.{place_in}
 use Rattle.operate_orders.specs.Range.{range_in}
 use Rattle.operate_orders.specs.Text.{kept, capitals}
@@ -21,19 +21,25 @@ Err fault >>= beyond = Err fault
 abbrev pub ended : {A : Type 0} → Keyword → List ℕ → A → Result A OrderFault
 ended keyword rest value = if is_end rest then Ok value else Err (fault.Usage keyword)
 
+-- the fault of a word that says nothing: digits alone are a number, and too many
+abbrev pub digits_or : List ℕ → OrderFault → OrderFault
+digits_or word why = if are_digits word then fault.Digits (kept word) else why
+
 -- a place, as its word says
 unfoldable pub place_operand : Keyword → List ℕ → Result Place OrderFault
 place_operand keyword word =
-    if length word == 0 then Err (fault.Usage keyword) else ok_or (place_in (capitals word)) (fault.Place (kept word))
+    if length word == 0 then Err (fault.Usage keyword)
+    else ok_or (place_in (capitals word)) (digits_or word (fault.Place (kept word)))
 
 -- a range
 unfoldable pub range_operand : Keyword → List ℕ → Result Range OrderFault
 range_operand keyword word =
-    if length word == 0 then Err (fault.Usage keyword) else ok_or (range_in (capitals word)) (fault.Range (kept word))
+    if length word == 0 then Err (fault.Usage keyword)
+    else ok_or (range_in (capitals word)) (digits_or word (fault.Range (kept word)))
 
 -- a number from 1 on
 abbrev count_said : List ℕ → Option ℕ → Result (Option ℕ) OrderFault
-count_said word None = Err (fault.Count (kept word))
+count_said word None = Err (digits_or word (fault.Count (kept word)))
 count_said word (Some number) = if number == 0 then Err (fault.Count (kept word)) else Ok (Some number)
 
 -- the same, or none where there is no word

@@ -32,6 +32,9 @@ pub enum OrderFault {
     /// An operand is no number from 1 on.
     #[error("no number from 1 on")]
     Count(Text),
+    /// A number has more than nine digits.
+    #[error("more than nine digits")]
+    Digits(Text),
     /// An operand is no address.
     #[error("no address")]
     Place(Text),
@@ -101,6 +104,7 @@ pub fn put_fault(text: &mut Vec<u8>, fault: &OrderFault) -> Result<(), AllocErro
         OrderFault::Word(word) => put_said(text, word, b" is no word here"),
         OrderFault::Usage(keyword) => text.extend_from_slice(keyword.row().usage),
         OrderFault::Count(word) => put_said(text, word, b" is no number from 1 on"),
+        OrderFault::Digits(word) => put_said(text, word, b" has more than nine digits"),
         OrderFault::Place(word) => put_said(text, word, b" is no address"),
         OrderFault::Range(word) => put_said(text, word, b" is no range of places"),
         OrderFault::Number(word) => put_said(text, word, b" is no number"),

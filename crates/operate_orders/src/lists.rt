@@ -49,7 +49,7 @@ pub(crate) fn fields(operands: &[u8]) -> Result<[Option<Place>; MOST_LISTED], Or
 ///
 /// # Errors
 ///
-/// `Count` if a word is no such number, `Usage` if there are more words.
+/// `Digits` or `Count` if a word is no such number, `Usage` if there are more words.
 #[tactic(auto, unfolding(crate::specs::List::numbers_in))]
 pub(crate) fn numbers(operands: &[u8]) -> Result<[Option<u32>; MOST_LISTED], OrderFault>
     ensures { result ≡ numbers_in operands.now }

@@ -1,20 +1,31 @@
 //! The operands of a line, each with its fault.
 ghost use Rattle.std.specs.Prelude.{◌≡◌};
-ghost use Rattle.operate_orders.specs.Operands.{place_operand, range_operand, count_operand, lone_place};
+ghost use Rattle.operate_orders.specs.Operands.{digits_or, place_operand, range_operand, count_operand, lone_place};
 ghost use Rattle.operate_orders.specs.Operands.{lone_range, lone_count, lone_file};
 
 use crate::fault::OrderFault;
-use crate::parts::{file_name, is_end, numeral, split_operand};
+use crate::parts::{are_digits, file_name, is_end, numeral, split_operand};
 use crate::places::{Place, read_place};
 use crate::ranges::{Range, read_range};
 use crate::text::Text;
 use crate::words::Keyword;
 
+/// The fault of a word that says nothing: `Digits` for digits alone, which are too many of a number, else this one.
+fn digits_or(word: &[u8], fault: OrderFault) -> OrderFault
+    ensures { result ≡ digits_or word.now fault }
+{
+    if are_digits(word) {
+        OrderFault::Digits(Text::as_typed(word))
+    } else {
+        fault
+    }
+}
+
 /// The place that a word is.
 ///
 /// # Errors
 ///
-/// `Usage` if there is no word, `Place` if it is no address.
+/// `Usage` if there is no word, `Digits` for a number that is too long, `Place` for any other word that is no address.
 #[tactic(auto, unfolding(crate::specs::Operands::place_operand))]
 pub(crate) fn place_operand(keyword: Keyword, word: &[u8]) -> Result<Place, OrderFault>
     ensures { result ≡ place_operand keyword word.now }
@@ -25,7 +36,7 @@ pub(crate) fn place_operand(keyword: Keyword, word: &[u8]) -> Result<Place, Orde
     let capitals = Text::in_capitals(word);
     match read_place(capitals.as_slice()) {
         Some(place) => Ok(place),
-        None => Err(OrderFault::Place(Text::as_typed(word))),
+        None => Err(digits_or(word, OrderFault::Place(Text::as_typed(word)))),
     }
 }
 
@@ -33,7 +44,7 @@ pub(crate) fn place_operand(keyword: Keyword, word: &[u8]) -> Result<Place, Orde
 ///
 /// # Errors
 ///
-/// `Usage` if there is no word, `Range` if it is no range.
+/// `Usage` if there is no word, `Digits` for a number that is too long, `Range` for any other word that is no range.
 #[tactic(auto, unfolding(crate::specs::Operands::range_operand))]
 pub(crate) fn range_operand(keyword: Keyword, word: &[u8]) -> Result<Range, OrderFault>
     ensures { result ≡ range_operand keyword word.now }
@@ -44,7 +55,7 @@ pub(crate) fn range_operand(keyword: Keyword, word: &[u8]) -> Result<Range, Orde
     let capitals = Text::in_capitals(word);
     match read_range(capitals.as_slice()) {
         Some(range) => Ok(range),
-        None => Err(OrderFault::Range(Text::as_typed(word))),
+        None => Err(digits_or(word, OrderFault::Range(Text::as_typed(word)))),
     }
 }
 
@@ -52,7 +63,7 @@ pub(crate) fn range_operand(keyword: Keyword, word: &[u8]) -> Result<Range, Orde
 ///
 /// # Errors
 ///
-/// `Count` if the word is no such number.
+/// `Digits` for a number that is too long, `Count` for any other word that is no number from 1 on.
 #[tactic(auto, unfolding(crate::specs::Operands::count_operand))]
 pub(crate) fn count_operand(word: &[u8]) -> Result<Option<u32>, OrderFault>
     ensures { result ≡ count_operand word.now }
@@ -61,7 +72,8 @@ pub(crate) fn count_operand(word: &[u8]) -> Result<Option<u32>, OrderFault>
         return Ok(None);
     }
     match numeral(word) {
-        Some(0) | None => Err(OrderFault::Count(Text::as_typed(word))),
+        Some(0) => Err(OrderFault::Count(Text::as_typed(word))),
+        None => Err(digits_or(word, OrderFault::Count(Text::as_typed(word)))),
         Some(count) => Ok(Some(count)),
     }
 }
@@ -70,7 +82,7 @@ pub(crate) fn count_operand(word: &[u8]) -> Result<Option<u32>, OrderFault>
 ///
 /// # Errors
 ///
-/// `Usage` if there is no word or another follows, `Place` if it is no address.
+/// `Usage` if there is no word or another follows; `Digits` or `Place` if it is no address.
 #[tactic(auto, unfolding(crate::specs::Operands::lone_place))]
 pub(crate) fn lone_place(keyword: Keyword, rest: &[u8]) -> Result<Place, OrderFault>
     ensures { result ≡ lone_place keyword rest.now }
@@ -88,7 +100,7 @@ pub(crate) fn lone_place(keyword: Keyword, rest: &[u8]) -> Result<Place, OrderFa
 ///
 /// # Errors
 ///
-/// `Usage` if there is no word or another follows, `Range` if it is no range.
+/// `Usage` if there is no word or another follows; `Digits` or `Range` if it is no range.
 #[tactic(auto, unfolding(crate::specs::Operands::lone_range))]
 pub(crate) fn lone_range(keyword: Keyword, rest: &[u8]) -> Result<Range, OrderFault>
     ensures { result ≡ lone_range keyword rest.now }
@@ -106,7 +118,7 @@ pub(crate) fn lone_range(keyword: Keyword, rest: &[u8]) -> Result<Range, OrderFa
 ///
 /// # Errors
 ///
-/// `Count` if a word is no such number, `Usage` if another follows.
+/// `Digits` or `Count` if a word is no such number, `Usage` if another follows.
 #[tactic(auto, unfolding(crate::specs::Operands::lone_count))]
 pub(crate) fn lone_count(keyword: Keyword, rest: &[u8]) -> Result<Option<u32>, OrderFault>
     ensures { result ≡ lone_count keyword rest.now }

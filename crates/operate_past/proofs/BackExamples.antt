@@ -6,7 +6,7 @@ use Rattle.machine_commands.specs.declared.command.Command.TheVariants.{Run, Set
 use Rattle.room_alone.specs.declared.entry.Entry.{Entry}
 use Rattle.room_alone.specs.Journal.{entry}
 use Rattle.room_alone.specs.Replay.{pair}
-use Rattle.operate_past.specs.Back.{back_of, gone_from, instructions_of}
+use Rattle.operate_past.specs.Back.{back_of, gone_from, instructions_of, whole_of}
 
 -- six instructions, something that an operator does, and two more
 abbrev eight : List Entry
@@ -51,3 +51,12 @@ no_instruction_taken_back = refl
 
 an_instruction_that_was_refused_does_not_count : back_of 1 refused ≡ Some []
 an_instruction_that_was_refused_does_not_count = refl
+
+a_run_that_is_cut_is_not_whole : whole_of 4 halted ≡ 2
+a_run_that_is_cut_is_not_whole = refl
+
+what_comes_before_the_next_instruction_is_whole : whole_of 2 eight ≡ 2
+what_comes_before_the_next_instruction_is_whole = refl
+
+all_are_whole_if_nothing_is_taken_back : whole_of 0 halted ≡ 4
+all_are_whole_if_nothing_is_taken_back = refl

@@ -12,7 +12,7 @@ use Rattle.machine_panel.specs.declared.stop.Stop.TheVariants as stop
 use Rattle.cpu_1401.specs.CardsAndPrinter.{load, with_devices}
 use Rattle.cpu_1401.specs.Run.{Finished, carried_out_by, most_steps, one_more, run_for, run_on}
 use Rattle.cpu_1401.specs.State.{State}
-use Rattle.cpu_1401.specs.Step.{step}
+use Rattle.cpu_1401.specs.Fitting.{fitted_step}
 use Rattle.cpu_1401.proofs.RunLemmas.{after_steps, nothing_yet}
 use Rattle.devices_1401.specs.Devices.{fed, is_full}
 use Rattle.devices_1401.specs.declared.card.Card.{Card}
@@ -86,7 +86,8 @@ cut_run zero (suc limit) s more = record {
 }
 cut_run (suc left) zero s more = absurd (omega arith)
 cut_run (suc left) (suc limit) s more =
-    let c = cut_on (step s).stop left limit (step s).state (cut_run left limit (step s).state) more in
+    let t = (fitted_step s).state in
+    let c = cut_on (fitted_step s).stop left limit t (cut_run left limit t) more in
     record { steps_is = c.steps_is; joined = c.joined; machines = c.machines; within = c.within }
 
 -- as many machines as instructions
@@ -113,7 +114,8 @@ count_on (Some why) limit t same = count_stopped why t
 pub count_run : (limit : ℕ) (s : State) → length (machines_for limit s) ≡ (run_for limit s).steps
 unfolding run_for machines_for
 count_run zero s = refl
-count_run (suc limit) s = count_on (step s).stop limit (step s).state (count_run limit (step s).state)
+count_run (suc limit) s =
+    let t = (fitted_step s).state in count_on (fitted_step s).stop limit t (count_run limit t)
 
 -- the machines of a run, if its limit isn't refused
 abbrev machines_if : Bool → ℕ → State → List State
@@ -164,6 +166,7 @@ count_by s command.LoadKey =
 count_by s (command.Run limit) = count_if (nat_le 1 limit && nat_le limit most_steps) limit s
 count_by s command.TakeLine = none_by_line s.devices.paper s
 count_by s command.TakeCard = none_by_card s.devices.stacker s
+count_by s (command.Fit features) = refl
 
 -- a run whose limit isn't refused
 run_carried : (n : ℕ) (s : State) → 1 ≤ n → n ≤ most_steps
@@ -262,3 +265,4 @@ cut_by left seat s (command.Feed card) more = absurd (below_zero left more)
 cut_by left seat s command.LoadKey more = absurd (below_zero left more)
 cut_by left seat s command.TakeLine more = absurd (below_zero left more)
 cut_by left seat s command.TakeCard more = absurd (below_zero left more)
+cut_by left seat s (command.Fit features) more = absurd (below_zero left more)

@@ -1,3 +1,4 @@
 mod BackExamples
 pub mod BackLemmas
 pub mod CutLemmas
+pub mod FirstEntriesLemmas

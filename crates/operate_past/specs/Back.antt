@@ -39,6 +39,20 @@ first_of left (entry ∷ entries) =
     then pair_of entry ∷ first_of (left - steps_in entry.answer) entries
     else part_of entry.seat left
 
+-- how many entries stay whole then
+abbrev pub whole_in : ℕ → List Entry → ℕ
+whole_in left [] = 0
+whole_in left (entry ∷ entries) =
+    if nat_le (steps_in entry.answer) left then suc (whole_in (left - steps_in entry.answer) entries) else 0
+
+-- and what stays of the next one
+abbrev pub part_in : ℕ → List Entry → List SeatedCommand
+part_in left [] = []
+part_in left (entry ∷ entries) =
+    if nat_le (steps_in entry.answer) left
+    then part_in (left - steps_in entry.answer) entries
+    else part_of entry.seat left
+
 -- what is left to do of a command after this many of its instructions
 abbrev pub rest_of : ℕ → Command → Command
 rest_of left (command.Run limit) = command.Run (limit - left)
@@ -51,6 +65,7 @@ rest_of left (command.Feed card) = command.Feed card
 rest_of left command.LoadKey = command.LoadKey
 rest_of left command.TakeLine = command.TakeLine
 rest_of left command.TakeCard = command.TakeCard
+rest_of left (command.Fit features) = command.Fit features
 
 -- the commands that are gone: they lead from the first instructions of a journal to its end
 abbrev pub gone_of : ℕ → List Entry → List SeatedCommand
@@ -64,6 +79,10 @@ gone_of left (entry ∷ entries) =
 abbrev pub back_of : ℕ → List Entry → Option (List SeatedCommand)
 back_of n journal =
     if nat_le n (instructions_of journal) then Some (first_of (instructions_of journal - n) journal) else None
+
+-- and how many of its entries stay whole
+abbrev pub whole_of : ℕ → List Entry → ℕ
+whole_of n journal = whole_in (instructions_of journal - n) journal
 
 -- the commands that are gone from it then
 abbrev pub gone_from : ℕ → List Entry → List SeatedCommand

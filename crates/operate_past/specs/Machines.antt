@@ -3,7 +3,7 @@ use Rattle.std.specs.Prelude.{ℕ, ◌==◌, ◌&&◌, zero, suc, nat_le, if◌t
 use Rattle.machine_panel.specs.declared.stop.Stop.{Stop}
 use Rattle.cpu_1401.specs.Run.{carried_out_by, most_steps}
 use Rattle.cpu_1401.specs.State.{State, power_on}
-use Rattle.cpu_1401.specs.Step.{step}
+use Rattle.cpu_1401.specs.Fitting.{fitted_step}
 use Rattle.machine_commands.specs.declared.command.Command.{Command}
 use Rattle.machine_commands.specs.declared.command.Command.TheVariants as command
 use Rattle.machine_execution.specs.CarryOut.{carry_out}
@@ -19,7 +19,8 @@ machines_on t (Some why) rest = if carried_out_by why == 0 then [] else t ∷ []
 -- the machine after each instruction of a run
 unfoldable pub machines_for : ℕ → State → List State
 machines_for zero s = []
-machines_for (suc limit) s = machines_on (step s).state (step s).stop (machines_for limit (step s).state)
+machines_for (suc limit) s =
+    let done = fitted_step s in machines_on done.state done.stop (machines_for limit done.state)
 
 -- the machine after each instruction that a command carries out: a run does, if its limit isn't refused
 abbrev pub machines_by : State → Command → List State
@@ -33,6 +34,7 @@ machines_by s (command.Feed card) = []
 machines_by s command.LoadKey = []
 machines_by s command.TakeLine = []
 machines_by s command.TakeCard = []
+machines_by s (command.Fit features) = []
 
 -- the machine after each instruction that these commands carry out
 abbrev pub machines_after : State → List SeatedCommand → List State

@@ -1,36 +1,35 @@
 //! Instructions taken back.
-ghost use Rattle.std.specs.Prelude.{◌≡◌, ◌+◌, ◌-◌, ◌≤◌, ◌↔◌, ◌++◌, None, Some, length, take, IfOk, OnOk};
+ghost use Rattle.std.specs.Prelude.{◌≡◌, ◌+◌, ◌-◌, ◌≤◌, ◌↔◌, ◌++◌, true, None, Some, length, take, IfOk, OnOk};
 ghost use Rattle.room_alone.specs.Journal.{most_entries, pairs_of, state_of};
 ghost use Rattle.room_alone.specs.Replay.{state_after};
-ghost use Rattle.operate_past.specs.Back.{back_of, first_of, gone_from, instructions_of, part_of, steps_in};
+ghost use Rattle.operate_past.specs.Back.{back_of, gone_from, instructions_of, part_in, part_of, steps_in, whole_in};
+ghost use Rattle.operate_past.specs.Back.{whole_of};
 ghost use Rattle.operate_past.specs.Machines.{machines_after, machines_of};
 
+use crate::again::{BackFault, carry_entries};
+use crate::interrupter::Interrupter;
 use machine_execution::{Answer, Command};
 use room_alone::{Entry, Room, RoomFault};
 use std::alloc::Global;
-use thiserror::Error;
-
-/// Why a room can't go back. The room is as it was.
-#[derive(Clone, Copy, Debug, PartialEq, Eq, Error)]
-pub enum BackFault {
-    /// The memory for another machine or for its journal was refused.
-    #[error("there is no memory for the earlier machine")]
-    Memory,
-    /// Fewer instructions were carried out than are to be taken back.
-    #[error("fewer instructions were carried out")]
-    TooFew,
-}
 
 /// The room as it was this many instructions ago: a new room that carries out again what is left of the journal without
 /// them. Commands after the instruction that was the last one then are gone, but for those before the next instruction.
 ///
 /// # Errors
 ///
-/// `TooFew` if fewer instructions were carried out, else `Memory` if there is no room for the machine or its journal.
-pub fn carry_back(alloc: Global, room: &Room, count: u64) -> Result<Room, BackFault>
+/// `TooFew` if fewer instructions were carried out, else as those of `carry_entries`.
+pub fn carry_back<C, I: Interrupter<C>>(
+    alloc: Global,
+    room: &Room,
+    count: u64,
+    interrupter: &mut I,
+    console: &mut C,
+) -> Result<Room, BackFault>
+    requires { I.is_sound interrupter.old console.old ≡ true }
     ensures commands { IfOk result (λ earlier. Some (pairs_of earlier.journal) ≡ back_of count room.now.journal) }
     ensures size { IfOk result (λ earlier. earlier.size ≡ room.now.size) }
     ensures too_few { (result ≡ Err BackFault.TooFew) ↔ (back_of count room.now.journal ≡ None) }
+    ensures sound { I.is_sound interrupter.new console.new ≡ true }
 
     // So many instructions fewer were carried out, and after each of the others the machine was the same.
     ensures instructions { IfOk result (λ earlier.
@@ -48,15 +47,26 @@ pub fn carry_back(alloc: Global, room: &Room, count: u64) -> Result<Room, BackFa
     if count > total {
         return Err(BackFault::TooFew);
     }
-    let Ok(mut earlier) = Room::power_on(alloc, room.machine().core().size()) else {
-        return Err(BackFault::Memory);
+    let cut = cut_after(room.journal(), total - count);
+    let mut earlier = match carry_entries(alloc, room, cut.whole, interrupter, console) {
+        Ok(earlier) => earlier,
+        Err(fault) => return Err(fault),
     };
     // Its journal is never full: it has no entry more than the room's.
-    if carry_first(&mut earlier, room.journal(), total - count).is_err() {
+    if carry_part(&mut earlier, cut.seat, cut.limit).is_err() {
         return Err(BackFault::Memory);
     }
     let _legal = earlier.journal();
     Ok(earlier)
+}
+
+/// How many entries of a journal stay as they are when so many instructions are taken back; all if there are fewer.
+pub fn whole_entries(journal: &[Entry], count: u64) -> usize
+    requires { length journal.now ≤ most_entries }
+    ensures { result ≡ whole_of count journal.now }
+{
+    let total = instructions_of(journal);
+    cut_after(journal, total.saturating_sub(count)).whole
 }
 
 /// How many instructions the runs of a journal carried out.
@@ -81,24 +91,35 @@ fn steps_in(answer: &Answer) -> u32
     }
 }
 
-/// Carries out the commands of a journal's first instructions, this many.
-fn carry_first(room: &mut Room, journal: &[Entry], count: u64) -> Result<(), RoomFault>
-    ensures commands { OnOk result (pairs_of room.new.journal
-        ≡ pairs_of room.old.journal ++ first_of count journal.now) }
-    ensures size { room.new.size ≡ room.old.size }
+/// Where a journal is cut: so many entries stay whole, and what stays of the next one is a run of this seat with this
+/// limit, or nothing if that is 0.
+#[derive(Clone, Copy)]
+struct Cut {
+    whole: usize,
+    seat: u8,
+    limit: u32,
+}
+
+/// Where a journal is cut that keeps its first instructions, this many.
+fn cut_after(journal: &[Entry], count: u64) -> Cut
+    ensures whole { result.whole ≡ whole_in count journal.now }
+    ensures part { part_of result.seat result.limit ≡ part_in count journal.now }
 {
     let mut left = count;
-    for entry in journal {
+    for (whole, entry) in journal.iter().enumerate() {
         let steps = u64::from(steps_in(&entry.answer));
         if steps > left {
-            return carry_part(room, entry.seat, left as u32);
+            let limit = left as u32;
+            let seat = entry.seat;
+            return Cut { whole, seat, limit };
         }
-        match room.carry(entry.seat, entry.command) {
-            Ok(_) => left -= steps,
-            Err(fault) => return Err(fault),
-        }
+        left -= steps;
     }
-    Ok(())
+    Cut {
+        whole: journal.len(),
+        seat: 0,
+        limit: 0,
+    }
 }
 
 /// Carries out so many instructions of a run, if there are any.

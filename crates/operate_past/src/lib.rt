@@ -1,12 +1,18 @@
 //! Back in time: a room whose journal is shorter, and whose machine is an earlier one.
 //!
 //! ```text
-//! let earlier = carry_back(alloc, room, 4)?;   // RUN 18, at the journal's end, is RUN 14 now
-//! earlier.machine()                            // the machine four instructions before
+//! let earlier = carry_back(alloc, room, 4, &mut Nobody, &mut ())?;   // RUN 18, at the journal's end, is RUN 14 now
+//! earlier.machine()                                                  // the machine four instructions before
 //! ```
 #![tactic(auto)]
 
-// instructions taken back
+// who may interrupt it
+pub mod interrupter;
+
+// the first entries carried out again, and instructions taken back
+pub mod again;
 pub mod back;
 
-pub use back::{BackFault, carry_back, instructions_of};
+pub use again::{BackFault, carry_entries};
+pub use back::{carry_back, instructions_of, whole_entries};
+pub use interrupter::{Interrupter, Nobody};

@@ -2,7 +2,7 @@
 use Rattle.std.proofs.Common.{◌≡◌, ℕ, true, false, List, [], ◌∷◌, replicate, refl}
 use Rattle.std.specs.Prelude.{codes, Ok, Err}
 use Rattle.core_1401.specs.Storage.{blank}
-use Rattle.machine_commands.specs.declared.command.Command.TheVariants.{Deposit, LoadKey, SetI}
+use Rattle.machine_commands.specs.declared.command.Command.TheVariants.{Deposit, SetI}
 use Rattle.operate_orders.specs.declared.orders.Act.TheVariants as act
 use Rattle.operate_program.specs.Act.{commands_of, mark_commands, pieces, start_commands}
 use Rattle.operate_program.specs.Source.{columns, operands_in}
@@ -18,9 +18,6 @@ a_mark_is_one_cell = refl
 go_is_its_start : commands_of program machine (act.Go (plain (label (codes "START")))) ≡ Ok (SetI 20 ∷ [])
 unfolding start_commands address_of value_of label_value place_of adjusted in_core
 go_is_its_start = refl
-
-the_load_key : commands_of program machine act.Load ≡ Ok (LoadKey ∷ [])
-the_load_key = refl
 
 a_run_is_none : commands_of program machine (act.Step 3) ≡ Ok []
 a_run_is_none = refl

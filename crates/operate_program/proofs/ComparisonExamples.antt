@@ -40,3 +40,12 @@ blanks_follow_a_text = refl
 h_comes_before_i : is_so relation.Less (value.Text (codes "I")) (cells (57 ∷ 56 ∷ [])) ≡ true
 unfolding text_order orders collation graphics
 h_comes_before_i = refl
+
+-- AB: a zone over the high place
+ab_is_no_number : map (λ relation. is_so relation (value.Number false (codes "12")) (cells (50 ∷ 49 ∷ [])))
+    (relation.Equal ∷ relation.Unequal ∷ relation.Greater ∷ relation.AtLeast ∷ []) ≡ false ∷ false ∷ false ∷ false ∷ []
+ab_is_no_number = refl
+
+-- a blank before a digit
+a_blank_is_no_digit : is_so relation.Equal (value.Number false (codes "2")) (cells (2 ∷ 0 ∷ [])) ≡ false
+a_blank_is_no_digit = refl

@@ -13,6 +13,7 @@ use Rattle.bcd_1401.specs.Character.{digit_of, zone_of}
 use Rattle.bcd_1401.specs.Collation.{order_of}
 use Rattle.bcd_1401.specs.Digits.{is_digit, value_of, with_digit}
 use Rattle.bcd_1401.specs.declared.cell.Cell.{Cell}
+use Rattle.core_1401.specs.Address as address
 use Rattle.core_1401.specs.Field.{cells_down}
 use Rattle.core_1401.specs.Storage.{Storage, blank, cell_at}
 use Rattle.core_1401.proofs.FieldLemmas.{get_down, length-down}
@@ -21,6 +22,7 @@ use Rattle.fields_1401.specs.declared.sign.Sign.{Sign}
 use Rattle.fields_1401.specs.declared.sign.Sign.TheVariants.{Plus, Minus}
 use Rattle.operate_program.specs.Comparison.{by_signs, number_order, order_of_byte, orders_of, orders_of_text, sign_meant}
 use Rattle.operate_program.specs.Comparison.{text_order, unless_zero}
+use Rattle.operate_views.specs.NumberText.{is_number, is_plain_digit}
 use Rattle.operate_views.proofs.NumberLemmas.{value_of_push}
 
 -- the number that digits write, units first
@@ -130,6 +132,40 @@ past_place storage at len i lt le past =
     get_or_past (places_down storage at len) i blank (omega (arith, places_counted storage at len lt le))
 
 pub ruleset field_places = (place_down, past_place)
+
+-- a field is a number if its units are a digit, and its other places are digits without a zone
+number_by_units : (cells : List Cell) → 0 < length cells
+    → is_number cells ≡ (address.is_digit (get_or cells 0 blank).char && list_all is_plain_digit (drop 1 cells))
+number_by_units [] some = absurd (omega (arith, some))
+number_by_units (units ∷ cells) some = refl
+
+pub number_at : (storage : Storage) (at len : ℕ) → at < length storage → 0 < len → len ≤ at + 1
+    → is_number (places_down storage at len)
+    ≡ (address.is_digit (cell_at storage at).char && list_all is_plain_digit (drop 1 (places_down storage at len)))
+number_at storage at len lt some le =
+    let cells : List Cell = places_down storage at len in
+    let units : at - 0 ≡ at = omega arith in
+    number_by_units cells (omega (arith, some, places_counted storage at len lt le))
+    ∙ ap (λ (cell : Cell). address.is_digit cell.char && list_all is_plain_digit (drop 1 cells))
+    (place_down storage at len 0 lt le some ∙ ap (λ (n : ℕ). cell_at storage n) units)
+
+-- a place more
+pub plain_more : (storage : Storage) (at len i : ℕ) → at < length storage → len ≤ at + 1 → i < len
+    → list_all is_plain_digit (drop i (places_down storage at len))
+    ≡ (is_plain_digit (cell_at storage (at - i)) && list_all is_plain_digit (drop (i + 1) (places_down storage at len)))
+plain_more storage at len i lt le inside =
+    let cells : List Cell = places_down storage at len in
+    ap (λ (left : List Cell). list_all is_plain_digit left)
+    (drop_more cells i blank (omega (arith, inside, places_counted storage at len lt le)))
+    ∙ ap (λ (cell : Cell). is_plain_digit cell && list_all is_plain_digit (drop (i + 1) cells))
+    (place_down storage at len i lt le inside)
+
+-- no place is left
+pub plain_end : (storage : Storage) (at len i : ℕ) → at < length storage → len ≤ at + 1 → len ≤ i
+    → list_all is_plain_digit (drop i (places_down storage at len)) ≡ true
+plain_end storage at len i lt le past =
+    ap (λ (left : List Cell). list_all is_plain_digit left)
+    (drop_all i (places_down storage at len) (omega (arith, past, places_counted storage at len lt le)))
 
 -- what a list is mapped to, by place
 map_at : {X : Type 0} (f : X → ℕ) (xs : List X) (i : ℕ) (d : X) → i < length xs → get_or (map f xs) i 0 ≡ f (get_or xs i d)

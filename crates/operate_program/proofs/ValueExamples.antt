@@ -7,11 +7,14 @@ use Rattle.operate_orders.specs.declared.places.IndexRegister.TheVariants.{X1, X
 use Rattle.operate_orders.specs.declared.places.Register.TheVariants.{A}
 use Rattle.operate_orders.specs.declared.ranges.Area.TheVariants.{Print}
 use Rattle.operate_orders.specs.declared.ranges.Range.TheVariants as range
-use Rattle.operate_program.specs.Range.{area_of, between, counted, first_named, label_places, places_in_core}
+use Rattle.operate_program.specs.Field.{field_of, register_named}
+use Rattle.operate_program.specs.Range.{area_of, between, counted, first_named, index_places, label_places}
+use Rattle.operate_program.specs.Range.{places_in_core}
 use Rattle.operate_program.specs.Range.{places_named, range_of}
 use Rattle.operate_program.specs.Value.{address_of, adjusted, in_core, index_value, indexed_value, label_value}
 use Rattle.operate_program.specs.Value.{line_value, place_of, row_of_line, value_of}
 use Rattle.operate_program.specs.declared.fault.PlaceFault.TheVariants as fault
+use Rattle.operate_program.specs.declared.field.Field.TheVariants as field
 use Rattle.operate_program.proofs.ExampleProgram.{adjusted_once, label, machine, number, plain, program}
 
 a_label_is_its_units_place : address_of program machine (plain (label (codes "TOTAL"))) ≡ Ok 40
@@ -53,6 +56,18 @@ a_constant_has_its_places = refl
 an_instruction_has_its_places : range_of program machine (range.At (plain (label (codes "START")))) ≡ Ok (20, 4)
 unfolding label_places places_named place_of first_named places_in_core
 an_instruction_has_its_places = refl
+
+an_index_register_has_three_places : range_of program machine (range.At (plain (Index X1))) ≡ Ok (87, 3)
+unfolding index_places
+an_index_register_has_three_places = refl
+
+an_index_register_is_a_field : field_of program machine (plain (Index X3)) ≡ Ok (field.Index X3)
+unfolding field_of register_named
+an_index_register_is_a_field = refl
+
+with_an_adjustment_it_is_a_place : field_of program machine (adjusted_once (Index X1) (Minus 50)) ≡ Ok (field.Marked 39)
+unfolding field_of register_named address_of value_of index_value adjusted in_core
+with_an_adjustment_it_is_a_place = refl
 
 both_ends_are_in_a_range : range_of program machine (range.Between (plain (number 10)) (plain (number 20))) ≡ Ok (10, 11)
 unfolding between address_of value_of adjusted in_core

@@ -8,7 +8,6 @@ use Rattle.bcd_1401.specs.declared.cell.Cell.{Cell}
 use Rattle.console_text.specs.CardText.{card_of}
 use Rattle.console_text.specs.declared.line.LineFault.{LineFault}
 use Rattle.core_1401.specs.Cells.{most_cells}
-use Rattle.core_1401.specs.Field.{field_at}
 use Rattle.core_1401.specs.Storage.{Storage, cell_at}
 use Rattle.cpu_1401.specs.State.{State}
 use Rattle.devices_1401.specs.declared.card.Card.{Card}
@@ -24,6 +23,7 @@ use Rattle.operate_orders.specs.declared.orders.Deposited.TheVariants as deposit
 use Rattle.operate_orders.specs.declared.places.Place.{Place}
 use Rattle.operate_orders.specs.declared.values.Value.{Value}
 use Rattle.operate_orders.specs.declared.values.Value.TheVariants as value
+use Rattle.operate_program.specs.Field.{cells_of, field_of, units_of}
 use Rattle.operate_program.specs.Known.{Known}
 use Rattle.operate_program.specs.Range.{places_in_core}
 use Rattle.operate_program.specs.Statement.{statement_commands}
@@ -31,6 +31,7 @@ use Rattle.operate_program.specs.Value.{address_of}
 use Rattle.operate_program.specs.declared.fault.ActFault.{ActFault}
 use Rattle.operate_program.specs.declared.fault.ActFault.TheVariants as fault
 use Rattle.operate_program.specs.declared.fault.PlaceFault.{PlaceFault}
+use Rattle.operate_program.specs.declared.field.Field.{Field}
 use Rattle.operate_views.specs.Value.{lettered, with_number}
 use Rattle.operate_views.specs.declared.fault.FieldFault.TheVariants as field_fault
 use Rattle.operate_views.specs.declared.fault.ValueFault.TheVariants as value_faults
@@ -96,13 +97,9 @@ start_commands known s place = do
   at ← if_place (address_of known s place)
   start_at at
 
-abbrev feed : Card → Result (List Command) ActFault
-feed card = one (command.Feed card)
-
-unfoldable pub feed_commands : List ℕ → Result (List Command) ActFault
-feed_commands text = do
-  card ← if_card (card_of (chars_of text))
-  feed card
+-- the card that a text is
+abbrev pub card_in : List ℕ → Result Card ActFault
+card_in text = if_card (card_of (chars_of text))
 
 abbrev pub sign_written : Bool → Option Sign
 sign_written minus = if minus then Some Minus else None
@@ -162,16 +159,17 @@ abbrev set_if : ℕ → Value → Option (List Cell) → Result (List Command) A
 set_if at value None = Err (fault.Field (field_fault.NoMark at))
 set_if at value (Some cells) = set_at at cells value
 
--- a value in the field with its units at a place, which is in core
-unfoldable pub set_commands : Storage → ℕ → Value → Result (List Command) ActFault
-set_commands storage at value = set_if at value (field_at storage at)
+-- a value in a field, whose units place is in core
+unfoldable pub set_commands : Storage → Field → Value → Result (List Command) ActFault
+set_commands storage field value = set_if (units_of field) value (cells_of storage field)
 
 unfoldable pub value_commands : Known → State → Place → Value → Result (List Command) ActFault
-value_commands known s field value = do
-  at ← if_place (address_of known s field)
-  set_commands s.storage at value
+value_commands known s place value = do
+  field ← if_place (field_of known s place)
+  set_commands s.storage field value
 
--- the commands that an act stands for; a run stands for none of its own, nor do the cards of a file
+-- the commands that an act stands for; a run stands for none of its own, nor do cards, which come into the hand, and the
+-- load key, before which the hopper is filled from there
 abbrev pub commands_of : Known → State → Act → Result (List Command) ActFault
 commands_of known s (act.Deposit place what) = deposit_commands known s place what
 commands_of known s (act.Set field value) = value_commands known s field value
@@ -179,9 +177,9 @@ commands_of known s (act.Mark place) = mark_commands known s place true
 commands_of known s (act.Unmark place) = mark_commands known s place false
 commands_of known s (act.Start place) = start_commands known s place
 commands_of known s (act.Switch switch on) = one (command.Switch switch on)
-commands_of known s (act.Feed text) = feed_commands text
+commands_of known s (act.Feed text) = Ok []
 commands_of known s (act.Deck file) = Ok []
-commands_of known s act.Load = one command.LoadKey
+commands_of known s act.Load = Ok []
 commands_of known s (act.Step count) = Ok []
 commands_of known s (act.Continue count) = Ok []
 commands_of known s (act.Until place) = Ok []

@@ -9,7 +9,6 @@ use Rattle.std.specs.Ordering.{is_eq, is_ne, is_lt, is_gt, is_le, is_ge}
 use Rattle.bcd_1401.specs.Collation.{order_of}
 use Rattle.bcd_1401.specs.Digits.{is_digit, value_of}
 use Rattle.bcd_1401.specs.declared.cell.Cell.{Cell}
-use Rattle.core_1401.specs.Field.{field_at}
 use Rattle.core_1401.specs.Storage.{Storage}
 use Rattle.cpu_1401.specs.State.{State}
 use Rattle.fields_1401.specs.Number.{magnitude_of, sign_of}
@@ -21,10 +20,13 @@ use Rattle.operate_orders.specs.declared.values.Relation.{Relation}
 use Rattle.operate_orders.specs.declared.values.Relation.TheVariants as relation
 use Rattle.operate_orders.specs.declared.values.Value.{Value}
 use Rattle.operate_orders.specs.declared.values.Value.TheVariants as value
+use Rattle.operate_program.specs.Field.{cells_of, field_of}
 use Rattle.operate_program.specs.Known.{Known}
-use Rattle.operate_program.specs.Value.{◌>>=◌, address_of}
+use Rattle.operate_program.specs.Value.{◌>>=◌}
 use Rattle.operate_program.specs.declared.comparison.Comparison.{Comparison}
 use Rattle.operate_program.specs.declared.fault.PlaceFault.{PlaceFault}
+use Rattle.operate_program.specs.declared.field.Field.{Field}
+use Rattle.operate_views.specs.NumberText.{is_number}
 
 -- two values that compare so are in a relation
 abbrev pub holds : Relation → Ordering → Bool
@@ -74,10 +76,10 @@ order_of_byte byte = order_of (unwrap_or (char_of byte) 0)
 abbrev pub orders_of_text : List ℕ → List ℕ
 orders_of_text text = map order_of_byte text
 
--- the number of a field, units first, is in a relation to another
+-- a field, units first, is a number, and it is in a relation to another
 abbrev pub is_so_number : Relation → Bool → List ℕ → List Cell → Bool
 is_so_number relation minus digits cells =
-    list_all is_digit digits
+    is_number cells && list_all is_digit digits
     && holds relation (number_order (sign_of cells) (magnitude_of cells) (sign_meant minus) (value_of digits))
 
 -- the characters of a field are in a relation to a text
@@ -93,15 +95,16 @@ abbrev is_so_if : Relation → Value → Option (List Cell) → Bool
 is_so_if relation value None = false
 is_so_if relation value (Some cells) = is_so relation value cells
 
--- a field ends at a place, and is in a relation to a value
-unfoldable pub compared_at : Storage → ℕ → Relation → Value → Bool
-compared_at storage at relation value = is_so_if relation value (field_at storage at)
+-- there is such a field, and it is in a relation to a value
+unfoldable pub compared_at : Storage → Field → Relation → Value → Bool
+compared_at storage field relation value = is_so_if relation value (cells_of storage field)
 
-abbrev comparison_at : Condition → ℕ → Result Comparison PlaceFault
-comparison_at condition at = Ok (record { at = at; relation = condition.relation; value = condition.value })
+abbrev comparison_on : Condition → Field → Result Comparison PlaceFault
+comparison_on condition field =
+    Ok (record { field = field; relation = condition.relation; value = condition.value })
 
--- a condition, with the place that its field has now
+-- a condition, with the field that its place names now
 unfoldable pub condition_of : Known → State → Condition → Result Comparison PlaceFault
 condition_of known s condition = do
-  at ← address_of known s condition.field
-  comparison_at condition at
+  field ← field_of known s condition.field
+  comparison_on condition field

@@ -1,5 +1,6 @@
 pub mod Act
 pub mod Comparison
+pub mod Field
 pub mod Known
 pub mod Range
 pub mod Source

@@ -1,21 +1,24 @@
 -- The places of ranges (own; A24-1403, "Storage Areas").
-use Rattle.std.specs.Prelude.{ℕ, ◌+◌, ◌-◌, ◌==◌, nat_le, nat_lt, max, Bool, ◌&&◌, if◌then◌else◌, List, length, is_none, slice_index_or}
+use Rattle.std.specs.Prelude.{ℕ, ◌+◌, ◌-◌, ◌==◌, nat_le, nat_lt, max, Bool, ◌&&◌, if◌then◌else◌, List, length}
 use Rattle.std.specs.Prelude.{Option, None, Some, Result, Ok, Err}
 use Rattle.std.specs.List.{list_any}
 use Rattle.std.specs.Ordering.{int_eq}
 use Rattle.autocoder_listing.specs.declared.rows.Row.{Row}
 use Rattle.autocoder_listing.specs.declared.symbol_table.Symbol.{Symbol}
+use Rattle.core_1401.specs.Address.{index_register}
 use Rattle.core_1401.specs.Storage.{Storage}
 use Rattle.cpu_1401.specs.State.{State}
 use Rattle.operate_orders.specs.declared.places.Base.{Base}
 use Rattle.operate_orders.specs.declared.places.Base.TheVariants as base
+use Rattle.operate_orders.specs.Text.{kept}
+use Rattle.operate_orders.specs.declared.places.IndexRegister.{IndexRegister}
 use Rattle.operate_orders.specs.declared.places.Place.{Place}
 use Rattle.operate_orders.specs.declared.ranges.Area.{Area}
 use Rattle.operate_orders.specs.declared.ranges.Area.TheVariants.{Read, Punch, Print}
 use Rattle.operate_orders.specs.declared.ranges.Range.{Range}
 use Rattle.operate_orders.specs.declared.ranges.Range.TheVariants as range
 use Rattle.operate_program.specs.Known.{Known, symbol_named}
-use Rattle.operate_program.specs.Value.{◌>>=◌, address_of, place_of}
+use Rattle.operate_program.specs.Value.{◌>>=◌, address_of, index_name, index_number, is_unadjusted, place_of}
 use Rattle.operate_program.specs.declared.fault.PlaceFault.{PlaceFault}
 use Rattle.operate_program.specs.declared.fault.PlaceFault.TheVariants as fault
 
@@ -69,14 +72,18 @@ places_of_symbol known storage label (Some symbol) = places_named storage known.
 unfoldable pub label_places : Known → Storage → List ℕ → Result Places PlaceFault
 label_places known storage label = places_of_symbol known storage label (symbol_named known.symbols label)
 
--- a place has no adjustment
-abbrev pub is_unadjusted : Place → Bool
-is_unadjusted place =
-    is_none (slice_index_or place.adjustments 0 None) && is_none (slice_index_or place.adjustments 1 None)
-    && is_none (slice_index_or place.adjustments 2 None)
-
 abbrev places_to : ℕ → ℕ → Result Places PlaceFault
 places_to first last = if nat_lt last first then Err (fault.Backwards first last) else Ok (first, last - first + 1)
+
+abbrev places_of_register : Known → Storage → IndexRegister → Option Symbol → Result Places PlaceFault
+places_of_register known storage register None = Ok (index_register (index_number register), 3)
+places_of_register known storage register (Some symbol) =
+    places_named storage known.rows (kept (index_name register)) symbol
+
+-- the three places of an index register, or those of a label with its name
+unfoldable pub index_places : Known → Storage → IndexRegister → Result Places PlaceFault
+index_places known storage register =
+    places_of_register known storage register (symbol_named known.symbols (index_name register))
 
 -- from a place to another
 unfoldable pub between : Known → State → Place → Place → Result Places PlaceFault
@@ -100,12 +107,12 @@ one_place known s place = do
   at ← address_of known s place
   place_alone at
 
--- a place that begins so, without an adjustment: all places of a label
+-- a place that begins so, without an adjustment: all places of a label, or of an index register
 abbrev pub unadjusted : Known → State → Place → Base → Result Places PlaceFault
 unadjusted known s place (base.Label label) = label_places known s.storage label
 unadjusted known s place (base.Number number) = one_place known s place
 unadjusted known s place (base.Line number) = one_place known s place
-unadjusted known s place (base.Index register) = one_place known s place
+unadjusted known s place (base.Index register) = index_places known s.storage register
 unadjusted known s place (base.Held register) = one_place known s place
 
 -- a place alone

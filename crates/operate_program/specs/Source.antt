@@ -1,6 +1,10 @@
 -- The lines of the source, and which of them made the cells at a place (own).
 use Rattle.std.specs.Prelude.{◌≡◌, ℕ, ◌+◌, ◌-◌, ◌==◌, Bool, false, not, ◌&&◌, ◌||◌, if◌then◌else◌, List, [], ◌∷◌, length}
-use Rattle.std.specs.Prelude.{take, drop, Option, None, Some}
+use Rattle.std.specs.Prelude.{take, drop, reverse, pos, codes, Option, None, Some}
+use Rattle.std.specs.List.{find}
+use Rattle.std.specs.Option.{option_map}
+use Rattle.std.specs.Ordering.{int_eq}
+use Rattle.std.specs.Str.{bytes_eq}
 use Rattle.autocoder_listing.specs.Rows.{line_of}
 use Rattle.autocoder_listing.specs.declared.rows.Row.{Row}
 use Rattle.autocoder_statements.specs.Nearness.{word_in}
@@ -55,3 +59,36 @@ pub record IsStatementOf (line : List ℕ) (statement : Statement) : Type 0 wher
   pub label_is : statement.label.now ≡ label_in line
   pub operation_is : statement.operation.now ≡ operation_in line
   pub operands_are : statement.operands.now ≡ operands_in line
+
+-- the operations of constants and areas
+abbrev pub is_data_operation : List ℕ → Bool
+is_data_operation operation =
+    bytes_eq operation (codes "DCW") || bytes_eq operation (codes "DC") || bytes_eq operation (codes "DS")
+    || bytes_eq operation (codes "DSA")
+    || bytes_eq operation (codes "DA")
+
+-- a row is that of a constant or an area which begins at a place
+abbrev pub is_data_at : List ℕ → ℕ → Row → Bool
+is_data_at source at row =
+    int_eq row.address (pos at) && is_data_operation (operation_in (line_numbered source row.number))
+
+-- the last such row
+unfoldable pub data_at : List ℕ → List Row → ℕ → Option Row
+data_at source rows at = find (is_data_at source at) (reverse rows)
+
+-- a line as data: its label, whatever its cells are now
+pub record IsDataOf (line : List ℕ) (statement : Statement) : Type 0 where
+  pub label_is : statement.label.now ≡ label_in line
+  pub operation_is : statement.operation.now ≡ codes "DATA"
+  pub operands_are : statement.operands.now ≡ []
+
+-- what a listing has of a place: the line that made its cells; or the line of data that begins there, if its cells are
+-- others now and have a word mark
+abbrev pub listed_line : List ℕ → List Row → Storage → ℕ → Option ℕ → Option ℕ
+listed_line source rows storage at (Some number) = Some number
+listed_line source rows storage at None =
+    if is_in_core storage at && (cell_at storage at).mark
+    then option_map (λ (row : Row). row.number) (data_at source rows at) else None
+
+unfoldable pub listed_at : List ℕ → List Row → Storage → ℕ → Option ℕ
+listed_at source rows storage at = listed_line source rows storage at (line_at rows storage at)

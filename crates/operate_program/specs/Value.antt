@@ -1,6 +1,6 @@
 -- The addresses that places mean now (own; A24-1403, "Indexing").
-use Rattle.std.specs.Prelude.{ℕ, ◌+◌, ◌-◌, ◌*◌, ◌==◌, nat_lt, ℤ, pos, nat_abs, int_le, int_lt, ◌&&◌, if◌then◌else◌}
-use Rattle.std.specs.Prelude.{List, [], ◌∷◌, length, slice_index_or, Option, None, Some, Result, Ok, Err, codes}
+use Rattle.std.specs.Prelude.{ℕ, ◌+◌, ◌-◌, ◌*◌, ◌==◌, nat_lt, ℤ, pos, nat_abs, int_le, int_lt, Bool, ◌&&◌, if◌then◌else◌}
+use Rattle.std.specs.Prelude.{List, [], ◌∷◌, length, slice_index_or, Option, None, Some, is_none, Result, Ok, Err, codes}
 use Rattle.std.specs.List.{find}
 use Rattle.std.specs.Option.{ok_or, option_and_then}
 use Rattle.autocoder_listing.specs.declared.rows.Row.{Row}
@@ -66,6 +66,12 @@ units_place register = index_register (index_number register) + 2
 abbrev place_or_units : IndexRegister → Option Symbol → Result ℕ PlaceFault
 place_or_units register None = Ok (units_place register)
 place_or_units register (Some symbol) = ok_or (place_of symbol.value) (fault.NoPlace (kept (index_name register)))
+
+-- a place has no adjustment
+abbrev pub is_unadjusted : Place → Bool
+is_unadjusted place =
+    is_none (slice_index_or place.adjustments 0 None) && is_none (slice_index_or place.adjustments 1 None)
+    && is_none (slice_index_or place.adjustments 2 None)
 
 -- a label goes before the index register of its name
 unfoldable pub index_value : List Symbol → IndexRegister → Result ℕ PlaceFault

@@ -2,11 +2,13 @@
 ghost use Rattle.std.specs.Prelude.{◌≡◌, ◌+◌, ◌<◌, ◌≤◌, ◌∷◌, [], length, IfOk};
 ghost use Rattle.core_1401.specs.Storage.{cell_at};
 ghost use Rattle.operate_program.specs.Act.{Gives, cells_commands, commands_of, deposit_commands, if_place, mark_commands};
-ghost use Rattle.operate_program.specs.Act.{feed_commands, start_commands, value_commands};
+ghost use Rattle.operate_program.specs.Act.{start_commands, value_commands};
+ghost use Rattle.operate_program.specs.Field.{field_of, units_of};
 ghost use Rattle.operate_program.specs.Value.{address_of};
 
-use crate::commands::{card, held, one};
+use crate::commands::{held, one};
 use crate::fault::ActFault;
+use crate::field::Field;
 use crate::fields::set_commands;
 use crate::program::Program;
 use crate::ranges::places_in_core;
@@ -15,7 +17,7 @@ use bcd_1401::Cell;
 use core_1401::{Cells, Core};
 use cpu_1401::Machine;
 use machine_commands::Command;
-use operate_orders::{Act, Deposited, Place, Text, Value};
+use operate_orders::{Act, Deposited, Place, Value};
 use std::alloc::Global;
 
 /// The address that a place means.
@@ -101,13 +103,15 @@ fn start_commands(
     Ok(one(alloc, &Command::SetI { address })?)
 }
 
-/// The command that feeds a card.
-#[tactic(auto, unfolding(crate::specs::Act::feed_commands))]
-fn feed_commands(alloc: Global, text: &Text) -> Result<Vec<Command>, ActFault>
-    ensures { Gives (λ commands. commands.items) result (feed_commands text.now) }
+/// The field that a place names.
+fn field_named(program: &Program, machine: &Machine, place: &Place) -> Result<Field, ActFault>
+    ensures value { result ≡ if_place (field_of program.now machine.now place.now) }
+    ensures inside { IfOk result (λ field. units_of field < length machine.now.storage) }
 {
-    let card = card(text.as_slice())?;
-    Ok(one(alloc, &Command::Feed { card })?)
+    match program.field(machine, place) {
+        Ok(field) => Ok(field),
+        Err(fault) => Err(ActFault::Place(fault)),
+    }
 }
 
 /// The commands that put a value into a field.
@@ -116,23 +120,23 @@ fn value_commands(
     alloc: Global,
     program: &Program,
     machine: &Machine,
-    field: &Place,
+    place: &Place,
     value: &Value,
 ) -> Result<Vec<Command>, ActFault>
-    ensures { Gives (λ commands. commands.items) result (value_commands program.now machine.now field.now value.now) }
+    ensures { Gives (λ commands. commands.items) result (value_commands program.now machine.now place.now value.now) }
 {
-    let at = address(program, machine, field)?;
-    set_commands(alloc, machine.core(), at, value)
+    let field = field_named(program, machine, place)?;
+    set_commands(alloc, machine.core(), field, value)
 }
 
 /// The commands that an act stands for, at this machine; none is carried out here. A run stands for none of its own:
-/// where it ends shows only when it runs. Neither does a deck, whose cards are those of a file. `go` stands for its
-/// start.
+/// where it ends shows only when it runs. Neither do cards, which come into the hand, and are fed when there is room for
+/// them; nor the load key, before which that is done. `go` stands for its start.
 ///
 /// # Errors
 ///
 /// `Place`, `Field` or `Value` if something isn't there or doesn't fit; `Literal`, `NoCells` or `Statement` of a
-/// statement; `Memory`. Other text than `parse_order` takes is `NoValue` or `Card`.
+/// statement; `Memory`. Other text than `parse_order` takes is `NoValue`.
 pub fn commands_of(
     alloc: Global,
     program: &Program,
@@ -154,8 +158,7 @@ pub fn commands_of(
                 on: *on,
             },
         )?),
-        Act::Feed(text) => feed_commands(alloc, text),
-        Act::Load => Ok(one(alloc, &Command::LoadKey)?),
-        Act::Deck(_) | Act::Step(_) | Act::Continue(_) | Act::Until(_) => Ok(Vec::new(alloc)),
+        Act::Feed(_) | Act::Deck(_) | Act::Load => Ok(Vec::new(alloc)),
+        Act::Step(_) | Act::Continue(_) | Act::Until(_) => Ok(Vec::new(alloc)),
     }
 }

@@ -4,8 +4,7 @@ ghost use Rattle.core_1401.specs.Address.{addresses};
 ghost use Rattle.core_1401.specs.Cells.{most_cells};
 ghost use Rattle.machine_loading.specs.Loading.{deposit_of};
 ghost use Rattle.console_text.specs.CardText.{card_of};
-ghost use Rattle.machine_notation.specs.Characters.{chars_of};
-ghost use Rattle.operate_program.specs.Act.{chars_in, if_card, piece, pieces};
+ghost use Rattle.operate_program.specs.Act.{card_in, chars_in, piece, pieces};
 
 use crate::fault::ActFault;
 use bcd_1401::{Cell, Char};
@@ -22,8 +21,8 @@ use std::slice::from_ref;
 ///
 /// `Card` if a byte is no graphic, or there are more than 80.
 #[tactic(auto, unfolding(console_text::specs::CardText::card_of))]
-pub(crate) fn card(text: &[u8]) -> Result<Card, ActFault>
-    ensures { result ≡ if_card (card_of (chars_of text.now)) }
+pub fn read_card(text: &[u8]) -> Result<Card, ActFault>
+    ensures { result ≡ card_in text.now }
 {
     let mut columns = [Char::BLANK; CARD_COLUMNS];
     for (i, graphic) in text.iter().enumerate() {

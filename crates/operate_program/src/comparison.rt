@@ -1,5 +1,5 @@
 //! Conditions on fields.
-ghost use Rattle.std.specs.Prelude.{◌≡◌, ◌+◌, ◌-◌, ◌<◌, ◌≤◌, true, length, map, reverse, take, slice_index_or, ◌==◌, ◌&&◌};
+ghost use Rattle.std.specs.Prelude.{◌≡◌, ◌+◌, ◌-◌, ◌<◌, ◌≤◌, true, drop, length, map, reverse, take, slice_index_or, ◌==◌, ◌&&◌};
 ghost use Rattle.std.specs.List.{list_all};
 ghost use Rattle.std.specs.Ordering.{is_eq, nat_cmp};
 ghost use Rattle.bcd_1401.specs.Character.{digit_of, zone_of};
@@ -10,25 +10,29 @@ ghost use Rattle.fields_1401.specs.Number.{magnitude_of, places_down, sign_of};
 ghost use Rattle.operate_program.specs.Comparison.{by_signs, compared_at, condition_of, holds, is_so, is_so_number, is_so_text};
 ghost use Rattle.operate_program.specs.Comparison.{number_order, order_of_byte, orders_of, orders_of_text, text_order};
 ghost use Rattle.operate_program.specs.Comparison.{sign_meant, unless_zero};
+ghost use Rattle.operate_program.specs.Field.{cells_of, units_of};
+ghost use Rattle.operate_views.specs.NumberText.{is_number, is_plain_digit};
 
 use crate::fault::PlaceFault;
+use crate::field::Field;
 use crate::program::Program;
 use bcd_1401::Char;
 use core_1401::Core;
 use cpu_1401::Machine;
 use operate_orders::{Condition, Relation, Value};
+use operate_views::{is_digit as is_digit_char, is_plain_digit};
 use std::cmp::Ordering;
 
 /// The zone over the units of a number below zero: B alone.
 const MINUS_ZONE: u8 = 2;
 
-/// A condition on a field: it holds if a field ends at the place, and compares so with the value. A number is compared
-/// with the number that the machine takes the field for; a text with its characters from the left, in the collating
-/// order, the shorter of both with blanks after it.
+/// A condition on a field: it holds if there is such a field, and it compares so with the value. A number is compared
+/// with that of the field, and a field that is no number is in no relation to it. A text is compared with the characters
+/// of the field from the left, in the collating order, the shorter of both with blanks after it.
 #[derive(Clone, Copy, Debug, PartialEq, Eq)]
 pub struct Comparison {
-    /// The place of the field's units.
-    pub at: u16,
+    /// The field.
+    pub field: Field,
     /// How it is compared.
     pub relation: Relation,
     /// With what.
@@ -36,7 +40,7 @@ pub struct Comparison {
 }
 
 impl Program {
-    /// A condition at this program: where its field is now.
+    /// A condition at this program: on the field that its place names now.
     ///
     /// # Errors
     ///
@@ -49,9 +53,9 @@ impl Program {
     ) -> Result<Comparison, PlaceFault>
         ensures { result ≡ condition_of self.now machine.now condition.now }
     {
-        let at = self.address(machine, &condition.field)?;
+        let field = self.field(machine, &condition.field)?;
         Ok(Comparison {
-            at,
+            field,
             relation: condition.relation,
             value: condition.value,
         })
@@ -234,7 +238,34 @@ fn field_order(core: &Core, at: u16, len: u16, text: &[u8]) -> Ordering
     order
 }
 
-/// Whether the number of a field is in a relation to another.
+/// Whether the cells of a field of this many places, but for its units, are digits without a zone.
+#[tactic(auto, using(crate::proofs::ComparisonLemmas::plain_more, crate::proofs::ComparisonLemmas::plain_end))]
+fn are_plain_at(core: &Core, at: u16, len: u16) -> bool
+    requires at { at < length core.now }
+    requires some { 0 < len }
+    requires len { len ≤ at + 1 }
+    ensures { result ≡ list_all is_plain_digit (drop 1 (places_down core.now at len)) }
+{
+    for place in 1..len {
+        if !is_plain_digit(core.get(at - place)) {
+            return false;
+        }
+    }
+    true
+}
+
+/// Whether a field of this many places is a number.
+#[tactic(auto, using(crate::proofs::ComparisonLemmas::number_at))]
+fn is_number_at(core: &Core, at: u16, len: u16) -> bool
+    requires at { at < length core.now }
+    requires some { 0 < len }
+    requires len { len ≤ at + 1 }
+    ensures { result ≡ is_number (places_down core.now at len) }
+{
+    is_digit_char(core.get(at).char) && are_plain_at(core, at, len)
+}
+
+/// Whether a field is a number, and in a relation to another.
 fn is_so_number(
     core: &Core,
     at: u16,
@@ -248,7 +279,7 @@ fn is_so_number(
     requires len { len ≤ at + 1 }
     ensures { result ≡ is_so_number relation minus digits.now (places_down core.now at len) }
 {
-    if !are_digits(digits) {
+    if !is_number_at(core, at, len) || !are_digits(digits) {
         return false;
     }
     holds(relation, number_order(core, at, len, minus, digits))
@@ -285,16 +316,13 @@ fn is_so(core: &Core, at: u16, len: u16, relation: Relation, value: &Value) -> b
     }
 }
 
-/// Whether a field ends at a place and is in a relation to a value.
-#[tactic(auto, unfolding(crate::specs::Comparison::compared_at, fields_1401::specs::Number::places_down))]
-fn compared_at(core: &Core, at: u16, relation: Relation, value: &Value) -> bool
-    ensures { result ≡ compared_at core.now at relation value.now }
+/// Whether there is such a field, and it is in a relation to a value.
+#[tactic(auto, unfolding(crate::specs::Comparison::compared_at))]
+fn compared_at(core: &Core, field: Field, relation: Relation, value: &Value) -> bool
+    ensures { result ≡ compared_at core.now field relation value.now }
 {
-    if !core.in_core(at) {
-        return false;
-    }
-    match core.field_len(at) {
-        Some(len) => is_so(core, at, len, relation, value),
+    match field.len(core) {
+        Some(len) => is_so(core, field.units(), len, relation, value),
         None => false,
     }
 }
@@ -302,9 +330,9 @@ fn compared_at(core: &Core, at: u16, relation: Relation, value: &Value) -> bool
 impl operate_scout::Condition for Comparison {
     ghost use Rattle.operate_program.specs.Comparison.{compared_at};
 
-    ghost is_so = { λ it s. compared_at s.storage it.at it.relation it.value };
+    ghost is_so = { λ it s. compared_at s.storage it.field it.relation it.value };
 
     fn is_so(&self, machine: &Machine) -> bool {
-        compared_at(machine.core(), self.at, self.relation, &self.value)
+        compared_at(machine.core(), self.field, self.relation, &self.value)
     }
 }

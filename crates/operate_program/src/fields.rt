@@ -3,16 +3,18 @@ ghost use Rattle.std.specs.Prelude.{◌≡◌, ◌+◌, ◌<◌, ◌≤◌, leng
 ghost use Rattle.core_1401.specs.Address.{addresses};
 ghost use Rattle.operate_program.specs.Act.{Gives, number_cells, set_at, set_commands, sign_written, text_cells};
 ghost use Rattle.operate_program.specs.Act.{value_cells};
+ghost use Rattle.operate_program.specs.Field.{units_of};
 
 use crate::commands::{chars_in, pieces};
 use crate::comparison::are_digits;
 use crate::fault::ActFault;
+use crate::field::Field;
 use bcd_1401::Cell;
 use core_1401::Core;
 use fields_1401::Sign;
 use machine_commands::Command;
 use operate_orders::Value;
-use operate_views::{FieldFault, ValueFault, cells_with_number, cells_with_text, field_cells};
+use operate_views::{FieldFault, ValueFault, cells_with_number, cells_with_text};
 use std::alloc::Global;
 
 /// The sign that is put over the units: a minus alone.
@@ -94,21 +96,21 @@ fn set_at(alloc: Global, at: u16, cells: &[Cell], value: &Value) -> Result<Vec<C
     Ok(pieces(alloc, at + 1 - cells.len() as u16, put.as_slice())?)
 }
 
-/// The commands that put a value into the field with its units at a place.
+/// The commands that put a value into a field.
 #[tactic(auto, unfolding(crate::specs::Act::set_commands))]
 pub(crate) fn set_commands(
     alloc: Global,
     core: &Core,
-    at: u16,
+    field: Field,
     value: &Value,
 ) -> Result<Vec<Command>, ActFault>
-    requires { at < length core.now }
-    ensures { Gives (λ commands. commands.items) result (set_commands core.now at value.now) }
+    requires { units_of field < length core.now }
+    ensures { Gives (λ commands. commands.items) result (set_commands core.now field value.now) }
 {
     // No core storage is so large that one of its places has no address.
     let _ = core.size();
-    match field_cells(alloc, core, at) {
-        Ok(cells) => set_at(alloc, at, cells.as_slice(), value),
+    match field.cells(alloc, core) {
+        Ok(cells) => set_at(alloc, field.units(), cells.as_slice(), value),
         Err(FieldFault::Memory) => Err(ActFault::Memory),
         Err(fault) => Err(ActFault::Field(fault)),
     }

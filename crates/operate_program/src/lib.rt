@@ -15,8 +15,9 @@ pub mod fault;
 // a source with its labels and the rows of its listing
 pub mod program;
 
-// places, ranges and conditions at a program
+// places, ranges, fields and conditions at a program
 pub mod comparison;
+pub mod field;
 pub mod ranges;
 pub mod values;
 
@@ -25,7 +26,7 @@ pub mod source;
 
 // what the assembler makes of a statement, and the commands of an act
 pub mod acts;
-mod commands;
+pub mod commands;
 mod fields;
 mod statement_source;
 mod statements;
@@ -35,7 +36,10 @@ pub mod fault_text;
 
 pub use acts::commands_of;
 pub use autocoder_listing::Symbol;
+pub use commands::read_card;
 pub use comparison::Comparison;
 pub use fault::{ActFault, PlaceFault};
 pub use fault_text::{put_act_fault, put_place_fault};
+pub use field::Field;
 pub use program::Program;
+pub use values::index_name;

@@ -2,15 +2,16 @@
 ghost use Rattle.std.specs.Prelude.{◌≡◌, ◌+◌, ◌<◌, ◌≤◌, ◌^◌, length, IfOk, IfSome};
 ghost use Rattle.core_1401.specs.Address.{addresses};
 ghost use Rattle.operate_program.specs.Range.{area_of, between, count_named, counted, first_named, is_first_of};
-ghost use Rattle.operate_program.specs.Range.{is_unadjusted, label_places, lone, one_place, places_in_core, places_named, range_of, unadjusted};
+ghost use Rattle.operate_program.specs.Range.{index_places, label_places, lone, one_place, places_in_core, places_named};
+ghost use Rattle.operate_program.specs.Range.{range_of, unadjusted};
 
 use crate::fault::PlaceFault;
 use crate::program::Program;
-use crate::values::place_of;
+use crate::values::{index_name, is_unadjusted, place_of, units_place};
 use autocoder_listing::{Row, Symbol};
 use core_1401::Core;
 use cpu_1401::Machine;
-use operate_orders::{Area, Base, Place, Range, Text};
+use operate_orders::{Area, Base, IndexRegister, Place, Range, Text};
 
 /// The places of an area: the first, and how many.
 fn area_of(area: Area) -> (u16, u16)
@@ -95,15 +96,6 @@ fn places_named(
     }
 }
 
-/// Whether a place has no adjustment.
-fn is_unadjusted(place: &Place) -> bool
-    ensures { result ≡ is_unadjusted place.now }
-{
-    place.adjustments[0].is_none()
-        && place.adjustments[1].is_none()
-        && place.adjustments[2].is_none()
-}
-
 impl Program {
     /// The places that a label names.
     #[tactic(auto, unfolding(crate::specs::Range::label_places))]
@@ -114,6 +106,28 @@ impl Program {
         match self.symbol(label.as_slice()) {
             Some(symbol) => places_named(core, self.rows.as_slice(), label, &symbol),
             None => Err(PlaceFault::Label(*label)),
+        }
+    }
+
+    /// The three places of an index register, or those of a label with its name.
+    #[tactic(auto, unfolding(crate::specs::Range::index_places))]
+    fn index_places(&self, core: &Core, register: IndexRegister) -> Result<(u16, u16), PlaceFault>
+        ensures value { result ≡ index_places self.now core.now register }
+        ensures inside { IfOk result (λ places. places.0 + places.1 ≤ length core.now) }
+    {
+        let name = index_name(register);
+        match self.symbol(name) {
+            Some(symbol) => places_named(
+                core,
+                self.rows.as_slice(),
+                &Text::as_typed(name),
+                &symbol,
+            ),
+            None => {
+                // Core storage of any size has the places of all three.
+                let _ = core.size();
+                Ok((units_place(register) - 2, 3))
+            }
         }
     }
 
@@ -163,20 +177,19 @@ impl Program {
         Ok((at, 1))
     }
 
-    /// A place without an adjustment: all places of a label.
+    /// A place without an adjustment: all places of a label, or of an index register.
     fn unadjusted(&self, machine: &Machine, place: &Place) -> Result<(u16, u16), PlaceFault>
         ensures value { result ≡ unadjusted self.now machine.now place.now place.now.base }
         ensures inside { IfOk result (λ places. places.0 + places.1 ≤ length machine.now.storage) }
     {
         match &place.base {
             Base::Label(label) => self.label_places(machine.core(), label),
-            Base::Number(_) | Base::Line(_) | Base::Index(_) | Base::Held(_) => {
-                self.one_place(machine, place)
-            }
+            Base::Index(register) => self.index_places(machine.core(), *register),
+            Base::Number(_) | Base::Line(_) | Base::Held(_) => self.one_place(machine, place),
         }
     }
 
-    /// A place alone: all places of a label.
+    /// A place alone: all places of a label, or of an index register.
     fn lone(&self, machine: &Machine, place: &Place) -> Result<(u16, u16), PlaceFault>
         ensures value { result ≡ lone self.now machine.now place.now }
         ensures inside { IfOk result (λ places. places.0 + places.1 ≤ length machine.now.storage) }

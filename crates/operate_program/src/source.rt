@@ -1,19 +1,24 @@
 //! The lines of the source, and which of them made the cells at a place.
-ghost use Rattle.std.specs.Prelude.{◌≡◌, ◌+◌, ◌-◌, ◌<◌, ◌≤◌, ◌||◌, true, false, length, drop, take, IfOk, IfSome, option_map};
+ghost use Rattle.std.specs.Prelude.{◌≡◌, ◌⊎◌, ◌+◌, ◌-◌, ◌<◌, ◌≤◌, ◌||◌, true, false, length, drop, take, IfOk, IfSome, option_map};
 ghost use Rattle.std.specs.List.{position_or_len};
 ghost use Rattle.autocoder_listing.specs.Listing.{characters_text};
 ghost use Rattle.autocoder_listing.specs.Rows.{IsLastAt};
 ghost use Rattle.autocoder_statements.specs.SourceLine.{lines_of};
 ghost use Rattle.autocoder_symbols.specs.Reading.{lines_in};
-ghost use Rattle.operate_program.specs.Source.{IsStatementOf, columns, has_cell, label_in, line_at, line_numbered};
+ghost use Rattle.operate_program.specs.Source.{IsDataOf, IsStatementOf, columns, data_at, has_cell, is_data_at};
+ghost use Rattle.operate_program.specs.Source.{is_data_operation, label_in, line_at, line_numbered, listed_at};
 ghost use Rattle.operate_program.specs.Source.{operands_in, operands_len, operation_in};
 ghost use Rattle.operate_views.specs.Lines.{cells_to_mark};
 
 use crate::program::Program;
+use autocoder_listing::Row;
 use autocoder_statements::{split_line, word_in};
 use core_1401::Core;
 use operate_views::{Statement, cells_to_mark};
 use std::alloc::{AllocError, Global};
+
+/// What the line of a constant or an area says whose cells are others now.
+const DATA: &[u8] = b"DATA";
 
 /// Whether a place holds anything: a word mark, or a character that is no blank.
 #[tactic(auto, unfolding(crate::specs::Source::has_cell))]
@@ -65,6 +70,20 @@ fn operands_in(line: &[u8]) -> &[u8]
     operands
 }
 
+/// The label of a line.
+fn label_in(line: &[u8]) -> &[u8]
+    ensures { result.now ≡ label_in line.now }
+{
+    word_in(columns(line, 6, 15))
+}
+
+/// The operation of a line.
+fn operation_in(line: &[u8]) -> &[u8]
+    ensures { result.now ≡ operation_in line.now }
+{
+    word_in(columns(line, 16, 20))
+}
+
 /// What the line of this number says, in its columns.
 fn statement_of(number: u64, line: &[u8]) -> Statement<'_>
     ensures number { result.line ≡ number }
@@ -72,9 +91,52 @@ fn statement_of(number: u64, line: &[u8]) -> Statement<'_>
 {
     Statement {
         line: number,
-        label: word_in(columns(line, 6, 15)),
-        operation: word_in(columns(line, 16, 20)),
+        label: label_in(line),
+        operation: operation_in(line),
         operands: operands_in(line),
+    }
+}
+
+/// Whether an operation is that of a constant or an area.
+fn is_data_operation(operation: &[u8]) -> bool
+    ensures { result ≡ is_data_operation operation.now }
+{
+    operation == b"DCW".as_slice()
+        || operation == b"DC".as_slice()
+        || operation == b"DS".as_slice()
+        || operation == b"DSA".as_slice()
+        || operation == b"DA".as_slice()
+}
+
+/// Whether a row is that of a constant or an area which begins at a place.
+fn is_data_at(source: &[u8], at: u16, row: &Row) -> bool
+    ensures { result ≡ is_data_at source.now at row.now }
+{
+    row.address == i64::from(at)
+        && is_data_operation(word_in(columns(line_numbered(source, row.number), 16, 20)))
+}
+
+/// The last row of a constant or an area that begins at a place.
+#[tactic(auto, unfolding(crate::specs::Source::data_at))]
+fn data_at(source: &[u8], rows: &[Row], at: u16) -> Option<Row>
+    ensures { result ≡ data_at source.now rows.now at }
+{
+    rows.iter()
+        .rev()
+        .copied()
+        .find(|row| is_data_at(source, at, row))
+}
+
+/// A line as data.
+fn data_of(number: u64, line: &[u8]) -> Statement<'_>
+    ensures number { result.line ≡ number }
+    ensures fields { IsDataOf line.now result }
+{
+    Statement {
+        line: number,
+        label: label_in(line),
+        operation: DATA,
+        operands: &[],
     }
 }
 
@@ -177,6 +239,51 @@ impl Program {
         match self.line_at(alloc, core, at)? {
             Some(number) => Ok(Some(statement_of(number, self.source_line(number)))),
             None => Ok(None),
+        }
+    }
+
+    /// The line of a constant or an area that begins at a place, as data: with DATA for its operation, and no operands.
+    fn data_at(&self, at: u16) -> Option<Statement<'_>>
+        ensures value { option_map (λ statement. statement.line) result
+            ≡ option_map (λ row. row.number) (data_at self.now.text self.now.rows at) }
+        ensures fields { IfSome result (λ statement.
+            IsDataOf (line_numbered self.now.text statement.line) statement) }
+    {
+        match data_at(self.text.as_slice(), self.rows.as_slice(), at) {
+            Some(row) => Some(data_of(row.number, self.source_line(row.number))),
+            None => None,
+        }
+    }
+
+    /// What the line says that made the cells at a place. If no line did, and a constant or an area of the source begins
+    /// there with a word mark, that is data whose cells are others now: DATA is its operation, and it has no operands.
+    ///
+    /// # Errors
+    ///
+    /// If memory is refused.
+    #[tactic(auto, unfolding(crate::specs::Source::listed_at))]
+    pub fn listed_at(
+        &self,
+        alloc: Global,
+        core: &Core,
+        at: u16,
+    ) -> Result<Option<Statement<'_>>, AllocError>
+        ensures value { IfOk result (λ found. option_map (λ statement. statement.line) found
+            ≡ listed_at self.now.text self.now.rows core.now at) }
+        ensures fields { IfOk result (λ found. IfSome found (λ statement.
+            IsStatementOf (line_numbered self.now.text statement.line) statement
+            ⊎ IsDataOf (line_numbered self.now.text statement.line) statement)) }
+    {
+        match self.statement_at(alloc, core, at) {
+            Err(fault) => Err(fault),
+            Ok(Some(statement)) => Ok(Some(statement)),
+            Ok(None) => {
+                if core.in_core(at) && core.get(at).mark {
+                    Ok(self.data_at(at))
+                } else {
+                    Ok(None)
+                }
+            }
         }
     }
 }

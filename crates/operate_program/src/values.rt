@@ -2,7 +2,7 @@
 ghost use Rattle.std.specs.Prelude.{◌≡◌, ◌+◌, ◌*◌, ◌<◌, ◌≤◌, ◌^◌, length, slice_index_or, None, IfOk, IfSome};
 ghost use Rattle.core_1401.specs.Address.{addresses};
 ghost use Rattle.operate_program.specs.Value.{address_of, adjusted, base_value, held_by, in_core, index_name, lessened};
-ghost use Rattle.operate_program.specs.Value.{index_number, index_value, indexed_value, label_value, line_value};
+ghost use Rattle.operate_program.specs.Value.{index_number, index_value, indexed_value, is_unadjusted, label_value, line_value};
 ghost use Rattle.operate_program.specs.Value.{place_of, row_of_line, units_place, value_of};
 
 use crate::fault::PlaceFault;
@@ -25,7 +25,7 @@ pub(crate) fn place_of(value: i64) -> Option<u32>
 }
 
 /// The number of an index register.
-fn index_number(register: IndexRegister) -> u8
+pub(crate) fn index_number(register: IndexRegister) -> u8
     ensures value { result ≡ index_number register }
     ensures some { 1 ≤ result }
     ensures most { result ≤ 3 }
@@ -38,7 +38,7 @@ fn index_number(register: IndexRegister) -> u8
 }
 
 /// The name of an index register.
-fn index_name(register: IndexRegister) -> &'static [u8]
+pub fn index_name(register: IndexRegister) -> &'static [u8]
     ensures { result.now ≡ index_name register }
 {
     match register {
@@ -49,10 +49,21 @@ fn index_name(register: IndexRegister) -> &'static [u8]
 }
 
 /// The units place of an index register: 89, 94 or 99.
-fn units_place(register: IndexRegister) -> u32
-    ensures { result ≡ units_place register }
+pub(crate) fn units_place(register: IndexRegister) -> u16
+    ensures value { result ≡ units_place register }
+    ensures least { 89 ≤ result }
+    ensures most { result ≤ 99 }
 {
-    5 * u32::from(index_number(register)) + 84
+    5 * u16::from(index_number(register)) + 84
+}
+
+/// Whether a place has no adjustment.
+pub(crate) fn is_unadjusted(place: &Place) -> bool
+    ensures { result ≡ is_unadjusted place.now }
+{
+    place.adjustments[0].is_none()
+        && place.adjustments[1].is_none()
+        && place.adjustments[2].is_none()
 }
 
 /// What a register holds.
@@ -169,7 +180,7 @@ impl Program {
     {
         let name = index_name(register);
         let Some(symbol) = self.symbol(name) else {
-            return Ok(units_place(register));
+            return Ok(u32::from(units_place(register)));
         };
         match place_of(symbol.value) {
             Some(place) => Ok(place),

@@ -6,7 +6,7 @@ use Rattle.machine_panel.specs.declared.stop.Stop.{Stop}
 use Rattle.machine_panel.specs.declared.stop.Stop.TheVariants as stop
 use Rattle.cpu_1401.specs.Run.{carried_out_by}
 use Rattle.cpu_1401.specs.State.{State}
-use Rattle.cpu_1401.specs.Step.{step}
+use Rattle.cpu_1401.specs.Fitting.{fitted_step}
 use Rattle.operate_scout.specs.declared.search.SearchEnd.{SearchEnd}
 use Rattle.operate_scout.specs.declared.search.SearchEnd.TheVariants as end
 use Rattle.operate_scout.specs.Search.{Searched, limit_by, limit_of, memory_after, met_at, one_more, search}
@@ -76,7 +76,7 @@ pub record Ends (M : Type 0) (seen : M → State → M) (is_met : M → Bool) (l
 module _ (M : Type 0) (seen : M → State → M) (is_met : M → Bool) where
   -- the memory after the first step, and after one more than this many
   later : (k : ℕ) (m : M) (s : State)
-      → memory_after seen (suc k) m s ≡ memory_after seen k (seen m (step s).state) (step s).state
+      → memory_after seen (suc k) m s ≡ memory_after seen k (seen m (fitted_step s).state) (fitted_step s).state
   unfolding memory_after
   later k m s = refl
 
@@ -84,21 +84,21 @@ module _ (M : Type 0) (seen : M → State → M) (is_met : M → Bool) where
   unfolding memory_after
   none_after m s = refl
 
-  first_more : (limit : ℕ) (m m' : M) (s t : State) (rest : Searched M) → t ≡ (step s).state
-      → m' ≡ seen m (step s).state → is_met m' ≡ false → Ends M seen is_met limit m' t rest
+  first_more : (limit : ℕ) (m m' : M) (s t : State) (rest : Searched M) → t ≡ (fitted_step s).state
+      → m' ≡ seen m (fitted_step s).state → is_met m' ≡ false → Ends M seen is_met limit m' t rest
       → (k : ℕ) → 0 < k → k < rest.found.steps + 1 → is_met (memory_after seen k m s) ≡ false
   first_more limit m m' s t rest e e' not_met ends zero some few = absurd (omega arith)
   first_more limit m m' s t rest e e' not_met ends (suc zero) some few =
-      ap is_met (later zero m s ∙ none_after (seen m (step s).state) (step s).state ∙ sym e') ∙ not_met
+      ap is_met (later zero m s ∙ none_after (seen m (fitted_step s).state) (fitted_step s).state ∙ sym e') ∙ not_met
   first_more limit m m' s t rest e e' not_met ends (suc (suc k)) some few =
       ap is_met (later (suc k) m s
-      ∙ ap (λ m''. memory_after seen (suc k) m'' (step s).state) (sym e')
+      ∙ ap (λ m''. memory_after seen (suc k) m'' (fitted_step s).state) (sym e')
       ∙ ap (λ t'. memory_after seen (suc k) m' t') (sym e))
       ∙ ends.first (suc k) (omega arith) (omega arith)
 
   -- one step more
-  ends_met_or : (b : Bool) (limit : ℕ) (m m' : M) (s t : State) (rest : Searched M) → t ≡ (step s).state
-      → m' ≡ seen m (step s).state → is_met m' ≡ b → Ends M seen is_met limit m' t rest
+  ends_met_or : (b : Bool) (limit : ℕ) (m m' : M) (s t : State) (rest : Searched M) → t ≡ (fitted_step s).state
+      → m' ≡ seen m (fitted_step s).state → is_met m' ≡ b → Ends M seen is_met limit m' t rest
       → Ends M seen is_met (suc limit) m s (if b then met_at m' t else one_more rest)
   ends_met_or true limit m m' s t rest e e' met ends = record {
     first = λ k some few. absurd (omega arith);
@@ -119,12 +119,12 @@ module _ (M : Type 0) (seen : M → State → M) (is_met : M → Bool) where
       }
 
   ends_on : (o : Option Stop) (limit : ℕ) (m : M) (s : State) (rest : Searched M)
-      → Ends M seen is_met limit (seen m (step s).state) (step s).state rest
+      → Ends M seen is_met limit (seen m (fitted_step s).state) (fitted_step s).state rest
       → Ends M seen is_met (suc limit) m s
-      (search_on seen is_met m (record { state = (step s).state; stop = o }) rest)
+      (search_on seen is_met m (record { state = (fitted_step s).state; stop = o }) rest)
   ends_on None limit m s rest ends =
-      ends_met_or (is_met (seen m (step s).state)) limit m (seen m (step s).state) s (step s).state rest refl refl refl
-      ends
+      let t = (fitted_step s).state in
+      ends_met_or (is_met (seen m t)) limit m (seen m t) s t rest refl refl refl ends
   ends_on (Some why) limit m s rest ends = record {
     first = λ k some few. absurd (omega (arith, one_at_most why));
     met = λ is. absurd (cc);
@@ -144,5 +144,6 @@ module _ (M : Type 0) (seen : M → State → M) (is_met : M → Bool) where
     some = λ h. absurd (omega arith);
   }
   search_ends (suc limit) m s =
-      ends_on (step s).stop limit m s (search seen is_met limit (seen m (step s).state) (step s).state)
-      (search_ends limit (seen m (step s).state) (step s).state)
+      ends_on (fitted_step s).stop limit m s
+      (search seen is_met limit (seen m (fitted_step s).state) (fitted_step s).state)
+      (search_ends limit (seen m (fitted_step s).state) (fitted_step s).state)

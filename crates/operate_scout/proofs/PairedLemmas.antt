@@ -1,5 +1,5 @@
 -- The scout and the room's machine stay one.
-use Rattle.std.proofs.Common.{◌≡◌, ℕ, ◌<◌, ◌≤◌, Bool, List, [], ◌∷◌, ◌++◌, refl, sym, ◌∙◌, ap, subst}
+use Rattle.std.proofs.Common.{◌≡◌, ℕ, ◌<◌, ◌≤◌, Bool, List, [], ◌∷◌, ◌++◌, sym, ◌∙◌, ap, subst}
 use Rattle.cpu_1401.specs.Run.{most_steps}
 use Rattle.cpu_1401.specs.State.{State}
 use Rattle.machine_commands.specs.declared.answer.Answer.{Answer}
@@ -25,45 +25,32 @@ scout_after size size' journal journal' command answer scout next before after r
     ∙ ap (λ (j : List Entry). state_of size j) (sym recorded)
     ∙ ap (λ n. state_of n journal') (sym size_is)
 
--- The scout went by itself, and the room by the run that does the same: they are one, and that run is recorded, with
+-- The run of a scout's search, at the room whose machine the scout was: it comes to the scout, and is answered with
 -- what the scout found.
-pub record WentAlike (size : ℕ) (before after : List Entry) (next : State) (found : Found) : Type 0 where
-  pub machine : next ≡ state_of size after
-  pub recorded : after ≡ before ++ entry 0 (run_of found) (answer_of found (state_of size after)) ∷ []
+pub record DoesAlike (size : ℕ) (journal : List Entry) (limit : ℕ) (next : State) (found : Found) : Type 0 where
+  pub state : next ≡ (carry_out (state_of size journal) (Run limit)).state
+  pub answer : answer_of found next ≡ answer_to size journal (Run limit)
 
--- the room first made room for an entry, and then carried out the run of the scout's search
-pub went_alike : (M : Type 0) (seen : M → State → M) (is_met : M → Bool) (most : ℕ) (m m' : M) (size middle size' : ℕ)
-    (before between after : List Entry) (scout next : State) (found : Found) (limit : ℕ) (answer : Answer)
+-- the room first made room for an entry
+pub does_alike : (M : Type 0) (seen : M → State → M) (is_met : M → Bool) (most : ℕ) (m m' : M) (size middle : ℕ)
+    (before between : List Entry) (scout next : State) (found : Found) (limit : ℕ)
     → 0 < most → most ≤ most_steps → scout ≡ state_of size before
     → search seen is_met most m scout ≡ record { state = next; memory = m'; found = found }
-    → limit ≡ limit_of found → middle ≡ size → between ≡ before → size' ≡ middle
-    → after ≡ between ++ entry 0 (Run limit) answer ∷ [] → answer ≡ answer_to middle between (Run limit)
-    → WentAlike size' before after next found
-went_alike M seen is_met most m m' size middle size' before between after scout next found limit answer some few
-    scout_is found_is limit_is middle_is between_is size_is recorded answered =
-    let s = state_of size before in
-    let both : Carried = record { state = next; answer = answer_of found next } in
-    let at_scout : carry_out scout (run_of found) ≡ both =
+    → limit ≡ limit_of found → middle ≡ size → between ≡ before → DoesAlike middle between limit next found
+does_alike M seen is_met most m m' size middle before between scout next found limit some few scout_is found_is limit_is
+    middle_is between_is =
+    let at : State = state_of middle between in
+    let there : at ≡ scout =
+    ap (λ n. state_of n between) middle_is
+    ∙ ap (λ (j : List Entry). state_of size j) between_is
+    ∙ sym scout_is in
+    let at_scout : carry_out scout (run_of found) ≡ record { state = next; answer = answer_of found next } =
     subst (λ (done : Searched M). carry_out scout (run_of done.found)
     ≡ record { state = done.state; answer = answer_of done.found done.state }) found_is
     (run_of_found M seen is_met most m scout some few) in
-    let at_room : carry_out s (Run limit) ≡ both =
-    ap (λ k. carry_out s (Run k)) limit_is
-    ∙ ap (λ t. carry_out t (run_of found)) (sym scout_is)
-    ∙ at_scout in
-    let answer_is : answer ≡ answer_of found next =
-    answered
-    ∙ ap (λ n. answer_to n between (Run limit)) middle_is
-    ∙ ap (λ (j : List Entry). answer_to size j (Run limit)) between_is
-    ∙ ap (λ (carried : Carried). carried.answer) at_room in
-    let grown : after ≡ before ++ entry 0 (Run limit) answer ∷ [] =
-    recorded ∙ ap (λ (j : List Entry). j ++ entry 0 (Run limit) answer ∷ []) between_is in
-    let same : next ≡ state_of size' after =
-    scout_after size size' before after (Run limit) answer s next refl
-    (ap (λ (carried : Carried). carried.state) (sym at_room)) grown (size_is ∙ middle_is) in
+    let at_room : carry_out at (Run limit) ≡ record { state = next; answer = answer_of found next } =
+    ap (λ k. carry_out at (Run k)) limit_is ∙ ap (λ s. carry_out s (run_of found)) there ∙ at_scout in
     record {
-      machine = same;
-      recorded = grown
-          ∙ ap (λ k. before ++ entry 0 (Run k) answer ∷ []) limit_is
-          ∙ ap (λ (a : Answer). before ++ entry 0 (run_of found) a ∷ []) (answer_is ∙ ap (λ t. answer_of found t) same);
+      state = sym (ap (λ (carried : Carried). carried.state) at_room);
+      answer = sym (ap (λ (carried : Carried). carried.answer) at_room);
     }

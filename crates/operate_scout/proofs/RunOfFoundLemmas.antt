@@ -8,7 +8,7 @@ use Rattle.machine_panel.specs.declared.stop.Stop.{Stop}
 use Rattle.cpu_1401.specs.Run.{Finished, most_steps, run_for, run_on}
 use Rattle.cpu_1401.specs.Run.{one_more as one_more_of_run}
 use Rattle.cpu_1401.specs.State.{State}
-use Rattle.cpu_1401.specs.Step.{step}
+use Rattle.cpu_1401.specs.Fitting.{fitted_step}
 use Rattle.machine_execution.specs.CarryOut.{carry_out, refuse, run_answer}
 use Rattle.machine_commands.specs.declared.answer.Refusal.TheVariants.{Limit}
 use Rattle.operate_scout.specs.RunOf.{answer_of, run_of, stop_of}
@@ -50,9 +50,9 @@ module _ (M : Type 0) (seen : M → State → M) (is_met : M → Bool) where
   unfolding search run_for
   run_of_search zero m s = refl
   run_of_search (suc limit) m s =
-      let t = (step s).state in
+      let t = (fitted_step s).state in
       let is_run =
-      on (step s).stop m t (search seen is_met limit (seen m t) t) (run_of_search limit (seen m t) t) in
+      on (fitted_step s).stop m t (search seen is_met limit (seen m t) t) (run_of_search limit (seen m t) t) in
       ap (λ k. run_for k s) is_run.limit_is ∙ is_run.run_is
 
   -- the run is carried out at a room, and is answered with the steps and the stop of the search

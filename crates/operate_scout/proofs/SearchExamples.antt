@@ -4,6 +4,7 @@ use Rattle.bcd_1401.specs.Graphic.{graphics}
 use Rattle.core_1401.specs.Storage.{Storage}
 use Rattle.machine_panel.specs.declared.stop.Stop.TheVariants as stop
 use Rattle.cpu_1401.specs.State.{State}
+use Rattle.cpu_1401.specs.Fitting.{fitted_step}
 use Rattle.cpu_1401.specs.Step.{step}
 use Rattle.cpu_1401.proofs.ExampleCells.{plain, marked, with_program}
 use Rattle.operate_scout.specs.declared.search.SearchEnd.TheVariants as end
@@ -36,41 +37,41 @@ itself m = m
 
 a_search_ends_with_the_step_that_meets_its_test : search counts are_two 5 0 (with_program three 0)
     ≡ record { state = with_program three 2; memory = 2; found = record { steps = 2; end = end.Met } }
-unfolding search step graphics
+unfolding search fitted_step step graphics
 a_search_ends_with_the_step_that_meets_its_test = refl
 
 the_address_that_it_begins_at_does_not_count : search at_zero itself 5 false (with_program three 0)
     ≡ record { state = with_program three 3; memory = false; found = record { steps = 3; end = end.Stop stop.Halt } }
-unfolding search step graphics
+unfolding search fitted_step step graphics
 the_address_that_it_begins_at_does_not_count = refl
 
 a_branch_to_itself_comes_there_again : (search at_zero itself 5 false (with_program endless 0)).found
     ≡ record { steps = 1; end = end.Met }
-unfolding search step graphics
+unfolding search fitted_step step graphics
 a_branch_to_itself_comes_there_again = refl
 
 a_halt_is_seen : (search counts are_two 5 1 (with_program three 2)).memory ≡ 2
-unfolding search step graphics
+unfolding search fitted_step step graphics
 a_halt_is_seen = refl
 
 a_halt_goes_before_the_test : (search counts are_two 5 1 (with_program three 2)).found
     ≡ record { steps = 1; end = end.Stop stop.Halt }
-unfolding search step graphics
+unfolding search fitted_step step graphics
 a_halt_goes_before_the_test = refl
 
 what_is_not_carried_out_is_not_seen : search counts are_two 5 1 (with_program endless 1)
     ≡ record { state = with_program endless 1; memory = 1; found = record { steps = 0; end = end.Stop stop.NoMark } }
-unfolding search step graphics
+unfolding search fitted_step step graphics
 what_is_not_carried_out_is_not_seen = refl
 
 the_limit_comes_after_as_many_steps : (search at_zero itself 2 false (with_program three 0)).found
     ≡ record { steps = 2; end = end.Limit }
-unfolding search step graphics
+unfolding search fitted_step step graphics
 the_limit_comes_after_as_many_steps = refl
 
 the_limit_may_meet_the_test : (search at_one itself 1 false (with_program three 0)).found
     ≡ record { steps = 1; end = end.Met }
-unfolding search step graphics
+unfolding search fitted_step step graphics
 the_limit_may_meet_the_test = refl
 
 -- a refused instruction is asked for, and a halt is among the steps

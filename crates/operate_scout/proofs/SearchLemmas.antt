@@ -5,7 +5,7 @@ use Rattle.std.specs.Prelude.{if◌then◌else◌}
 use Rattle.machine_panel.specs.declared.stop.Stop.{Stop}
 use Rattle.cpu_1401.specs.Run.{carried_out_by}
 use Rattle.cpu_1401.specs.State.{State}
-use Rattle.cpu_1401.specs.Step.{step}
+use Rattle.cpu_1401.specs.Fitting.{fitted_step}
 use Rattle.operate_scout.specs.declared.search.SearchEnd.{SearchEnd}
 use Rattle.operate_scout.specs.declared.search.SearchEnd.TheVariants as end
 use Rattle.operate_scout.specs.Search.{Searched, memory_at, met_at, met_or, one_more, search, search_on}
@@ -41,8 +41,8 @@ module _ (M : Type 0) (seen : M → State → M) (is_met : M → Bool) where
   -- the search that is left, by its first step
   left : (limit steps : ℕ) (m0 : M) (first : State) (m : M) (now : State) → steps < limit
       → SoFar M seen is_met limit m0 first m now steps
-      → search seen is_met limit m0 first ≡ after_steps steps (search_on seen is_met m (step now)
-      (search seen is_met (limit - (steps + 1)) (seen m (step now).state) (step now).state))
+      → search seen is_met limit m0 first ≡ after_steps steps (search_on seen is_met m (fitted_step now)
+      (search seen is_met (limit - (steps + 1)) (seen m (fitted_step now).state) (fitted_step now).state))
   unfolding search
   left limit steps m0 first m now h s =
       let one_left : limit - steps ≡ suc (limit - (steps + 1)) = omega arith in
@@ -50,20 +50,20 @@ module _ (M : Type 0) (seen : M → State → M) (is_met : M → Bool) where
 
   -- the step was carried out
   carried_out : (limit steps : ℕ) (m0 : M) (first : State) (m : M) (now next : State) → steps < limit
-      → SoFar M seen is_met limit m0 first m now steps → (step now).stop ≡ None → next ≡ (step now).state
+      → SoFar M seen is_met limit m0 first m now steps → (fitted_step now).stop ≡ None → next ≡ (fitted_step now).state
       → search seen is_met limit m0 first ≡ after_steps steps (met_or is_met (seen m next) next
       (search seen is_met (limit - (steps + 1)) (seen m next) next))
   carried_out limit steps m0 first m now next h s none e =
       let more : State → Searched M = λ t. search seen is_met (limit - (steps + 1)) (seen m t) t in
       let on : Option Stop → Searched M = λ o.
-      search_on seen is_met m (record { state = (step now).state; stop = o }) (more (step now).state) in
+      search_on seen is_met m (record { state = (fitted_step now).state; stop = o }) (more (fitted_step now).state) in
       left limit steps m0 first m now h s
       ∙ ap (λ (o : Option Stop). after_steps steps (on o)) none
       ∙ ap (λ (t : State). after_steps steps (met_or is_met (seen m t) t (more t))) (sym e)
 
   -- one instruction more, which doesn't meet the test
   pub goes_on : (limit steps : ℕ) (m0 : M) (first : State) (m m' : M) (now next : State) → steps < limit
-      → SoFar M seen is_met limit m0 first m now steps → (step now).stop ≡ None → next ≡ (step now).state
+      → SoFar M seen is_met limit m0 first m now steps → (fitted_step now).stop ≡ None → next ≡ (fitted_step now).state
       → m' ≡ seen m next → is_met m' ≡ false → SoFar M seen is_met limit m0 first m' next (steps + 1)
   goes_on limit steps m0 first m m' now next h s none e saw not_met =
       let more : M → Searched M = λ m''. search seen is_met (limit - (steps + 1)) m'' next in
@@ -77,7 +77,7 @@ module _ (M : Type 0) (seen : M → State → M) (is_met : M → Bool) where
 
   -- one instruction more, which meets the test
   pub meets : (limit steps : ℕ) (m0 : M) (first : State) (m m' : M) (now next : State) → steps < limit
-      → SoFar M seen is_met limit m0 first m now steps → (step now).stop ≡ None → next ≡ (step now).state
+      → SoFar M seen is_met limit m0 first m now steps → (fitted_step now).stop ≡ None → next ≡ (fitted_step now).state
       → m' ≡ seen m next → is_met m' ≡ true
       → search seen is_met limit m0 first ≡ ended next m' (steps + 1) end.Met
   meets limit steps m0 first m m' now next h s none e saw met =
@@ -88,15 +88,16 @@ module _ (M : Type 0) (seen : M → State → M) (is_met : M → Bool) where
 
   -- the step stops the machine
   pub stops : (limit steps : ℕ) (m0 : M) (first : State) (m m' : M) (now next : State) (why : Stop) → steps < limit
-      → SoFar M seen is_met limit m0 first m now steps → (step now).stop ≡ Some why → next ≡ (step now).state
+      → SoFar M seen is_met limit m0 first m now steps → (fitted_step now).stop ≡ Some why
+      → next ≡ (fitted_step now).state
       → m' ≡ memory_at seen why m next
       → search seen is_met limit m0 first ≡ ended next m' (steps + carried_out_by why) (end.Stop why)
   stops limit steps m0 first m m' now next why h s some e saw =
-      let rest = search seen is_met (limit - (steps + 1)) (seen m (step now).state) (step now).state in
+      let rest = search seen is_met (limit - (steps + 1)) (seen m (fitted_step now).state) (fitted_step now).state in
       let on : State → Option Stop → Searched M = λ t o.
       search_on seen is_met m (record { state = t; stop = o }) rest in
       left limit steps m0 first m now h s
-      ∙ ap (λ (o : Option Stop). after_steps steps (on (step now).state o)) some
+      ∙ ap (λ (o : Option Stop). after_steps steps (on (fitted_step now).state o)) some
       ∙ ap (λ (t : State). after_steps steps (on t (Some why))) (sym e)
       ∙ ap (λ m''. ended next m'' (steps + carried_out_by why) (end.Stop why)) (sym saw)
 

@@ -3,7 +3,7 @@ use Rattle.std.specs.Prelude.{ℕ, ◌+◌, ◌==◌, zero, suc, Bool, if◌then
 use Rattle.machine_panel.specs.declared.stop.Stop.{Stop}
 use Rattle.cpu_1401.specs.Run.{carried_out_by}
 use Rattle.cpu_1401.specs.State.{State}
-use Rattle.cpu_1401.specs.Step.{step}
+use Rattle.cpu_1401.specs.Fitting.{fitted_step}
 use Rattle.cpu_1401.specs.Stepped.{Stepped}
 use Rattle.operate_scout.specs.declared.search.Found.{Found}
 use Rattle.operate_scout.specs.declared.search.SearchEnd.{SearchEnd}
@@ -48,12 +48,12 @@ search_on seen is_met m done rest =
 unfoldable pub search : {M : Type 0} → (M → State → M) → (M → Bool) → ℕ → M → State → Searched M
 search seen is_met zero m s = record { state = s; memory = m; found = record { steps = 0; end = end.Limit } }
 search seen is_met (suc limit) m s =
-    search_on seen is_met m (step s) (search seen is_met limit (seen m (step s).state) (step s).state)
+    let done = fitted_step s in search_on seen is_met m done (search seen is_met limit (seen m done.state) done.state)
 
 -- what a test remembers after this many steps
 unfoldable pub memory_after : {M : Type 0} → (M → State → M) → ℕ → M → State → M
 memory_after seen zero m s = m
-memory_after seen (suc steps) m s = memory_after seen steps (seen m (step s).state) (step s).state
+memory_after seen (suc steps) m s = memory_after seen steps (seen m (fitted_step s).state) (fitted_step s).state
 
 -- the limit of the run that does what a search did: if the machine stopped at an instruction that it didn't carry out,
 -- the run comes to the same stop by asking for that one too

@@ -2,7 +2,7 @@
 //! comes to the same machine.
 //!
 //! ```text
-//! let scout = scout_of(alloc, room.room())?;
+//! let scout = room.room().machine().copy(alloc)?;
 //! let mut paired = Paired::new(room, scout);
 //! let mut test = Break::new(419, Always);
 //! paired.run_until(&mut test, MOST_STEPS)?   // 18 steps, to the break: the journal has RUN 18
@@ -21,9 +21,8 @@ pub mod full_devices;
 pub mod one_of;
 pub mod place_watch;
 
-// the room's machine made a second time, and both together
+// a room and its scout
 pub mod paired;
-pub mod replayed;
 
 pub use any_of::{AnyOf, begin_each, see_by_each};
 pub use breaks::{Always, Break, Condition};
@@ -32,7 +31,6 @@ pub use full_devices::{FullDevices, wants_hands};
 pub use one_of::{Never, OneOf};
 pub use paired::{Paired, RunEnd};
 pub use place_watch::PlaceWatch;
-pub use replayed::scout_of;
 pub use search::{Found, MOST_STEPS, SearchEnd, Test, run_limit, seek};
 
 #[cfg(test)]

@@ -3,12 +3,12 @@ ghost use Rattle.std.specs.Prelude.{◌≡◌, ◌+◌, ◌<◌, ◌≤◌, ◌�
 ghost use Rattle.std.specs.Prelude.{IsOk, IfOk, IfErr, OnErr};
 ghost use Rattle.cpu_1401.specs.Run.{most_steps};
 ghost use Rattle.room_alone.specs.Journal.{answer_to, entry, is_full, refusal_of, state_of};
-ghost use Rattle.operate_scout.specs.RunOf.{answer_of, run_of};
+ghost use Rattle.operate_scout.specs.RunOf.{answer_of, run_of, stop_of};
 ghost use Rattle.operate_scout.specs.Search.{memory_after, search};
 
 use crate::search::{Found, SearchEnd, Test, run_limit, seek};
-use cpu_1401::Machine;
-use machine_execution::{Command, carry_out};
+use cpu_1401::{Machine, Stop};
+use machine_execution::{Answer, Command, carry_out};
 use room_alone::{Carried, Keeper, KeptRoom, OWN_SEAT, RoomFault};
 use std::marker::Model;
 
@@ -42,7 +42,7 @@ pub struct RunEnd {
 }
 
 impl<K: Keeper + Drop> Paired<K> {
-    /// A room with its scout, which `scout_of` makes.
+    /// A room with its scout, a copy of the room's machine.
     pub fn new(room: KeptRoom<K>, scout: Machine) -> Paired<K>
         requires { scout ≡ state_of room.room.size room.room.journal }
         ensures { result ≡ room }
@@ -107,7 +107,8 @@ impl<K: Keeper + Drop> Paired<K> {
     }
 
     /// Lets the scout go until an instruction meets the test or stops it, or until this many were carried out, 1 to
-    /// 1,000,000. Then the room does the same by one `Run`, which it records and keeps.
+    /// 1,000,000. Then the room takes its machine over, and records and keeps the one `Run` that comes to it. So each
+    /// instruction is carried out once.
     ///
     /// # Errors
     ///
@@ -153,14 +154,43 @@ impl<K: Keeper + Drop> Paired<K> {
     {
         // Room for the entry comes first: a scout that has gone can't come back.
         self.room.reserve()?;
+        // It has as many places as the scout.
+        let _machine = self.room.room().machine();
         let found = seek(&mut self.scout, test, most);
         let limit = run_limit(found);
-        match self.room.carry(OWN_SEAT, Command::Run { limit }) {
-            Ok(carried) => Ok(RunEnd {
-                found,
-                kept: carried.kept,
-            }),
+        let answer = answer_of(found, &self.scout);
+        let run = Command::Run { limit };
+        match self.room.take_over(OWN_SEAT, run, answer, &mut self.scout) {
+            Ok(carried) => {
+                // The machine that went is the room's now, and the one before it is the scout.
+                self.scout.copy_from(self.room.room().machine());
+                Ok(RunEnd {
+                    found,
+                    kept: carried.kept,
+                })
+            }
             Err(_) => unreachable!(),
         }
+    }
+}
+
+/// What the run is answered that does what a search did, which came to this machine.
+fn answer_of(found: Found, machine: &Machine) -> Answer
+    ensures { result ≡ answer_of found machine.now }
+{
+    Answer::Ran {
+        steps: found.steps,
+        stop: stop_of(found.end),
+        i: machine.regs().i,
+    }
+}
+
+/// Why that run ends: the room knows no test.
+fn stop_of(end: SearchEnd) -> Stop
+    ensures { result ≡ stop_of end }
+{
+    match end {
+        SearchEnd::Stop(stop) => stop,
+        SearchEnd::Met | SearchEnd::Limit => Stop::Limit,
     }
 }

@@ -4,7 +4,6 @@ mod devices;
 mod runs;
 
 use crate::paired::Paired;
-use crate::replayed::scout_of;
 use crate::search::{Found, MOST_STEPS, SearchEnd, Test};
 use bcd_1401::{Cell, Char};
 use core_1401::{Cells, MOST_CELLS};
@@ -18,7 +17,7 @@ fn new_paired(rt: &(impl Abort + AllocGlobal)) -> Paired<NoKeeper> {
     let empty = room.journal().is_empty();
     assert!(rt; empty);
     let kept = KeptRoom::new(room, NoKeeper);
-    let scout = scout_of(rt.alloc(), kept.room()).expect(rt, "a scout");
+    let scout = kept.room().machine().copy(rt.alloc()).expect(rt, "a scout");
     Paired::new(kept, scout)
 }
 

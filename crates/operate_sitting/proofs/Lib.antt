@@ -1,3 +1,2 @@
-pub mod FirstEntriesLemmas
 pub mod NotesLemmas
 pub mod TendingLemmas

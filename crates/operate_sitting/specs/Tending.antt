@@ -1,5 +1,5 @@
 -- What full devices want (own): the commands of a person who goes to them.
-use Rattle.std.specs.Prelude.{◌≡◌, ℕ, ◌+◌, ◌==◌, Bool, if◌then◌else◌, List, [], ◌∷◌, ◌++◌, length, map, replicate, take}
+use Rattle.std.specs.Prelude.{◌≡◌, ℕ, ◌+◌, ◌-◌, Bool, if◌then◌else◌, List, [], ◌∷◌, ◌++◌, length, map, replicate, take}
 use Rattle.devices_1401.specs.Devices.{Devices, is_full, most_held}
 use Rattle.devices_1401.specs.declared.card.Card.{Card}
 use Rattle.machine_commands.specs.declared.command.Command.{Command}
@@ -12,12 +12,12 @@ use Rattle.operate_sitting.specs.declared.tending.Plan.{Plan}
 abbrev pub most_if : Bool → ℕ
 most_if is_so = if is_so then most_held else 0
 
--- all lines are taken from a paper that is full, and all cards from such a stacker; an empty hopper is filled
+-- all lines are taken from a paper that is full, and all cards from such a stacker; the hopper is filled
 abbrev pub plan_of : Devices → Plan
 plan_of devices = record {
   lines = most_if (is_full devices.paper);
   cards = most_if (is_full devices.stacker);
-  feeds = most_if (length devices.hopper == 0);
+  feeds = most_held - length devices.hopper;
 }
 
 -- the commands of a plan, with these cards in hand
@@ -48,6 +48,7 @@ feed_at place command.LoadKey = []
 feed_at place (command.Run limit) = []
 feed_at place command.TakeLine = []
 feed_at place command.TakeCard = []
+feed_at place (command.Fit features) = []
 
 -- the places at which commands feed cards, if the first command gets this place
 abbrev pub feeds_at : ℕ → List Command → List ℕ

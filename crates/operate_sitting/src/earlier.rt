@@ -1,12 +1,11 @@
 //! An earlier room, before it is a sitting's.
 ghost use Rattle.std.specs.Prelude.{◌≡◌, IfOk, IfErr};
 ghost use Rattle.room_alone.specs.Journal.{state_of};
+ghost use Rattle.operate_sitting.specs.Sitting.{past_fault};
 
-use core_1401::CoreFault;
 use cpu_1401::Machine;
 use operate_past::BackFault;
-use operate_scout::scout_of;
-use room_alone::{Room, RoomFault};
+use room_alone::Room;
 use std::alloc::Global;
 use std::marker::Model;
 use thiserror::Error;
@@ -17,19 +16,40 @@ pub enum PastFault {
     /// The memory for an earlier machine or for its journal was refused.
     #[error("there is no memory for the earlier machine")]
     Memory,
-    /// Fewer lines recorded something than are to be taken back.
-    #[error("fewer lines recorded something")]
-    NothingToUndo,
+    /// Fewer lines have done something than are to be taken back. What was recorded before the sitting began, or what a
+    /// restored journal had, is no line's.
+    #[error("{lines} lines have done something")]
+    NothingToUndo {
+        /// How many have.
+        lines: usize,
+    },
     /// Fewer instructions were carried out than are to be taken back.
     #[error("fewer instructions were carried out")]
     TooFew,
+    /// A person interrupted it.
+    #[error("interrupted")]
+    Interrupted,
+}
+
+/// Why a sitting can't go back if a room can't.
+pub(crate) fn past_fault(fault: BackFault) -> PastFault
+    ensures { result ≡ past_fault fault }
+{
+    match fault {
+        BackFault::Memory => PastFault::Memory,
+        BackFault::TooFew => PastFault::TooFew,
+        BackFault::Interrupted => PastFault::Interrupted,
+    }
 }
 
 /// Where the journal of an earlier room comes from.
 #[derive(Clone, Copy, Debug, PartialEq, Eq)]
 pub enum Origin {
     /// It is what is left of the sitting's own.
-    Own,
+    Own {
+        /// How many cards of decks had come into the hand by then.
+        cards: usize,
+    },
     /// It is another, as that of a file.
     Other,
 }
@@ -65,13 +85,13 @@ impl Earlier {
         ensures origin { IfOk result (λ earlier. earlier.origin ≡ origin) }
         ensures fault { IfErr result (λ fault. fault ≡ PastFault.Memory) }
     {
-        match scout_of(alloc, &room) {
+        match room.machine().copy(alloc) {
             Ok(scout) => Ok(Earlier {
                 room,
                 scout,
                 origin,
             }),
-            Err(CoreFault::Memory | CoreFault::Size) => Err(PastFault::Memory),
+            Err(_) => Err(PastFault::Memory),
         }
     }
 

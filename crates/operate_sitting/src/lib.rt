@@ -8,7 +8,7 @@
 //! sitting.tend()?;                                    // 500 of them are in the hopper
 //! sitting.begin_line()?;
 //! sitting.run_until(&mut test, MOST_STEPS)?;          // up to the step that reads the last of these, if not before
-//! let earlier = sitting.undone(alloc, 1)?;            // the machine before that run
+//! let earlier = sitting.undone(alloc, 1, &mut Nobody, &mut ())?;   // the machine before that run
 //! let sitting = sitting.take_over(earlier, &mut NothingKept)?;
 //! ```
 #![tactic(auto)]

@@ -1,7 +1,7 @@
 //! Notes on a journal.
 ghost use Rattle.std.specs.Prelude.{◌≡◌, ◌≤◌, drop, length, nat_lt, take, take_while, OnOk, OnErr};
-ghost use Rattle.operate_sitting.specs.Notes.{begun, cards_by, cut, given, hand_of, held, lines_in, no_notes};
-ghost use Rattle.operate_sitting.specs.Notes.{notes_after, undo_place};
+ghost use Rattle.operate_sitting.specs.Notes.{begun, cards_before, cards_by, cut, end_at, given, hand_of, held};
+ghost use Rattle.operate_sitting.specs.Notes.{is_before, lines_in, no_notes, notes_after, undo_place};
 ghost use Rattle.operate_sitting.specs.Tending.{feed_at};
 
 use crate::earlier::Origin;
@@ -80,6 +80,16 @@ impl Notes {
         }
     }
 
+    /// The end of a journal with this many entries.
+    fn end_at(&self, entries: usize) -> Mark
+        ensures { result ≡ end_at entries self.now }
+    {
+        Mark {
+            entries,
+            cards: self.deck.len(),
+        }
+    }
+
     /// A line begins at the end of a journal with this many entries.
     ///
     /// # Errors
@@ -89,12 +99,9 @@ impl Notes {
         ensures ok { OnOk result (self.new ≡ begun entries self.old) }
         ensures err { OnErr result (self.new ≡ self.old) }
     {
-        let mark = Mark {
-            entries,
-            cards: self.deck.len(),
-        };
-        let lines = count_lines(self.marks.as_slice(), entries);
-        self.marks.insert(lines, mark)?;
+        let end = self.end_at(entries);
+        let lines = count_lines(self.marks.as_slice(), end);
+        self.marks.insert(lines, end)?;
         self.marks.truncate(lines + 1);
         Ok(())
     }
@@ -141,19 +148,45 @@ impl Notes {
         self.given.truncate(given);
     }
 
-    /// Where the last lines began, this many, of those that recorded something in a journal with this many entries.
-    pub(crate) fn undo_place(&self, count: usize, entries: usize) -> Option<usize>
-        ensures { result ≡ undo_place count entries self.now.marks }
+    /// How many lines have done something, by the end of a journal with this many entries.
+    pub(crate) fn count_lines(&self, entries: usize) -> usize
+        ensures { result ≡ length (lines_in (end_at entries self.now) self.now.marks) }
     {
-        let lines = count_lines(self.marks.as_slice(), entries);
+        count_lines(self.marks.as_slice(), self.end_at(entries))
+    }
+
+    /// Where the first of the last lines began, this many, of those that have done something, by the end of a journal
+    /// with this many entries.
+    pub(crate) fn undo_place(&self, count: usize, entries: usize) -> Option<Mark>
+        ensures { result ≡ undo_place count (end_at entries self.now) self.now.marks }
+    {
+        let end = self.end_at(entries);
+        let lines = count_lines(self.marks.as_slice(), end);
         if count > lines {
             return None;
         }
         let line = lines - count;
         if line < lines {
-            Some(self.marks[line].entries)
+            Some(self.marks[line])
         } else {
-            Some(entries)
+            Some(end)
+        }
+    }
+
+    /// How many cards had come into the hand before the entry that comes after this many.
+    pub(crate) fn cards_by(&self, whole: usize) -> usize
+        ensures { result ≡ cards_by whole self.now.marks (length self.now.deck) }
+    {
+        cards_by(self.marks.as_slice(), whole, self.deck.len())
+    }
+
+    /// How many cards came with the program.
+    pub(crate) fn cards_before(&self) -> usize
+        ensures { result ≡ cards_before self.now.marks (length self.now.deck) }
+    {
+        match self.marks.as_slice() {
+            [] => self.deck.len(),
+            [line, ..] => line.cards,
         }
     }
 
@@ -162,22 +195,21 @@ impl Notes {
         ensures { self.new ≡ notes_after origin entries self.old }
     {
         match origin {
-            Origin::Own => self.cut(entries),
+            Origin::Own { cards } => self.cut(Mark { entries, cards }),
             Origin::Other => self.forget(entries),
         }
     }
 
-    /// The notes on the first entries alone.
-    fn cut(&mut self, entries: usize)
-        ensures { self.new ≡ cut entries self.old }
+    /// The notes up to a place alone.
+    fn cut(&mut self, at: Mark)
+        ensures { self.new ≡ cut at self.old }
     {
-        let cards = cards_by(self.marks.as_slice(), entries, self.deck.len());
-        let lines = count_lines(self.marks.as_slice(), entries);
-        let given = count_given(self.given.as_slice(), entries);
+        let lines = count_lines(self.marks.as_slice(), at);
+        let given = count_given(self.given.as_slice(), at.entries);
         self.marks.truncate(lines);
-        self.deck.truncate(cards);
+        self.deck.truncate(at.cards);
         self.given.truncate(given);
-        self.loaded = self.loaded.min(entries);
+        self.loaded = self.loaded.min(at.entries);
     }
 
     /// The notes that go with another journal.
@@ -191,15 +223,22 @@ impl Notes {
     }
 }
 
-/// How many lines recorded something in the first entries.
-fn count_lines(marks: &[Mark], entries: usize) -> usize
-    ensures count { result ≡ length (lines_in entries marks.now) }
-    ensures lines { take result marks.now ≡ lines_in entries marks.now }
+/// Whether a line that began there had done something by then.
+fn is_before(line: Mark, now: Mark) -> bool
+    ensures { result ≡ is_before line now }
+{
+    line.entries < now.entries || line.cards < now.cards
+}
+
+/// How many lines had done something by then.
+fn count_lines(marks: &[Mark], now: Mark) -> usize
+    ensures count { result ≡ length (lines_in now marks.now) }
+    ensures lines { take result marks.now ≡ lines_in now marks.now }
     ensures bound { result ≤ length marks.now }
 {
     let mut count = 0;
     for mark in marks {
-        if mark.entries >= entries {
+        if !is_before(*mark, now) {
             return count;
         }
         count += 1;
@@ -221,12 +260,12 @@ fn count_given(given: &[usize], entries: usize) -> usize
     count
 }
 
-/// How many cards had come into the hand when the first line began that recorded nothing in the first entries.
-fn cards_by(marks: &[Mark], entries: usize, cards: usize) -> usize
-    ensures { result ≡ cards_by entries marks.now cards }
+/// How many cards had come into the hand before the entry that comes after this many, of so many that have by now.
+fn cards_by(marks: &[Mark], whole: usize, cards: usize) -> usize
+    ensures { result ≡ cards_by whole marks.now cards }
 {
     for mark in marks {
-        if mark.entries >= entries {
+        if mark.entries > whole {
             return mark.cards;
         }
     }

@@ -1,6 +1,6 @@
 //! A person's room.
-ghost use Rattle.std.specs.Prelude.{◌≡◌, ◌+◌, ◌<◌, ◌≤◌, ◌↔◌, ℕ, [], ◌∷◌, ◌++◌, true, false, length, take, None, Some};
-ghost use Rattle.std.specs.Prelude.{option_map, IsOk, IfOk, IfErr, OnOk, OnErr, ◌≢◌};
+ghost use Rattle.std.specs.Prelude.{◌≡◌, ◌≢◌, ◌+◌, ◌<◌, ◌≤◌, ◌↔◌, ℕ, [], ◌∷◌, ◌++◌, true, false, length, take};
+ghost use Rattle.std.specs.Prelude.{◌⊎◌, None, Some, option_map, IsOk, IfOk, IfErr, OnOk, OnErr};
 ghost use Rattle.std.specs.Io.KnownBytes.{Appends};
 ghost use Rattle.cpu_1401.specs.Run.{most_steps};
 ghost use Rattle.room_alone.specs.Journal.{IsLegal, answer_to, entry, is_full, most_entries, pairs_of, refusal_of};
@@ -9,21 +9,20 @@ ghost use Rattle.operate_scout.specs.RunOf.{answer_of, run_of};
 ghost use Rattle.operate_scout.specs.Search.{memory_after, search};
 ghost use Rattle.operate_past.specs.Back.{back_of};
 ghost use Rattle.operate_sitting.specs.Notes.{begun, hand_of, held, no_notes, notes_after};
-ghost use Rattle.operate_sitting.specs.Sitting.{journal_of, machine_of, tending_of, undone_at, watching};
+ghost use Rattle.operate_sitting.specs.Sitting.{cards_back, cards_loaded, journal_of, lines_of, machine_of, tending_of};
+ghost use Rattle.operate_sitting.specs.Sitting.{undone_at, watching};
 ghost use Rattle.operate_sitting.specs.Tending.{CarriedAll, CarriedPart};
 
 use crate::cutter::Cutter;
-use crate::earlier::{Earlier, Origin, PastFault};
-use crate::notes::Notes;
+use crate::earlier::{Earlier, Origin, PastFault, past_fault};
+use crate::notes::{Mark, Notes};
 use crate::tending::tend;
-use core_1401::CoreFault;
 use cpu_1401::Machine;
 use devices_1401::Card;
 use machine_execution::Command;
-use operate_past::{BackFault, carry_back};
-use operate_scout::{FullDevices, OneOf, Paired, RunEnd, SearchEnd, Test, scout_of};
+use operate_past::{Interrupter, carry_back, carry_entries, whole_entries};
+use operate_scout::{FullDevices, OneOf, Paired, RunEnd, SearchEnd, Test};
 use room_alone::{Carried, Entry, Keeper, KeptRoom, Room, RoomFault, Unkept};
-use room_journal::carry_chosen;
 use std::alloc::{AllocError, Global};
 use std::marker::Model;
 
@@ -55,13 +54,12 @@ impl<K: Keeper + Drop> Sitting<K> {
     ///
     /// # Errors
     ///
-    /// `Memory` if there is no room for the scout.
-    pub fn new(alloc: Global, room: KeptRoom<K>) -> Result<Sitting<K>, CoreFault>
+    /// If the memory for the scout is refused.
+    pub fn new(alloc: Global, room: KeptRoom<K>) -> Result<Sitting<K>, AllocError>
         ensures account { IfOk result (λ sitting. sitting.account ≡ room) }
         ensures notes { IfOk result (λ sitting. sitting.notes ≡ no_notes (length room.room.journal)) }
-        ensures fault { IfErr result (λ fault. fault ≡ CoreFault.Memory) }
     {
-        let scout = match scout_of(alloc, room.room()) {
+        let scout = match room.room().machine().copy(alloc) {
             Ok(scout) => scout,
             Err(fault) => return Err(fault),
         };
@@ -227,8 +225,8 @@ impl<K: Keeper + Drop> Sitting<K> {
         self.paired.run_until(test, most)
     }
 
-    /// Does what devices want: takes all lines of a full paper and all cards of a full stacker, and fills an empty
-    /// hopper with cards in hand. What was done before a command that is refused stays.
+    /// Does what devices want: takes all lines of a full paper and all cards of a full stacker, and feeds as many cards
+    /// in hand as the hopper takes, in their order. What was done before a command that is refused stays.
     ///
     /// # Errors
     ///
@@ -252,22 +250,36 @@ impl<K: Keeper + Drop> Sitting<K> {
         }
     }
 
-    /// The room as it was before the last lines that recorded something, this many.
+    /// The room as it was before the last lines, this many, of those that have done something: recorded an entry, or
+    /// taken cards into the hand.
     ///
     /// # Errors
     ///
-    /// `NothingToUndo` if there are fewer, else `Memory`.
-    pub fn undone(&self, alloc: Global, lines: u32) -> Result<Earlier, PastFault>
+    /// `NothingToUndo` if fewer have, else `Memory` or `Interrupted`.
+    pub fn undone<C, I: Interrupter<C>>(
+        &self,
+        alloc: Global,
+        lines: u32,
+        interrupter: &mut I,
+        console: &mut C,
+    ) -> Result<Earlier, PastFault>
+        requires { I.is_sound interrupter.old console.old ≡ true }
         ensures journal { IfOk result (λ earlier. Some earlier.room.journal
-            ≡ option_map (λ at. take at (journal_of self.now)) (undone_at lines self.now)) }
+            ≡ option_map (λ at. take at.entries (journal_of self.now)) (undone_at lines self.now)) }
+        ensures origin { IfOk result (λ earlier. Some earlier.origin
+            ≡ option_map (λ at. Origin.Own at.cards) (undone_at lines self.now)) }
         ensures size { IfOk result (λ earlier. earlier.room.size ≡ self.now.account.room.size) }
-        ensures origin { IfOk result (λ earlier. earlier.origin ≡ Origin.Own) }
-        ensures nothing { (result ≡ Err PastFault.NothingToUndo) ↔ (undone_at lines self.now ≡ None) }
+        ensures nothing { (result ≡ Err (PastFault.NothingToUndo (lines_of self.now)))
+            ↔ (undone_at lines self.now ≡ None) }
         ensures fault { result ≢ Err PastFault.TooFew }
+        ensures sound { I.is_sound interrupter.new console.new ≡ true }
     {
-        match self.notes.undo_place(lines as usize, self.journal().len()) {
-            Some(entries) => self.first_entries(alloc, entries),
-            None => Err(PastFault::NothingToUndo),
+        let entries = self.journal().len();
+        match self.notes.undo_place(lines as usize, entries) {
+            Some(at) => self.earlier_at(alloc, at, interrupter, console),
+            None => Err(PastFault::NothingToUndo {
+                lines: self.notes.count_lines(entries),
+            }),
         }
     }
 
@@ -275,19 +287,30 @@ impl<K: Keeper + Drop> Sitting<K> {
     ///
     /// # Errors
     ///
-    /// `TooFew` if fewer instructions were carried out, else `Memory`.
-    pub fn earlier(&self, alloc: Global, instructions: u64) -> Result<Earlier, PastFault>
+    /// `TooFew` if fewer instructions were carried out, else `Memory` or `Interrupted`.
+    pub fn earlier<C, I: Interrupter<C>>(
+        &self,
+        alloc: Global,
+        instructions: u64,
+        interrupter: &mut I,
+        console: &mut C,
+    ) -> Result<Earlier, PastFault>
+        requires { I.is_sound interrupter.old console.old ≡ true }
         ensures commands { IfOk result (λ earlier.
             Some (pairs_of earlier.room.journal) ≡ back_of instructions (journal_of self.now)) }
         ensures size { IfOk result (λ earlier. earlier.room.size ≡ self.now.account.room.size) }
-        ensures origin { IfOk result (λ earlier. earlier.origin ≡ Origin.Own) }
+        ensures origin { IfOk result (λ earlier. earlier.origin ≡ Origin.Own (cards_back instructions self.now)) }
         ensures too_few { (result ≡ Err PastFault.TooFew) ↔ (back_of instructions (journal_of self.now) ≡ None) }
-        ensures fault { result ≢ Err PastFault.NothingToUndo }
+        ensures fault { IfErr result (λ fault. (lines : ℕ) → fault ≢ PastFault.NothingToUndo lines) }
+        ensures sound { I.is_sound interrupter.new console.new ≡ true }
     {
-        match carry_back(alloc, self.room(), instructions) {
-            Ok(room) => Earlier::new(alloc, room, Origin::Own),
-            Err(BackFault::TooFew) => Err(PastFault::TooFew),
-            Err(BackFault::Memory) => Err(PastFault::Memory),
+        match carry_back(alloc, self.room(), instructions, interrupter, console) {
+            Ok(room) => {
+                let whole = whole_entries(self.journal(), instructions);
+                let cards = self.notes.cards_by(whole);
+                Earlier::new(alloc, room, Origin::Own { cards })
+            }
+            Err(fault) => Err(past_fault(fault)),
         }
     }
 
@@ -295,15 +318,26 @@ impl<K: Keeper + Drop> Sitting<K> {
     ///
     /// # Errors
     ///
-    /// `Memory` alone.
-    pub fn restarted(&self, alloc: Global) -> Result<Earlier, PastFault>
+    /// `Memory` or `Interrupted`.
+    pub fn restarted<C, I: Interrupter<C>>(
+        &self,
+        alloc: Global,
+        interrupter: &mut I,
+        console: &mut C,
+    ) -> Result<Earlier, PastFault>
+        requires { I.is_sound interrupter.old console.old ≡ true }
         ensures journal { IfOk result (λ earlier.
             earlier.room.journal ≡ take self.now.notes.loaded (journal_of self.now)) }
         ensures size { IfOk result (λ earlier. earlier.room.size ≡ self.now.account.room.size) }
-        ensures origin { IfOk result (λ earlier. earlier.origin ≡ Origin.Own) }
-        ensures fault { IfErr result (λ fault. fault ≡ PastFault.Memory) }
+        ensures origin { IfOk result (λ earlier. earlier.origin ≡ Origin.Own (cards_loaded self.now)) }
+        ensures fault { IfErr result (λ fault. (fault ≡ PastFault.Memory) ⊎ (fault ≡ PastFault.Interrupted)) }
+        ensures sound { I.is_sound interrupter.new console.new ≡ true }
     {
-        self.first_entries(alloc, self.notes.loaded())
+        let at = Mark {
+            entries: self.notes.loaded(),
+            cards: self.notes.cards_before(),
+        };
+        self.earlier_at(alloc, at, interrupter, console)
     }
 
     /// The room of another journal, at which all that it has loaded the program.
@@ -356,21 +390,26 @@ impl<K: Keeper + Drop> Sitting<K> {
         })
     }
 
-    /// The room as it was after the first entries, this many.
-    fn first_entries(&self, alloc: Global, entries: usize) -> Result<Earlier, PastFault>
+    /// The room as it was at a place of the journal.
+    fn earlier_at<C, I: Interrupter<C>>(
+        &self,
+        alloc: Global,
+        at: Mark,
+        interrupter: &mut I,
+        console: &mut C,
+    ) -> Result<Earlier, PastFault>
+        requires { I.is_sound interrupter.old console.old ≡ true }
         ensures journal { IfOk result (λ earlier.
-            earlier.room.journal ≡ take entries (journal_of self.now)) }
+            earlier.room.journal ≡ take at.entries (journal_of self.now)) }
         ensures size { IfOk result (λ earlier. earlier.room.size ≡ self.now.account.room.size) }
-        ensures origin { IfOk result (λ earlier. earlier.origin ≡ Origin.Own) }
-        ensures fault { IfErr result (λ fault. fault ≡ PastFault.Memory) }
+        ensures origin { IfOk result (λ earlier. earlier.origin ≡ Origin.Own at.cards) }
+        ensures fault { IfErr result (λ fault. (fault ≡ PastFault.Memory) ⊎ (fault ≡ PastFault.Interrupted)) }
+        ensures sound { I.is_sound interrupter.new console.new ≡ true }
     {
-        let size = self.room().machine().core().size();
-        let Ok(room) = carry_chosen(alloc, size, self.journal(), entries as u64, &[]) else {
-            // Its journal is never full: it has no entry more than the room's.
-            return Err(PastFault::Memory);
-        };
-        let _legal = room.journal();
-        Earlier::new(alloc, room, Origin::Own)
+        match carry_entries(alloc, self.room(), at.entries, interrupter, console) {
+            Ok(room) => Earlier::new(alloc, room, Origin::Own { cards: at.cards }),
+            Err(fault) => Err(past_fault(fault)),
+        }
     }
 }
 

@@ -18,14 +18,14 @@ pub(crate) struct Plan {
     feeds: u16,
 }
 
-/// All lines are taken from a paper that is full, and all cards from such a stacker; an empty hopper is filled.
+/// All lines are taken from a paper that is full, and all cards from such a stacker; the hopper is filled.
 fn plan_of(devices: &Devices) -> Plan
     ensures { result ≡ plan_of devices.now }
 {
     Plan {
         lines: most_if(usize::from(devices.paper()) >= MOST_HELD),
         cards: most_if(usize::from(devices.stacker()) >= MOST_HELD),
-        feeds: most_if(devices.hopper() == 0),
+        feeds: (MOST_HELD as u16).saturating_sub(devices.hopper()),
     }
 }
 

@@ -76,11 +76,27 @@ fn look_for_last_card(rt: &impl Abort, sitting: &mut Sitting<NoKeeper>) {
     carry(rt, sitting, Command::Switch { n, on: true });
 }
 
-/// A line that takes a deck of blank cards into the hand, and fills the hopper if it is empty.
+/// A card that has this graphic in each column.
+fn card_of(rt: &impl Abort, graphic: u8) -> Card {
+    let char = Char::from_graphic(graphic).expect(rt, "a graphic");
+    Card([char; 80])
+}
+
+/// A line that takes a deck of blank cards into the hand, and fills the hopper.
 fn hold_deck(rt: &(impl Abort + AllocGlobal), sitting: &mut Sitting<NoKeeper>, count: usize) {
+    hold_cards(rt, sitting, b' ', count);
+}
+
+/// The same of cards with this graphic.
+fn hold_cards(
+    rt: &(impl Abort + AllocGlobal),
+    sitting: &mut Sitting<NoKeeper>,
+    graphic: u8,
+    count: usize,
+) {
     let mut deck = Vec::new(rt.alloc());
     for _ in 0..count {
-        deck.push(Card([Char::BLANK; 80])).expect(rt, "a card");
+        deck.push(card_of(rt, graphic)).expect(rt, "a card");
     }
     sitting.begin_line().expect(rt, "a mark");
     sitting.hold(deck).expect(rt, "cards");

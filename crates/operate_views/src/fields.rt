@@ -8,9 +8,13 @@ use bcd_1401::Cell;
 use core_1401::Core;
 use std::alloc::{AllocError, Global};
 
-/// The cells at a place and below it, the upper ones first.
+/// The cells of so many places, from one down.
+///
+/// # Errors
+///
+/// If there is no room for them.
 #[tactic(auto, using(crate::proofs::FieldLemmas::cells_from))]
-fn cells_down(alloc: Global, core: &Core, at: u16, len: u16) -> Result<Vec<Cell>, AllocError>
+pub fn cells_down(alloc: Global, core: &Core, at: u16, len: u16) -> Result<Vec<Cell>, AllocError>
     requires at { at < length core.now }
     requires len { len ≤ at + 1 }
     ensures cells { IfOk result (λ cells. cells.items ≡ take len (cells_down core.now at)) }

@@ -13,7 +13,7 @@ use std::alloc::AllocError;
 const MINUS_ZONE: u8 = 2;
 
 /// Whether a character is a digit 0 to 9, with any zone.
-fn is_digit(char: Char) -> bool
+pub fn is_digit(char: Char) -> bool
     ensures { result ≡ is_digit char }
 {
     let low = char.code() % 16;
@@ -21,7 +21,7 @@ fn is_digit(char: Char) -> bool
 }
 
 /// Whether a cell is a digit 0 to 9 without a zone.
-fn is_plain_digit(cell: Cell) -> bool
+pub fn is_plain_digit(cell: Cell) -> bool
     ensures { result ≡ is_plain_digit cell }
 {
     is_digit(cell.char) && cell.char.zone() == 0

@@ -15,6 +15,7 @@ use Rattle.program_call.specs.declared.call.Job.{Job}
 use Rattle.program_call.specs.declared.call.NewJournal.{NewJournal}
 use Rattle.program_call.specs.declared.call.Opening.{Opening}
 use Rattle.program_call.specs.declared.call.Opening.TheVariants as opening
+use Rattle.program_call.specs.declared.call.Operating.{Operating}
 use Rattle.program_call.specs.declared.call.Operators.{Operators}
 use Rattle.program_call.specs.declared.call.Product.{Product}
 use Rattle.program_call.specs.declared.call.Product.TheVariants as product
@@ -28,7 +29,10 @@ use Rattle.program_call.specs.declared.call.Reported.{Reported}
 use Rattle.program_call.specs.declared.call.Reported.TheVariants as told
 use Rattle.serving_http.specs.declared.origins.Origin.{Origin}
 use Rattle.machine_graphics.specs.declared.graphics.Graphics.{Graphics}
+use Rattle.machine_panel.specs.Features.{no_features}
+use Rattle.machine_panel.specs.declared.features.Features.{Features}
 use Rattle.serving_http.specs.Origins.{is_text_of}
+use Rattle.program_arguments.specs.Features.{features_in}
 use Rattle.program_arguments.specs.Options.{IsFlagIn, IsNamedSizeIn, IsNameIn, IsNumberIn, IsNumberOr}
 use Rattle.program_arguments.specs.Options.{graphics_by, graphics_in, language_in}
 
@@ -59,7 +63,7 @@ tells_all told.First = false
 tells_all told.All = true
 
 -- `assemble` of a file
-pub record IsAssembling (found : Found) (name : List ℕ) (asked : Assembling) : Type 0 where
+pub record IsAssembling (found : Found) (name : List ℕ) (fitted : Features) (asked : Assembling) : Type 0 where
   pub file : string_bytes asked.file ≡ name
   pub language : asked.language ≡ language_in (first_value found (codes "language"))
   pub source : asked.source_graphics ≡ graphics_by found (codes "source-graphics")
@@ -69,19 +73,20 @@ pub record IsAssembling (found : Found) (name : List ℕ) (asked : Assembling) :
   pub out : IsNameIn found (codes "output") asked.out
   pub deck : IsNameIn found (codes "deck") asked.deck
   pub all : IsFlagIn found (codes "all") (tells_all asked.told)
+  pub features : asked.features ≡ fitted
 
 -- and the call: the image and the deck aren't one file
 abbrev pub IsAssembled : Found → List ℕ → Call → Type 0
 IsAssembled found file asked =
-    (assembling : Assembling) × (asked ≡ call.Assemble assembling) × IsAssembling found file assembling
+    (assembling : Assembling) × (asked ≡ call.Assemble assembling) × IsAssembling found file (features_in found) assembling
     × (are_one (first_value found (codes "output")) (first_value found (codes "deck")) ≡ false)
 
 abbrev pub presses_key : Start → Bool
 presses_key start.Entry = false
 presses_key start.LoadKey = true
 
--- `run` of a file, with these switches
-pub record IsJob (found : Found) (name : List ℕ) (on : List Bool) (asked : Job) : Type 0 where
+-- `run` of a file, with these switches, on a machine with these features
+pub record IsJob (found : Found) (name : List ℕ) (on : List Bool) (fitted : Features) (asked : Job) : Type 0 where
   pub file : string_bytes asked.file ≡ name
   pub load : IsFlagIn found (codes "load") (presses_key asked.start)
   pub cards : IsNameIn found (codes "cards") asked.cards
@@ -96,6 +101,7 @@ pub record IsJob (found : Found) (name : List ℕ) (on : List Bool) (asked : Job
   pub size : IsNamedSizeIn found asked.size
   pub limit : IsNumberOr 32 found (codes "limit") 1000000000 asked.limit
   pub switches : asked.switches ≡ on
+  pub features : asked.features ≡ fitted
 
 -- the sense switches A to G: those are on that these letters name
 abbrev pub switches_named : List ℕ → List Bool
@@ -105,7 +111,7 @@ switches_named letters = map (λ letter. list_any (λ each. nat_eq each letter) 
 abbrev pub IsRun : Found → List ℕ → Call → Type 0
 IsRun found file asked =
     (job : Job) × (asked ≡ call.Run job)
-    × IsJob found file (switches_named (unwrap_or (first_value found (codes "switches")) [])) job
+    × IsJob found file (switches_named (unwrap_or (first_value found (codes "switches")) [])) (features_in found) job
 
 -- a new journal, if the options name its file
 abbrev pub IsJournalIn : Found → Option NewJournal → Type 0
@@ -113,6 +119,30 @@ IsJournalIn found None = first_value found (codes "journal") ≡ None
 IsJournalIn found (Some journal) =
     (first_value found (codes "journal") ≡ Some (string_bytes journal.file))
     × IsFlagIn found (codes "sync") journal.sync
+
+-- `operate`, with these switches, on a machine with these features
+pub record IsOperating (found : Found) (on : List Bool) (fitted : Features) (asked : Operating) : Type 0 where
+  pub file : IsNameIn found (codes "file") asked.file
+  pub load : IsFlagIn found (codes "load") (presses_key asked.start)
+  pub cards : IsNameIn found (codes "cards") asked.cards
+  pub switches : asked.switches ≡ on
+  pub journal : IsJournalIn found asked.journal
+  pub resumed : IsNameIn found (codes "resume") asked.resumed
+  pub language : asked.language ≡ language_in (first_value found (codes "language"))
+  pub graphics : asked.graphics ≡ graphics_in (first_value found (codes "graphics"))
+  pub source : asked.source_graphics ≡ graphics_by found (codes "source-graphics")
+  pub size : IsNamedSizeIn found asked.size
+  pub script : IsNameIn found (codes "do") asked.script
+  pub echo : IsFlagIn found (codes "echo") asked.echo
+  pub limit : IsNumberOr 32 found (codes "limit") 1000000000 asked.limit
+  pub features : asked.features ≡ fitted
+
+-- and the call
+abbrev pub IsOperated : Found → Call → Type 0
+IsOperated found asked =
+    (operating : Operating) × (asked ≡ call.Operate operating)
+    × IsOperating found (switches_named (unwrap_or (first_value found (codes "switches")) [])) (features_in found)
+    operating
 
 -- `journal` of a file
 pub record IsShowing (found : Found) (name : List ℕ) (asked : Showing) : Type 0 where
@@ -163,7 +193,8 @@ IsOriginIn found (Some origin) =
 abbrev pub asks_for_more : Found → Bool
 asks_for_more found =
     is_some (first_value found (codes "image"))
-    || (is_some (first_value found (codes "cards")) || is_some (first_value found (codes "journal")))
+    || (is_some (first_value found (codes "cards"))
+    || (is_some (first_value found (codes "journal")) || is_some (first_value found (codes "fit"))))
 
 -- whether a room is new, and gone with its first operators
 abbrev pub IsPlainIn : Found → Bool → Type 0
@@ -173,9 +204,11 @@ IsPlainIn found is =
 
 -- what a room begins with: an image, or else a machine at power-on
 abbrev pub IsOpeningIn : Found → Opening → Type 0
-IsOpeningIn found (opening.PowerOn size) =
+IsOpeningIn found (opening.PowerOn size features) =
     (first_value found (codes "image") ≡ None) × IsNumberOr 16 found (codes "size") 4000 size
-IsOpeningIn found (opening.Image file) = first_value found (codes "image") ≡ Some (string_bytes file)
+    × (features ≡ features_in found)
+IsOpeningIn found (opening.Image file features) =
+    (first_value found (codes "image") ≡ Some (string_bytes file)) × (features ≡ features_in found)
 IsOpeningIn found (opening.Journal resuming) = ⊥
 
 -- a room that begins so for these operators, where seats are taken again
@@ -220,12 +253,13 @@ IsResumed found file asked =
 -- `console`
 abbrev pub IsConsole : Found → Call → Type 0
 IsConsole found asked =
-    (size : ℕ) × IsNumberOr 16 found (codes "size") 4000 size × IsSession found (opening.PowerOn size) asked
+    (size : ℕ) × IsNumberOr 16 found (codes "size") 4000 size
+    × IsSession found (opening.PowerOn size (features_in found)) asked
 
 -- `load` of a file
 abbrev pub IsLoad : Found → List ℕ → Call → Type 0
 IsLoad found file asked =
-    (name : String Global) × (string_bytes name ≡ file) × IsSession found (opening.Image name) asked
+    (name : String Global) × (string_bytes name ≡ file) × IsSession found (opening.Image name (features_in found)) asked
 
 -- `disassemble` of a file: of an image, or of a deck
 abbrev pub disassemble_call : Bool → String Global → Option Graphics → ℕ → Call
@@ -240,7 +274,7 @@ IsDisassembled found file asked =
 
 -- a session on a machine of 4,000 places, whose journal isn't kept
 abbrev pub bare_call : Call
-bare_call = call.Console (record { opening = opening.PowerOn 4000; journal = None })
+bare_call = call.Console (record { opening = opening.PowerOn 4000 no_features; journal = None })
 
 -- `serve`; without operators, which clap lets nobody leave out, it is a console of 4,000 places
 abbrev pub IsServedBy : Found → Option Operators → Call → Type 0
@@ -263,8 +297,9 @@ pub record IsOfFile (name : List ℕ) (found : Found) (file : List ℕ) (asked :
 -- the subcommand of this name
 pub record IsOf (name : List ℕ) (found : Found) (asked : Call) : Type 0 where
   pub console : name ≡ codes "console" → IsConsole found asked
+  pub operate : name ≡ codes "operate" → IsOperated found asked
   pub serve : name ≡ codes "serve" → IsServed found asked
-  pub others : (name ≡ codes "console" → ⊥) → (name ≡ codes "serve" → ⊥)
+  pub others : (name ≡ codes "console" → ⊥) → (name ≡ codes "operate" → ⊥) → (name ≡ codes "serve" → ⊥)
       → IsOfFile name found (unwrap_or (first_value found (codes "file")) []) asked
 
 -- what the command line asks for by the subcommand that it names, and that one's options

@@ -4,11 +4,13 @@ ghost use Rattle.clap.specs.Words.{first_value, found_of};
 ghost use Rattle.program_arguments.specs.Calls.{IsAssembled, IsAssembling, IsProductIn, are_one};
 
 use crate::commands::{Session, Subcommand, refusal};
+use crate::features::{FIT, NAMED_TWICE, features_in};
 use crate::graphics::{GRAPHICS, OUT_GRAPHICS, SOURCE_GRAPHICS, graphics_by};
 use crate::languages::{LANGUAGE, language_in};
 use crate::options::{Argument, FREE, Kind, TEXT, name_in};
 use crate::sizes::{SIZE, named_size_in};
 use clap::{ArgMatches, Error};
+use machine_panel::Features;
 use program_call::{Assembling, Call, Product, Reported, Tables};
 use std::alloc::{AllocError, Global};
 
@@ -55,6 +57,10 @@ const ARGUMENTS: &[Argument] = &[
     SOURCE_GRAPHICS,
     OUT_GRAPHICS,
     SIZE,
+    Argument {
+        help: "The features of the machine that the program is for: --all warns of what it doesn't carry out",
+        ..FIT
+    },
     Argument {
         name: "file",
         kind: Kind::File,
@@ -116,19 +122,22 @@ pub(crate) fn assemble_call(
     ensures { IfOk result (λ call. IsAssembled (found_of matches.now) file.now call) }
 {
     if names_one_file(matches) {
-        Err(refusal(alloc, assemble(), "-o and --deck name the same file")?)
-    } else {
-        Ok(Call::Assemble(assembling_in(alloc, matches, file)?))
+        return Err(refusal(alloc, assemble(), "-o and --deck name the same file")?);
+    }
+    match features_in(matches) {
+        Some(features) => Ok(Call::Assemble(assembling_in(alloc, matches, file, features)?)),
+        None => Err(refusal(alloc, assemble(), NAMED_TWICE)?),
     }
 }
 
-/// How the options of `assemble` ask for this source to be assembled.
+/// How the options of `assemble` ask for this source to be assembled, for a machine with these features.
 fn assembling_in(
     alloc: Global,
     matches: &ArgMatches<'_>,
     file: &str,
+    features: Features,
 ) -> Result<Assembling, AllocError>
-    ensures { IfOk result (λ asked. IsAssembling (found_of matches.now) file.now asked) }
+    ensures { IfOk result (λ asked. IsAssembling (found_of matches.now) file.now features asked) }
 {
     let told = if matches.get_flag("all") {
         Reported::All
@@ -145,5 +154,6 @@ fn assembling_in(
         out: name_in(alloc, matches, "output")?,
         deck: name_in(alloc, matches, "deck")?,
         told,
+        features,
     })
 }

@@ -28,6 +28,8 @@ pub(crate) enum Session {
     Nothing,
     /// By standard input.
     Lines,
+    /// By a person.
+    Orders,
     /// By standard input, or at the ports.
     LinesOrPorts,
     /// At the ports.
@@ -50,6 +52,19 @@ Lines, each with one reply:
   GLANCE A        shows the cell at address A, and how many commands came before; it isn't recorded
   QUIT            ends the session; a journal, if there is one, has what it did";
 
+/// What a person may type, for the help.
+const ORDERS: &str = "\
+Lines, each begun by a word that may be shortened; these are some of them:
+  help                   lists all words
+  step 3                 carries out three instructions, and shows what each did
+  print TOTAL            shows the field of a label
+  list NEXT              shows instructions, with the lines of the source
+  set TOTAL = -5         puts a number into a field
+  break NEXT if X1 = 12  has a run stop there, if that is so
+  continue               runs until something stops it, as Enter does
+  back 4                 goes four instructions back
+  quit                   ends the console; a journal, if there is one, has what it did";
+
 /// The ports at which operators come, one or both of them.
 fn ports_group<'a>(alloc: Global, is_required: bool) -> Result<ArgGroup<'a>, AllocError> {
     ArgGroup::new(alloc, "ports")
@@ -67,7 +82,7 @@ fn ports_alone<'a>(alloc: Global, is_required: bool) -> Result<Vec<ArgGroup<'a>>
 /// The groups of a subcommand to which lines are given so.
 fn groups_of<'a>(alloc: Global, session: Session) -> Result<Vec<ArgGroup<'a>>, AllocError> {
     match session {
-        Session::Nothing | Session::Lines => Ok(Vec::new(alloc)),
+        Session::Nothing | Session::Lines | Session::Orders => Ok(Vec::new(alloc)),
         Session::LinesOrPorts => ports_alone(alloc, false),
         Session::Ports => ports_alone(alloc, true),
     }
@@ -77,6 +92,11 @@ fn groups_of<'a>(alloc: Global, session: Session) -> Result<Vec<ArgGroup<'a>>, A
 fn bare<'a>(alloc: Global, of: &Subcommand) -> Command<'a> {
     match of.session {
         Session::Nothing => Command::new(alloc, of.name).about(of.about),
+        Session::Orders => {
+            Command::new(alloc, of.name)
+                .about(of.about)
+                .after_help(ORDERS)
+        },
         Session::Lines | Session::LinesOrPorts | Session::Ports => {
             Command::new(alloc, of.name)
                 .about(of.about)

@@ -13,17 +13,21 @@ mod commands;
 
 // the words of each subcommand, and the options that several have
 mod assembling;
+mod features;
 mod graphics;
 mod journals;
 mod languages;
+mod operating;
+mod running;
 mod serving;
 mod sizes;
+mod switches;
 
 // all of them read
 pub mod reading;
 
 pub use program_call::{
-    Assembling, Call, DEFAULT_SIZE, Job, NewJournal, Opening, Operators, PlainService, Product,
-    Reported, Resuming, Seating, Showing, Start, Tables,
+    Assembling, Call, DEFAULT_SIZE, Job, NewJournal, Opening, Operating, Operators, PlainService,
+    Product, Reported, Resuming, Seating, Showing, Start, Tables,
 };
 pub use reading::read_call;

@@ -37,6 +37,9 @@ pub(crate) enum Kind {
     Short(&'static str, char),
     /// The size of core storage, whose help is made of the list of sizes.
     Size,
+    /// An option with values, with commas between them, for which the help has this word, and each of which is one of
+    /// these names.
+    List(&'static str, &'static [&'static str]),
     /// A file, which is named without the name of an option.
     File,
 }
@@ -94,6 +97,9 @@ fn alone<'a>(alloc: Global, sizes: &'a SizeTexts, of: &Argument) -> Arg<'a> {
         Kind::Size => option(alloc, of.name, "N", ANY_U16, sizes.help.as_str()).default_value(
             sizes.default.as_str(),
         ),
+        Kind::List(value, names) => {
+            option(alloc, of.name, value, ValueParser::Names(names), of.help).value_delimiter(',')
+        },
         Kind::File => Arg::new(alloc, of.name).value_name("FILE").help(of.help),
     }
 }

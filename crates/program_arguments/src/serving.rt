@@ -1,15 +1,18 @@
 //! The options of a room that operators share, read by `clap`.
-ghost use Rattle.std.specs.Prelude.{IfOk};
+ghost use Rattle.std.specs.Prelude.{◌≡◌, IfOk};
 ghost use Rattle.clap.specs.Words.{found_of};
+ghost use Rattle.program_arguments.specs.Features.{features_in};
 ghost use Rattle.program_arguments.specs.Calls.{AreOperatorsIn, IsOpeningIn, IsOriginIn, IsPlainIn, IsRoom, IsSeating};
 
 use crate::commands::{Session, Subcommand, refusal};
+use crate::features::{FIT, NAMED_TWICE, features_in};
 use crate::graphics::{GRAPHICS, graphics_in};
 use crate::journals::{JOURNAL, NEW_SYNC, new_journal_in};
 use crate::options::{Argument, FREE, Kind, TEXT, name_in};
 use crate::sizes::{SIZE, size_in};
 use clap::builder::ValueParser;
 use clap::{ArgMatches, Error};
+use machine_panel::Features;
 use program_call::{Call, Opening, Operators, PlainService, Seating};
 use serving_http::{Origin, OriginFault, read_origin};
 use std::alloc::{AllocError, Global};
@@ -72,11 +75,12 @@ const ARGUMENTS: &[Argument] = &[
     Argument {
         name: "keep-seats",
         kind: Kind::Flag,
-        help: "Gives the seat of a console that has ended to the next operator (implied by the next five options)",
+        help: "Gives the seat of a console that has ended to the next operator (implied by the next six options)",
         ..FREE
     },
     PAGE,
     ORIGIN,
+    FIT,
     Argument {
         name: "image",
         kind: Kind::Value("FILE", TEXT, &[]),
@@ -190,9 +194,13 @@ pub(crate) fn serve_call(
         Ok(origin) => origin,
         Err(fault) => return Err(origin_refusal(alloc, serve(), matches, fault)?),
     };
-    match pages_refused(operators, origin.as_ref()) {
-        Some(text) => Err(refusal(alloc, serve(), text)?),
-        None => Ok(room_call(alloc, matches, operators, origin)?),
+    match (
+        pages_refused(operators, origin.as_ref()),
+        features_in(matches),
+    ) {
+        (Some(text), _) => Err(refusal(alloc, serve(), text)?),
+        (None, Some(features)) => Ok(room_call(alloc, matches, operators, origin, features)?),
+        (None, None) => Err(refusal(alloc, serve(), NAMED_TWICE)?),
     }
 }
 
@@ -203,17 +211,20 @@ fn is_plain(matches: &ArgMatches<'_>) -> bool
     matches.get_str("image").is_none()
         && matches.get_str("cards").is_none()
         && matches.get_str("journal").is_none()
+        && matches.get_str("fit").is_none()
         && !matches.get_flag("keep-seats")
 }
 
-/// The room that the options of `serve` ask for, for these operators.
+/// The room that the options of `serve` ask for, for these operators, on a machine with these features.
 fn room_call(
     alloc: Global,
     matches: &ArgMatches<'_>,
     operators: Operators,
     origin: Option<Origin>,
+    features: Features,
 ) -> Result<Call, AllocError>
-    requires { IsOriginIn (found_of matches.now) origin }
+    requires origin { IsOriginIn (found_of matches.now) origin }
+    requires features { features ≡ features_in (found_of matches.now) }
     ensures { IfOk result (λ call. IsRoom (found_of matches.now) operators call) }
 {
     let Operators { seats, port, page } = operators;
@@ -223,20 +234,25 @@ fn room_call(
             Ok(Call::Serve(PlainService { size, seats, port }))
         },
         _ => {
-            let opening = opening_in(alloc, matches)?;
+            let opening = opening_in(alloc, matches, features)?;
             let seating = seating_in(alloc, matches, opening, operators, origin)?;
             Ok(Call::ServeSeats(seating))
         }
     }
 }
 
-/// What a room begins with by the options of `serve`.
-fn opening_in(alloc: Global, matches: &ArgMatches<'_>) -> Result<Opening, AllocError>
+/// What a room on a machine with these features begins with by the options of `serve`.
+fn opening_in(
+    alloc: Global,
+    matches: &ArgMatches<'_>,
+    features: Features,
+) -> Result<Opening, AllocError>
+    requires { features ≡ features_in (found_of matches.now) }
     ensures { IfOk result (λ opening. IsOpeningIn (found_of matches.now) opening) }
 {
     Ok(match name_in(alloc, matches, "image")? {
-        Some(file) => Opening::Image(file),
-        None => Opening::PowerOn(size_in(matches)),
+        Some(file) => Opening::Image(file, features),
+        None => Opening::PowerOn(size_in(matches), features),
     })
 }
 

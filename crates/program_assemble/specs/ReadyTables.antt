@@ -1,8 +1,10 @@
--- The listing of a source and its tables, ready to be written (own).
-use Rattle.std.specs.Prelude.{ℕ, Bool, true, false, ◌&&◌, if◌then◌else◌, List, [], ◌∷◌, Option, None, Some, IfSome, codes}
+-- What is written of a source, ready: its image, its listing, or its tables (own).
+use Rattle.std.specs.Prelude.{ℕ, ⊤, Bool, true, false, ◌&&◌, if◌then◌else◌, List, [], ◌∷◌, Option, None, Some, IfSome, codes}
 use Rattle.autocoder_listing.specs.Writing.{IsReadyFor, text_for}
 use Rattle.autocoder_listing.specs.declared.writing.ReadyListing.{ReadyListing}
 use Rattle.program_assemble.specs.Assemble.{with_part}
+use Rattle.program_assemble.specs.declared.assembling.ReadyProduct.{ReadyProduct}
+use Rattle.program_assemble.specs.declared.assembling.ReadyProduct.TheVariants as product
 use Rattle.program_assemble.specs.declared.assembling.ReadyTables.{ReadyTables}
 
 -- whether a list has something
@@ -24,3 +26,14 @@ ready_text source tables = with_part (listing_in source tables.listing) tables.r
 
 abbrev pub AreReadyFor : List ℕ → ReadyTables → Type 0
 AreReadyFor source tables = IfSome tables.listing (IsReadyFor source)
+
+-- what is written of a source
+abbrev pub product_text : List ℕ → ReadyProduct → List ℕ
+product_text source (product.Image text) = text.items
+product_text source (product.Listing ready) = text_for source ready
+product_text source (product.Tables tables) = ready_text source tables
+
+abbrev pub IsReady : List ℕ → ReadyProduct → Type 0
+IsReady source (product.Image text) = ⊤
+IsReady source (product.Listing ready) = IsReadyFor source ready
+IsReady source (product.Tables tables) = AreReadyFor source tables

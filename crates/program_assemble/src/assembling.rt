@@ -8,7 +8,8 @@ ghost use Rattle.autocoder_listing.specs.Writing.{IsReadyFor, text_for};
 ghost use Rattle.autocoder_1401.specs.Assembly.{assembly_in, with_listing};
 ghost use Rattle.program_call.specs.declared.call.Product.TheVariants.{Image as InImage, Listing, Tables as InTables};
 ghost use Rattle.program_assemble.specs.Assemble.{with_part, with_part_if, tables_text, IsProductOf, IsWhyNotAssembled};
-ghost use Rattle.program_assemble.specs.ReadyTables.{has_some, separator, ready_text, AreReadyFor};
+ghost use Rattle.program_assemble.specs.ReadyTables.{has_some, separator, ready_text, AreReadyFor, IsReady};
+ghost use Rattle.program_assemble.specs.ReadyTables.{product_text};
 ghost use Rattle.program_assemble.specs.Assemble.{IsDeckOf, IsWhyNoDeckOf, Wrote, AssembleDid};
 
 use crate::fault::AssembleFault;
@@ -18,7 +19,7 @@ use autocoder_1401::{
 };
 use autocoder_deck::{DeckFault, write_deck};
 use autocoder_statements::{Language, split_line};
-use bytes_streams::{Sink, ToWriter, put_all};
+use bytes_streams::{Sink, put_all};
 use core_1401::Core;
 use machine_image::{Image, write_image};
 use program_call::{Product, Tables};
@@ -52,6 +53,17 @@ pub fn check_size(size: u16) -> Result<(), AssembleFault>
     }
 }
 
+/// What is written of a source, ready: it needs no more memory.
+#[derive(Drop)]
+pub(crate) enum ReadyProduct {
+    /// The text of its image.
+    Image(Vec<u8>),
+    /// Its listing.
+    Listing(ReadyListing),
+    /// Its tables.
+    Tables(ReadyTables),
+}
+
 /// Writes what a source stands for: the text of its image, its listing, or its tables.
 ///
 /// # Errors
@@ -70,58 +82,63 @@ pub fn write_assembly<W: Sink>(
     ensures { AssembleDid language size source.now product (W.received writer.old) (W.received writer.new)
         (W.has_failed writer.new) result }
 {
+    let ready = ready_product(alloc, language, source, size, product)?;
+    write_ready_product(ready, source, writer)
+}
+
+/// What a source stands for, ready to be written: its image, its listing, or its tables.
+///
+/// # Errors
+///
+/// `Source` if the source can't be assembled, and `Memory` if there is no room.
+pub(crate) fn ready_product(
+    alloc: Global,
+    language: Language,
+    source: &[u8],
+    size: u16,
+    product: Product,
+) -> Result<ReadyProduct, AssembleFault>
+    requires { is_core_size size ≡ true }
+    ensures ok { IfOk result
+        (λ ready. IsProductOf language size source.now product (product_text source.now ready)) }
+    ensures ready { IfOk result (IsReady source.now) }
+    ensures err { IfErr result (IsWhyNotAssembled language size source.now) }
+{
     match product {
-        Product::Image => write_image_text(alloc, language, source, size, writer),
-        Product::Listing => write_source_listing(alloc, language, source, size, writer),
-        Product::Tables(asked) => write_source_tables(alloc, language, source, size, asked, writer),
+        Product::Image => {
+            let text = image_text(alloc, language, source, size)?;
+            Ok(ReadyProduct::Image(text))
+        }
+        Product::Listing => {
+            let listing = source_listing(alloc, language, source, size)?;
+            Ok(ReadyProduct::Listing(listing))
+        }
+        Product::Tables(asked) => {
+            let tables = source_tables(alloc, language, source, size, asked)?;
+            Ok(ReadyProduct::Tables(tables))
+        }
     }
 }
 
-/// Writes the text of a source's image.
-fn write_image_text<W: Sink>(
-    alloc: Global,
-    language: Language,
+/// Writes what a source stands for, once it is ready.
+///
+/// # Errors
+///
+/// `Output` if it isn't written, or a part of it alone.
+pub(crate) fn write_ready_product<W: Sink>(
+    ready: ReadyProduct,
     source: &[u8],
-    size: u16,
     writer: &mut W,
 ) -> Result<(), AssembleFault>
-    requires { is_core_size size ≡ true }
-    ensures { AssembleDid language size source.now InImage (W.received writer.old) (W.received writer.new)
+    requires { IsReady source.now ready }
+    ensures { Wrote (product_text source.now ready) (W.received writer.old) (W.received writer.new)
         (W.has_failed writer.new) result }
 {
-    let text = image_text(alloc, language, source, size)?;
-    write_text(&text, writer)
-}
-
-/// Writes the listing of a source, a page after the other.
-fn write_source_listing<W: Sink>(
-    alloc: Global,
-    language: Language,
-    source: &[u8],
-    size: u16,
-    writer: &mut W,
-) -> Result<(), AssembleFault>
-    ensures { AssembleDid language size source.now Listing (W.received writer.old) (W.received writer.new)
-        (W.has_failed writer.new) result }
-{
-    let ready = source_listing(alloc, language, source, size)?;
-    write_ready(ready, source, writer)
-}
-
-/// Writes the tables of a source, and its listing before them if it is asked for.
-fn write_source_tables<W: Sink>(
-    alloc: Global,
-    language: Language,
-    source: &[u8],
-    size: u16,
-    asked: Tables,
-    writer: &mut W,
-) -> Result<(), AssembleFault>
-    ensures { AssembleDid language size source.now (InTables asked) (W.received writer.old) (W.received writer.new)
-        (W.has_failed writer.new) result }
-{
-    let tables = source_tables(alloc, language, source, size, asked)?;
-    write_tables(tables, source, writer)
+    match ready {
+        ReadyProduct::Image(text) => write_text(text.as_slice(), writer),
+        ReadyProduct::Listing(listing) => write_ready(listing, source, writer),
+        ReadyProduct::Tables(tables) => write_tables(tables, source, writer),
+    }
 }
 
 /// Writes a listing that is ready.
@@ -137,88 +154,6 @@ fn write_ready<W: Sink>(
     match write_listing(ready, source, writer) {
         Ok(()) => Ok(()),
         Err(_) => Err(AssembleFault::Output),
-    }
-}
-
-/// The text of what a source stands for: of its image, of its listing, or its tables.
-///
-/// # Errors
-///
-/// `Source` if the source can't be assembled, and `Memory` if there is no room for the text.
-pub(crate) fn assembly_text(
-    alloc: Global,
-    language: Language,
-    source: &[u8],
-    size: u16,
-    product: Product,
-) -> Result<Vec<u8>, AssembleFault>
-    requires { is_core_size size ≡ true }
-    ensures ok { IfOk result (λ text. IsProductOf language size source.now product text.items) }
-    ensures err { IfErr result (IsWhyNotAssembled language size source.now) }
-{
-    match product {
-        Product::Image => image_text(alloc, language, source, size),
-        Product::Listing => listing_text(alloc, language, source, size),
-        Product::Tables(asked) => asked_text(alloc, language, source, size, asked),
-    }
-}
-
-/// The text of a source's listing.
-fn listing_text(
-    alloc: Global,
-    language: Language,
-    source: &[u8],
-    size: u16,
-) -> Result<Vec<u8>, AssembleFault>
-    ensures ok { IfOk result (λ text. IsProductOf language size source.now Listing text.items) }
-    ensures err { IfErr result (IsWhyNotAssembled language size source.now) }
-{
-    let ready = source_listing(alloc, language, source, size)?;
-    whole_listing(alloc, ready, source)
-}
-
-/// The text of a source's tables, with the listing before them if it is asked for.
-fn asked_text(
-    alloc: Global,
-    language: Language,
-    source: &[u8],
-    size: u16,
-    asked: Tables,
-) -> Result<Vec<u8>, AssembleFault>
-    ensures ok { IfOk result (λ text. IsProductOf language size source.now (InTables asked) text.items) }
-    ensures err { IfErr result (IsWhyNotAssembled language size source.now) }
-{
-    let tables = source_tables(alloc, language, source, size, asked)?;
-    whole_tables(alloc, tables, source)
-}
-
-/// The text of a listing that is ready.
-fn whole_listing(
-    alloc: Global,
-    ready: ReadyListing,
-    source: &[u8],
-) -> Result<Vec<u8>, AssembleFault>
-    requires { IsReadyFor source.now ready }
-    ensures text { IfOk result (λ text. text.items ≡ text_for source.now ready) }
-    ensures err { IfErr result (λ fault. fault ≡ AssembleFault.Memory) }
-{
-    let mut writer = ToWriter::new(Vec::new(alloc));
-    match write_listing(ready, source, &mut writer) {
-        Ok(()) => Ok(writer.into_inner()),
-        Err(_) => Err(AssembleFault::Memory),
-    }
-}
-
-/// The text of tables that are ready.
-fn whole_tables(alloc: Global, tables: ReadyTables, source: &[u8]) -> Result<Vec<u8>, AssembleFault>
-    requires { AreReadyFor source.now tables }
-    ensures text { IfOk result (λ text. text.items ≡ ready_text source.now tables) }
-    ensures err { IfErr result (λ fault. fault ≡ AssembleFault.Memory) }
-{
-    let mut writer = ToWriter::new(Vec::new(alloc));
-    match write_tables(tables, source, &mut writer) {
-        Ok(()) => Ok(writer.into_inner()),
-        Err(_) => Err(AssembleFault::Memory),
     }
 }
 

@@ -18,7 +18,7 @@ pub enum AssembleFault {
     /// The source can't be assembled.
     #[error("{0}")]
     Source(AsmFault),
-    /// The source can't be assembled: a line for each of its faults.
+    /// The source can't be assembled: a line for each of its faults that isn't printed yet.
     #[error("{0}")]
     Faulty(String),
     /// The image of the source has no deck that loads itself.

@@ -1,16 +1,27 @@
 //! The subcommand `assemble`, from the source's file to what is written.
+ghost use Rattle.program_assemble.specs.ReadyTables.{IsReady};
 
-use crate::assembling::{assembly_text, check_size, source_deck, write_assembly};
+use crate::assembling::{
+    ReadyProduct, check_size, ready_product, source_deck, write_assembly, write_ready_product,
+};
 use crate::fault::AssembleFault;
-use autocoder_1401::{AsmKind, explained_faults, fault_lines, warning_lines, warnings};
+use autocoder_1401::{
+    AsmFault, AsmKind, FaultPages, explained_faults, fault_lines, warning_lines, warnings,
+};
 use autocoder_statements::Language;
-use bytes_files::{FileFault, WriteFault, is_one_file, put_whole, read_whole};
+use bytes_files::{
+    FileFault, WriteFault, begin_whole, end_whole, is_one_file, put_whole, read_whole,
+};
 use bytes_streams::ToWriter;
 use machine_graphics::{Graphics, Suggestion, in_ours, in_theirs, suggest_foreign};
+use machine_panel::Features;
 use program_call::{Assembling, Product, Reported, is_refused, size_for};
 use std::alloc::Global;
 use std::io;
 use std::rt::Files;
+
+/// How many warnings are printed at a time.
+const PAGE: usize = 1_000;
 
 /// The bytes of a source's file.
 ///
@@ -83,8 +94,37 @@ fn put_file(
 ) -> Result<(), AssembleFault> {
     match put_whole(rt, name.as_str(), text) {
         Ok(()) => Ok(()),
-        Err(WriteFault::Memory) => Err(AssembleFault::Memory),
-        Err(WriteFault::Unwritten) => Err(AssembleFault::Unwritten(name)),
+        Err(why) => Err(unwritten(name, why)),
+    }
+}
+
+/// The fault of a file of this name that isn't written.
+fn unwritten(name: String, why: WriteFault) -> AssembleFault {
+    match why {
+        WriteFault::Memory => AssembleFault::Memory,
+        WriteFault::Unwritten => AssembleFault::Unwritten(name),
+    }
+}
+
+/// Writes what is ready of a source to the file of this name, whole or not at all, a page after the other; or to
+/// standard output, if the name is its.
+fn put_product(
+    rt: &(impl Files + Print + AllocGlobal),
+    name: String,
+    ready: ReadyProduct,
+    source: &[u8],
+) -> Result<(), AssembleFault>
+    requires { IsReady source.now ready }
+{
+    let file = match begin_whole(rt, name.as_str()) {
+        Ok(file) => file,
+        Err(why) => return Err(unwritten(name, why)),
+    };
+    let mut writer = ToWriter::new(file);
+    let written = write_ready_product(ready, source, &mut writer);
+    match end_whole(rt, writer.into_inner(), written.is_ok()) {
+        Ok(()) => Ok(()),
+        Err(why) => Err(unwritten(name, why)),
     }
 }
 
@@ -124,8 +164,8 @@ fn write_product<R: Files + Print + AllocGlobal>(
     check_size(size)?;
     match out {
         Some(name) => {
-            let text = assembly_text(rt.alloc(), language, source, size, product)?;
-            put_file(rt, name, text.as_slice())
+            let ready = ready_product(rt.alloc(), language, source, size, product)?;
+            put_product(rt, name, ready, source)
         }
         None => {
             let mut writer = ToWriter::new(io::writer(rt));
@@ -155,51 +195,85 @@ fn write_asked<R: Files + Print + AllocGlobal>(
     write_product(rt, language, source, size, product, out)
 }
 
-/// The fault of a source of this name with each of its faults on a line of its own, in place of the first of them.
-fn all_told(
+/// The fault of a source of this name with what isn't in core on a line of its own, in place of that fault.
+fn outside_told(
     alloc: Global,
     name: &str,
     language: Language,
     source: &[u8],
     size: u16,
-    first: AssembleFault,
+    first: AsmFault,
 ) -> AssembleFault {
     match explained_faults(alloc, language, source, size) {
-        Ok(found) if !found.is_empty() => match fault_lines(
-            alloc,
-            name,
-            language,
-            source,
-            size,
-            found.as_slice(),
-        ) {
-            Ok(lines) => AssembleFault::Faulty(lines),
-            Err(_) => AssembleFault::Memory,
-        },
-        Ok(_) => first,
+        Ok(found) if !found.is_empty() => {
+            match fault_lines(alloc, name, language, source, size, &found) {
+                Ok(lines) => AssembleFault::Faulty(lines),
+                Err(_) => AssembleFault::Memory,
+            }
+        }
+        Ok(_) => AssembleFault::Source(first),
         Err(_) => AssembleFault::Memory,
     }
 }
 
-/// Tells the warnings of a source of this name on standard error, whether that takes them or not.
+/// Reports each fault of the lines of a source of this name on standard error, a page after the other, whether that
+/// takes them or not. The last page is left.
+fn tell_faults(
+    rt: &(impl Eprint + AllocGlobal),
+    name: &str,
+    language: Language,
+    source: &[u8],
+    size: u16,
+) -> Result<String, AsmFault> {
+    let mut pages = FaultPages::new(rt.alloc(), language, source, size)?;
+    for _ in 1..pages.count() {
+        let lines = pages.next_page(rt.alloc(), name)?;
+        let _ = rt.eprint(lines);
+    }
+    pages.next_page(rt.alloc(), name)
+}
+
+/// The fault of a source of this name with each of its faults on a line of its own, in place of the first of them.
+fn all_told(
+    rt: &(impl Eprint + AllocGlobal),
+    name: &str,
+    language: Language,
+    source: &[u8],
+    size: u16,
+    first: AsmFault,
+) -> AssembleFault {
+    if first.kind == AsmKind::OutOfCore {
+        return outside_told(rt.alloc(), name, language, source, size, first);
+    }
+    match tell_faults(rt, name, language, source, size) {
+        Ok(lines) => AssembleFault::Faulty(lines),
+        Err(_) => AssembleFault::Memory,
+    }
+}
+
+/// Reports the warnings of a source of this name for a machine with these features on standard error, a page after the
+/// other, whether that takes them or not.
 ///
 /// # Errors
 ///
-/// `Memory`, and none is told then.
+/// `Memory`, and no more are reported then.
 fn tell_warnings(
     rt: &(impl Eprint + AllocGlobal),
     name: &str,
     language: Language,
     source: &[u8],
     size: u16,
+    features: Features,
 ) -> Result<(), AssembleFault> {
-    let Ok(found) = warnings(rt.alloc(), language, source, size) else {
+    let Ok(found) = warnings(rt.alloc(), language, source, size, features) else {
         return Err(AssembleFault::Memory);
     };
-    let Ok(lines) = warning_lines(rt.alloc(), name, found.as_slice()) else {
-        return Err(AssembleFault::Memory);
-    };
-    let _ = rt.eprint(lines);
+    for page in found.as_slice().chunks(PAGE) {
+        let Ok(lines) = warning_lines(rt.alloc(), name, page) else {
+            return Err(AssembleFault::Memory);
+        };
+        let _ = rt.eprint(lines);
+    }
     Ok(())
 }
 
@@ -240,6 +314,7 @@ pub fn assemble_file<R: Files + Print + Eprint + AllocGlobal>(
         out,
         deck,
         told,
+        features,
     } = asked;
     if is_refused(size) {
         return Err(AssembleFault::Size);
@@ -265,14 +340,7 @@ pub fn assemble_file<R: Files + Print + Eprint + AllocGlobal>(
     report_suggestion(rt, name.as_str(), suggested, &outcome);
     match (outcome, told) {
         (Err(AssembleFault::Source(first)), Reported::All) if first.kind != AsmKind::Memory => Err(
-            all_told(
-                rt.alloc(),
-                name.as_str(),
-                language,
-                source.as_slice(),
-                size,
-                AssembleFault::Source(first),
-            ),
+            all_told(rt, name.as_str(), language, source.as_slice(), size, first),
         ),
         (Ok(()), Reported::All) => tell_warnings(
             rt,
@@ -280,6 +348,7 @@ pub fn assemble_file<R: Files + Print + Eprint + AllocGlobal>(
             language,
             source.as_slice(),
             size,
+            features,
         ),
         (outcome, Reported::First | Reported::All) => outcome,
     }

@@ -3,6 +3,7 @@
 use autocoder_statements::Language;
 use core_1401::SIZES;
 use machine_graphics::Graphics;
+use machine_panel::Features;
 use serving_http::Origin;
 
 /// The size of core storage if none is named.
@@ -51,6 +52,8 @@ pub struct Assembling {
     pub deck: Option<String>,
     /// How many faults of the source are told.
     pub told: Reported,
+    /// What the machine is fitted with that the program is for: warnings are about what this one doesn't carry out.
+    pub features: Features,
 }
 
 /// How many faults of a source are told.
@@ -88,10 +91,10 @@ pub struct Operators {
 /// What a machine begins with.
 #[derive(Debug, Drop, PartialEq, Eq)]
 pub enum Opening {
-    /// It is at power-on, with this many places of core storage.
-    PowerOn(u16),
-    /// It has an image's size, and the image of the file of this name is loaded.
-    Image(String),
+    /// It is at power-on, with this many places of core storage, and is fitted with these features first of all.
+    PowerOn(u16, Features),
+    /// It has an image's size, and is fitted with these features before the image of the file of this name is loaded.
+    Image(String, Features),
     /// It is that of a journal.
     Journal(Resuming),
 }
@@ -168,6 +171,42 @@ pub struct Job {
     pub limit: u32,
     /// The sense switches A to G.
     pub switches: [bool; 7],
+    /// What the machine is fitted with.
+    pub features: Features,
+}
+
+/// A person's console at a machine.
+#[derive(Debug, Drop, PartialEq, Eq)]
+pub struct Operating {
+    /// The name of the file of the program: a source or an image, or the deck for which the load key is pressed. Without
+    /// one nothing is loaded. If a journal is taken up it is a source, which is read for its labels.
+    pub file: Option<String>,
+    /// How the program is made ready.
+    pub start: Start,
+    /// The name of the deck's file; without one there are no cards but those of `file`.
+    pub cards: Option<String>,
+    /// The sense switches A to G.
+    pub switches: [bool; 7],
+    /// The new journal that is kept; without one none is, unless one is taken up.
+    pub journal: Option<NewJournal>,
+    /// The name of the file of the journal that is taken up, and goes on; without one the machine is at power-on.
+    pub resumed: Option<String>,
+    /// The language of the file, if it is a source, and of statements that are typed.
+    pub language: Language,
+    /// The chain whose graphics the decks have that are read; without one it is this machine's.
+    pub graphics: Option<Graphics>,
+    /// The chain whose graphics a source has; without one it is this machine's.
+    pub source_graphics: Option<Graphics>,
+    /// How many places core storage has, as in a job.
+    pub size: Option<u16>,
+    /// The name of the file of the lines that come first; without one there are none.
+    pub script: Option<String>,
+    /// Whether a line is shown before its answer where no terminal has shown it.
+    pub echo: bool,
+    /// The most instructions of a run where nobody is at a terminal to end it.
+    pub limit: u32,
+    /// What a new machine is fitted with; one that is taken up has what its journal says.
+    pub features: Features,
 }
 
 /// A journal that is shown, or looked over.
@@ -229,6 +268,8 @@ pub enum Call {
     },
     /// A program run to its end.
     Run(Job),
+    /// A person's console.
+    Operate(Operating),
     /// A room that operators share, each with one connection.
     Serve(PlainService),
     /// A room that operators share, and whose seats are taken again.

@@ -3,7 +3,7 @@
 //!
 //! ```text
 //! // a session on a machine of 4,000 places, whose journal isn't kept
-//! Call::Console(Session { opening: Opening::PowerOn(DEFAULT_SIZE), journal: None })
+//! Call::Console(Session { opening: Opening::PowerOn(DEFAULT_SIZE, Features::NONE), journal: None })
 //! ```
 #![tactic(auto)]
 
@@ -13,7 +13,7 @@ pub mod call;
 pub mod sizes;
 
 pub use call::{
-    Assembling, Call, DEFAULT_SIZE, Job, NewJournal, Opening, Operators, PlainService, Product,
-    Reported, Resuming, Seating, Session, Showing, Start, Tables,
+    Assembling, Call, DEFAULT_SIZE, Job, NewJournal, Opening, Operating, Operators, PlainService,
+    Product, Reported, Resuming, Seating, Session, Showing, Start, Tables,
 };
 pub use sizes::{is_refused, size_for};

@@ -6,7 +6,8 @@ use Rattle.machine_commands.specs.declared.answer.Answer.{Answer}
 use Rattle.machine_commands.specs.declared.command.Command.{Command}
 use Rattle.machine_commands.specs.declared.command.Command.TheVariants.{Feed}
 use Rattle.room_1401.specs.Seen.{SeatView, Carries}
-use Rattle.machine_loading.specs.Loading.{load_commands}
+use Rattle.machine_loading.specs.Loading.{fit_commands, load_commands}
+use Rattle.machine_panel.specs.declared.features.Features.{Features}
 use Rattle.serving_seats.specs.Giving.{GiveAll}
 use Rattle.program_rooms.specs.declared.beginning.Before.{Before}
 use Rattle.program_rooms.specs.declared.beginning.Before.TheVariants.{Program, Journal}
@@ -16,9 +17,13 @@ abbrev pub feed_commands : List Card → List Command
 feed_commands cards = map (λ (card : Card). Feed card) cards
 
 -- the commands that load an image, if there is one, and then feed cards
-abbrev pub first_commands : Option Image → List Card → List Command
-first_commands None cards = feed_commands cards
-first_commands (Some image) cards = load_commands image ++ feed_commands cards
+abbrev pub ready_commands : Option Image → List Card → List Command
+ready_commands None cards = feed_commands cards
+ready_commands (Some image) cards = load_commands image ++ feed_commands cards
+
+-- and before all else the one that fits the machine with features, if there are any
+abbrev pub first_commands : Features → Option Image → List Card → List Command
+first_commands features image cards = fit_commands features ++ ready_commands image cards
 
 -- A seat gave a command, which was answered as the sequential machine answers it after the commands before it.
 pub record Gave (size : ℕ) (command : Command) (old new : SeatView) : Type 0 where
@@ -42,9 +47,9 @@ pub record FirstGave (size : ℕ) (commands : List Command) (old new : List Seat
   pub new_is : new ≡ after ∷ rest
   pub gave : GaveAll size commands before after
 
--- What these seats did before operators came: the first one loaded the image, if there is one, and fed the cards; or
--- each gave its commands of a journal again.
+-- What these seats did before operators came: the first one fitted the machine, if there are features, loaded the image,
+-- if there is one, and fed the cards; or each gave its commands of a journal again.
 abbrev pub HasBegun : ℕ → Before → List SeatView → List SeatView → Type 0
 HasBegun size (Program program) old new =
-    FirstGave size (first_commands program.image program.cards.items) old new
+    FirstGave size (first_commands program.features program.image program.cards.items) old new
 HasBegun size (Journal room) old new = GiveAll size room.journal old new

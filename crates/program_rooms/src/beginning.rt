@@ -1,15 +1,17 @@
 //! What the seats of a room do before operators come.
 ghost use Rattle.std.specs.Prelude.{◌≡◌, ◌<◌, ◌^◌, OnOk};
 ghost use Rattle.console_1401.specs.Served.{AreAllSeats};
-ghost use Rattle.machine_loading.specs.Loading.{load_commands};
+ghost use Rattle.machine_loading.specs.Loading.{fit_commands, load_commands};
 ghost use Rattle.program_rooms.specs.Beginning.{FirstGave, GaveAll, HasBegun, feed_commands, first_commands};
+ghost use Rattle.program_rooms.specs.Beginning.{ready_commands};
 ghost use Rattle.program_rooms.specs.Outcome.{give_fault, room_fault};
 
 use crate::fault::OpenFault;
 use console_terminal::SessionFault;
 use devices_1401::Card;
 use machine_image::LentImage;
-use machine_loading::LoadCommands;
+use machine_loading::{LoadCommands, fit_command};
+use machine_panel::Features;
 use program_sessions::HoldFault;
 use room_1401::{Command, Keeper, Room, RoomFault, RoomId, Seat, SharedRoom};
 use serving_room::{GiveFault, SeatsFault, give, give_entries};
@@ -40,6 +42,8 @@ fn give_fault(fault: GiveFault) -> OpenFault
 /// What the first seat of a room does before operators come, and does again in each room that follows.
 #[derive(Drop)]
 pub(crate) struct Program<'a> {
+    /// What it fits the machine with, first of all.
+    pub features: Features,
     /// The image that it loads, if there is one: one segment is held at a time.
     pub image: Option<LentImage<'a>>,
     /// The cards that it then feeds.
@@ -49,7 +53,7 @@ pub(crate) struct Program<'a> {
 /// What the seats of a room do before operators come.
 #[derive(Drop)]
 pub(crate) enum Before<'a> {
-    /// The first loads an image, if there is one, and then feeds cards.
+    /// The first fits the machine, if there are features, loads an image, if there is one, and then feeds cards.
     Program(Program<'a>),
     /// They give the commands of this room's journal again, each those of its number.
     Journal(Room),
@@ -83,37 +87,71 @@ pub(crate) fn begin<J: RoomId, H: Wait + Drop, K: Keeper + Drop, W: Wait>(
     ensures begun { OnOk result (HasBegun J.size before.now seats.old.items seats.new.items) }
 {
     match before {
-        Before::Program(program) => {
-            begin_by_first(wait, room, seats, &program.image, program.cards.as_slice())
-        }
+        Before::Program(program) => { begin_by_first(wait, room, seats, program) }
         Before::Journal(before) => {
             give_entries(wait, room, seats, before.journal()).map_err(give_fault)
         }
     }
 }
 
-/// Loads an image into a room and feeds cards, by the first of its seats.
+/// Fits the machine of a room, loads an image and feeds cards, by the first of its seats.
 fn begin_by_first<J: RoomId, H: Wait + Drop, K: Keeper + Drop, W: Wait>(
     wait: &W,
     room: &SharedRoom<J, H, K>,
     seats: &mut Vec<Seat<J>>,
-    image: &Option<LentImage<'_>>,
-    cards: &[Card],
+    program: &Program<'_>,
 ) -> Result<(), OpenFault>
     requires { AreAllSeats J.seats seats.old.items }
     ensures seats { AreAllSeats J.seats seats.new.items }
     ensures gave { OnOk result
-        (FirstGave J.size (first_commands image.now cards.now) seats.old.items seats.new.items) }
+        (FirstGave J.size (first_commands program.now.features program.now.image program.now.cards.items)
+        seats.old.items seats.new.items) }
 {
     // A room has a seat.
     let Some(first) = seats.first_mut() else {
         return Err(OpenFault::NoReader);
     };
-    begin_by(wait, room, first, image, cards)
+    begin_by(wait, room, first, program)
+}
+
+/// The same by a seat.
+fn begin_by<J: RoomId, H: Wait + Drop, K: Keeper + Drop, W: Wait>(
+    wait: &W,
+    room: &SharedRoom<J, H, K>,
+    seat: &mut Seat<J>,
+    program: &Program<'_>,
+) -> Result<(), OpenFault>
+    ensures number { seat.new.number ≡ seat.old.number }
+    ensures gave { OnOk result (GaveAll J.size
+        (first_commands program.now.features program.now.image program.now.cards.items) seat.old seat.new) }
+{
+    match fit_by(wait, room, seat, program.features) {
+        Ok(()) => make_ready_by(wait, room, seat, &program.image, program.cards.as_slice()),
+        Err(fault) => Err(fault),
+    }
+}
+
+/// Fits the machine of a room, if there are features, by a seat.
+fn fit_by<J: RoomId, H: Wait + Drop, K: Keeper + Drop, W: Wait>(
+    wait: &W,
+    room: &SharedRoom<J, H, K>,
+    seat: &mut Seat<J>,
+    features: Features,
+) -> Result<(), OpenFault>
+    ensures number { seat.new.number ≡ seat.old.number }
+    ensures gave { OnOk result (GaveAll J.size (fit_commands features) seat.old seat.new) }
+{
+    let Some(command) = fit_command(features) else {
+        return Ok(());
+    };
+    match give(wait, room, seat, command) {
+        Ok(()) => Ok(()),
+        Err(fault) => Err(room_fault(fault)),
+    }
 }
 
 /// Loads an image into a room and feeds cards, by a seat.
-fn begin_by<J: RoomId, H: Wait + Drop, K: Keeper + Drop, W: Wait>(
+fn make_ready_by<J: RoomId, H: Wait + Drop, K: Keeper + Drop, W: Wait>(
     wait: &W,
     room: &SharedRoom<J, H, K>,
     seat: &mut Seat<J>,
@@ -121,7 +159,7 @@ fn begin_by<J: RoomId, H: Wait + Drop, K: Keeper + Drop, W: Wait>(
     cards: &[Card],
 ) -> Result<(), OpenFault>
     ensures number { seat.new.number ≡ seat.old.number }
-    ensures gave { OnOk result (GaveAll J.size (first_commands image.now cards.now) seat.old seat.new) }
+    ensures gave { OnOk result (GaveAll J.size (ready_commands image.now cards.now) seat.old seat.new) }
 {
     match image {
         None => feed_by(wait, room, seat, cards),

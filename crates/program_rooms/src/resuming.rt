@@ -11,6 +11,7 @@ use crate::journal_names::JournalNames;
 use crate::seating::serve_new;
 use crate::succession::{Rooms, Turn, serve_others, serve_rooms};
 use bytes_streams::Sink;
+use machine_panel::Features;
 use program_call::{NewJournal, Resuming};
 use program_sessions::{HoldFault, durability_of, read_chosen, tell_cut};
 use room_1401::{Entry, Room};
@@ -76,7 +77,11 @@ pub(crate) fn resume_seats<
 /// What is done before operators come to a machine at power-on.
 fn nothing(alloc: Global) -> Before<'static> {
     let cards = Vec::new(alloc);
-    Before::Program(Program { image: None, cards })
+    Before::Program(Program {
+        features: Features::NONE,
+        image: None,
+        cards,
+    })
 }
 
 /// The room after those commands of a journal that are asked for, each of a seat that it has.

@@ -17,6 +17,7 @@ use console_terminal::SessionFault;
 use core_1401::Core;
 use devices_1401::Card;
 use machine_image::{LentImage, lend_image};
+use machine_panel::Features;
 use program_call::{NewJournal, Opening, Operators, Resuming};
 use program_sessions::{HoldFault, read_file};
 use room_1401::{Keeper, Opened, RoomId, Seat, SharedRoom};
@@ -54,8 +55,9 @@ fn seats_outcome(failed: bool, fault: Option<SeatsFault>) -> Result<(), OpenFaul
 /// What the machine of a room begins with, once its image is read.
 #[derive(Drop)]
 pub enum Machine {
-    /// It is new, with this many places of core storage, and has the image of this text loaded or is at power-on.
-    New(u16, Option<Vec<u8>>),
+    /// It is new, with this many places of core storage, is fitted with these features, and has the image of this text
+    /// loaded or none.
+    New(u16, Features, Option<Vec<u8>>),
     /// It is that of a journal, which is read once the ports are had.
     Journal(Resuming),
 }
@@ -87,18 +89,18 @@ fn image_in(text: &Option<Vec<u8>>) -> Result<Option<LentImage<'_>>, OpenFault> 
 /// `Hold` with `Unread`, `Image` or `Memory` if there is no such image, or with `Size` if no core storage of the size
 /// named is made.
 pub fn machine_of(rt: &(impl Files + AllocGlobal), opening: Opening) -> Result<Machine, OpenFault> {
-    let (size, text) = match opening {
-        Opening::PowerOn(size) => (size, None),
-        Opening::Image(name) => {
+    let (size, features, text) = match opening {
+        Opening::PowerOn(size, features) => (size, features, None),
+        Opening::Image(name, features) => {
             let text = read_file(rt, name).map_err(OpenFault::Hold)?;
-            (image_of(text.as_slice())?.size(), Some(text))
+            (image_of(text.as_slice())?.size(), features, Some(text))
         }
         Opening::Journal(asked) => return Ok(Machine::Journal(asked)),
     };
     if !Core::is_size(size) {
         return Err(OpenFault::Hold(HoldFault::Size));
     }
-    Ok(Machine::New(size, text))
+    Ok(Machine::New(size, features, text))
 }
 
 /// Opens a machine to operators whose seats are taken again, with these cards in its hopper; a proxy brings their
@@ -109,7 +111,7 @@ pub fn machine_of(rt: &(impl Files + AllocGlobal), opening: Opening) -> Result<M
 /// It tells on standard output when it listens, with the address of each page, and at the end how many commands the
 /// journal has. QUIT on standard input, or its end, closes the room. If a number of minutes is given, a new room
 /// follows whenever a page asks for it, no command was given for so many minutes, or a minute after its journal had
-/// 95,000 entries: with the same image and cards, or after that of a journal at power-on.
+/// 95,000 entries: with the same features, image and cards, or after that of a journal at power-on.
 ///
 /// # Errors
 ///
@@ -142,9 +144,13 @@ pub fn open_seats<
     let entrances = open_entrances(rt, operators, origin.as_ref())?;
     let seats = operators.seats;
     match machine {
-        Machine::New(size, text) => {
+        Machine::New(size, features, text) => {
             let image = image_in(&text)?;
-            let before = Before::Program(Program { image, cards });
+            let before = Before::Program(Program {
+                features,
+                image,
+                cards,
+            });
             let rooms = Rooms {
                 size,
                 seats,

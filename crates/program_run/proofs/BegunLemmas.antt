@@ -18,8 +18,7 @@ use Rattle.machine_image.specs.declared.version.Version.TheVariants.{One, Two}
 use Rattle.machine_image.specs.ImageText.{IsTextOf, HasText}
 use Rattle.machine_image.specs.declared.image.Image.{Image}
 use Rattle.program_run.specs.Program.{IsAssembled, IsImageMachine, is_meant_as_image, with_image}
-use Rattle.program_run.specs.RunJob.{HasFile, HasLoader, HasProgram, IsBegun, IsDeckText, IsSourceOf}
-use Rattle.autocoder_1401.specs.declared.rows.AssemblyRows.{AssemblyRows}
+use Rattle.program_run.specs.RunJob.{HasFile, HasLoader, HasProgram, IsBegun, IsDeckText}
 
 -- the cards of a text
 pub is_deck_text : (text : List ℕ) (cards : List Card)
@@ -51,24 +50,15 @@ has_image language size text machine cards meant is none = record {
   cards_are = none;
 }
 
--- the image of a source that is assembled
-source_image : (language : Language) (size : Option ℕ) (text : List ℕ) (program : AssemblyRows)
-    → IsAssembled language (size_for size language text) text (Ok program)
-    → IsSourceOf language size text program.image
-source_image language size text program (assembly, stands_for, image, rows) = (assembly, stands_for, image)
-
 -- the program of a source, and no cards
-pub has_source : (language : Language) (size : Option ℕ) (text : List ℕ) (program : AssemblyRows) (machine : State)
+pub has_source : (language : Language) (size : Option ℕ) (text : List ℕ) (image : Image) (machine : State)
     (cards : List Card) → is_meant_as_image text ≡ false
-    → IsAssembled language (size_for size language text) text (Ok program)
-    → machine ≡ with_image program.image → cards ≡ [] → HasProgram language size machine cards
-has_source language size text program machine cards source is machine_is none = record {
+    → IsAssembled language (size_for size language text) text (Ok image)
+    → machine ≡ with_image image → cards ≡ [] → HasProgram language size machine cards
+has_source language size text image machine cards source is machine_is none = record {
   text = text;
-  image = program.image;
-  program_of = record {
-    of_image = λ meant. absurd cc;
-    of_source = λ _. source_image language size text program is;
-  };
+  image = image;
+  program_of = record { of_image = λ meant. absurd cc; of_source = λ _. is };
   machine_is = machine_is;
   cards_are = none;
 }

@@ -17,7 +17,8 @@ use Rattle.job_runner.specs.Unattended.{with_deck}
 use Rattle.machine_panel.specs.declared.stop.Stop.TheVariants as stop
 use Rattle.program_run.specs.RunFile.{InputNames, IsFaultOf, IsUnread, IsUnstored, IsUnwritten, WrittenNames}
 use Rattle.program_run.specs.RunJob.{HasHalted, IsBegun, IsReportOf, ReportsJob, ReportsStop, report_on, turned}
-use Rattle.program_run.specs.RunJob.{IsLoadedText, with_switches}
+use Rattle.machine_panel.specs.declared.features.Features.{Features}
+use Rattle.program_run.specs.RunJob.{IsLoadedText, set_up}
 use Rattle.program_run.specs.declared.fault.RunFault.{RunFault}
 use Rattle.program_run.specs.declared.fault.RunFault.TheVariants as fault
 use Rattle.program_run.specs.declared.job_report.JobReport.{JobReport}
@@ -66,11 +67,11 @@ pub loaded_in_core : (outcome : Result AtEntry LoadFault) (loaded : LoadedDeck) 
 loaded_in_core outcome loaded is = is.2.in_core
 
 -- and its text is that of what the cards load
-pub is_loaded_text : (size : Option ℕ) (switches : List Bool) (cards : List Card) (machine : State) (loaded : LoadedDeck)
-    (text : List ℕ) → machine ≡ with_switches switches (power_on (unwrap_or size 4000))
+pub is_loaded_text : (size : Option ℕ) (features : Features) (switches : List Bool) (cards : List Card) (machine : State)
+    (loaded : LoadedDeck) (text : List ℕ) → machine ≡ set_up features switches (power_on (unwrap_or size 4000))
     → IsLoadedDeck (loaded_deck 1000000 (with_deck cards machine)) loaded → text ≡ written_text loaded.image
-    → IsLoadedText size switches cards text
-is_loaded_text size switches cards machine loaded text same is text_is =
+    → IsLoadedText size features switches cards text
+is_loaded_text size features switches cards machine loaded text same is text_is =
     let there = subst (λ (s : State). IsLoadedDeck (loaded_deck 1000000 (with_deck cards s)) loaded) same is in
     (loaded.image, (loaded, refl, there), text_is)
 
@@ -110,7 +111,7 @@ IsBegunFor job machine cards =
     IsBegun job.start job.language job.size (option_map string_bytes job.cards) machine cards
 
 abbrev pub report_for : Job → State → List Card → JobReport
-report_for job machine cards = report_on job.start job.limit (with_deck cards (with_switches job.switches machine))
+report_for job machine cards = report_on job.start job.limit (with_deck cards (set_up job.features job.switches machine))
 
 report_is_of : (job : Job) (machine : State) (cards : List Card) → IsBegunFor job machine cards
     → IsReportOf job (report_for job machine cards)

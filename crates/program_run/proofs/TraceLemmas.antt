@@ -13,7 +13,7 @@ use Rattle.machine_panel.specs.declared.stop.Stop.TheVariants as stop
 use Rattle.cpu_1401.specs.CardsAndPrinter.{load}
 use Rattle.cpu_1401.specs.Run.{carried_out_by}
 use Rattle.cpu_1401.specs.State.{State}
-use Rattle.cpu_1401.specs.Step.{step}
+use Rattle.cpu_1401.specs.Fitting.{fitted_step}
 use Rattle.job_runner.specs.Unattended.{Job, after_output, emptied, go_on, taken_first, unattended, with_deck}
 use Rattle.job_trace.specs.declared.work.Work.{Work}
 use Rattle.job_trace.specs.TraceLine.{Seen, line_of, seen_of, trace_line, work_of}
@@ -151,7 +151,7 @@ unfolding trace_text unattended line_of
 one_traced deck deck' m m' k left steps why told found lines cards work e job counted none some more ended e_work =
     let s = with_deck deck m in
     let now = with_deck deck' m' in
-    let t = step (emptied s) in
+    let t = fitted_step (emptied s) in
     let is = told_of s t.state t.stop told now steps why lines cards job counted none some in
     let after_hopper : t.state.devices.hopper ≡ now.devices.hopper = ap (λ (x : State). x.devices.hopper) is.after_is in
     let done : work ≡ work_of (emptied s) t.state =

@@ -2,11 +2,8 @@
 use Rattle.std.specs.Prelude.{◌≡◌, ◌⊎◌, ℕ, ◌||◌, ◌==◌, Bool, List, [], ◌∷◌, Result, Ok, Err, codes}
 use Rattle.std.specs.List.{starts_with}
 use Rattle.autocoder_1401.specs.Assembly.{assembly_in}
-use Rattle.autocoder_listing.specs.Rows.{rows_of}
 use Rattle.autocoder_symbols.specs.Fault.{IsMemory}
-use Rattle.autocoder_symbols.specs.Reading.{lines_in}
 use Rattle.autocoder_1401.specs.declared.assembly.Assembly.{Assembly}
-use Rattle.autocoder_1401.specs.declared.rows.AssemblyRows.{AssemblyRows}
 use Rattle.machine_execution.specs.CarryOut.{carry_out}
 use Rattle.cpu_1401.specs.State.{State, power_on}
 use Rattle.machine_image.specs.declared.fault.ImageFault.{ImageFault}
@@ -25,12 +22,10 @@ unfoldable pub is_meant_as_image : List ℕ → Bool
 is_meant_as_image text =
     starts_with (λ a b. a == b) text (codes "IMAGE1 ") || starts_with (λ a b. a == b) text (codes "IMAGE2 ")
 
--- what a source stands for in core storage of this size: the image, and the rows of the listing that have an address,
--- or its fault, or that memory was refused
-abbrev pub IsAssembled : Language → ℕ → List ℕ → Result AssemblyRows RunFault → Type 0
-IsAssembled language size source (Ok program) =
-    (assembly : Assembly) × (assembly_in language size source ≡ Ok assembly) × (program.image ≡ assembly.image)
-    × (program.rows ≡ rows_of (lines_in language source))
+-- what a source stands for in core storage of this size: the image, or its fault, or that memory was refused
+abbrev pub IsAssembled : Language → ℕ → List ℕ → Result Image RunFault → Type 0
+IsAssembled language size source (Ok image) =
+    (assembly : Assembly) × (assembly_in language size source ≡ Ok assembly) × (image ≡ assembly.image)
 IsAssembled language size source (Err told) =
     (why : AsmFault) × (told ≡ fault.Source why) × (IsMemory why ⊎ (assembly_in language size source ≡ Err why))
 

@@ -8,7 +8,8 @@ use Rattle.program_call.specs.declared.call.Job.{Job}
 use Rattle.program_call.specs.declared.call.Start.{Start}
 use Rattle.program_call.specs.declared.call.Start.TheVariants as start
 use Rattle.program_call.specs.Sizes.{size_for}
-use Rattle.cpu_1401.specs.State.{State, power_on, with_switch}
+use Rattle.machine_panel.specs.declared.features.Features.{Features}
+use Rattle.cpu_1401.specs.State.{State, fitted_with, power_on, with_switch}
 use Rattle.autocoder_deck.specs.Entry.{loaded_deck}
 use Rattle.autocoder_deck.specs.LoadedCore.{IsLoadedDeck}
 use Rattle.autocoder_deck.specs.declared.loaded_core.LoadedDeck.{LoadedDeck}
@@ -82,27 +83,35 @@ turned number (on ∷ others) s = turned (number + 1) others (with_switch s numb
 abbrev pub with_switches : List Bool → State → State
 with_switches switches s = turned 0 switches s
 
+-- a machine that is fitted with features, and has its switches set
+abbrev pub set_up : Features → List Bool → State → State
+set_up features switches s = with_switches switches (fitted_with features s)
+
 -- what is reported of a machine that is started so
 abbrev pub report_on : Start → ℕ → State → JobReport
 report_on how limit s = report_of (length s.devices.hopper) (started_job how limit s)
 
--- the image of what these cards load on a machine of this size with these switches, at the entry of their program
-abbrev pub IsLoadedImage : Option ℕ → List Bool → List Card → Image → Type 0
-IsLoadedImage size switches cards image =
+-- the image of what these cards load on a machine of this size with these features and switches, at the entry of their
+-- program
+abbrev pub IsLoadedImage : Option ℕ → Features → List Bool → List Card → Image → Type 0
+IsLoadedImage size features switches cards image =
     (loaded : LoadedDeck) × (image ≡ loaded.image)
-    × IsLoadedDeck (loaded_deck 1000000 (with_deck cards (with_switches switches (power_on (unwrap_or size 4000))))) loaded
+    × IsLoadedDeck
+    (loaded_deck 1000000 (with_deck cards (set_up features switches (power_on (unwrap_or size 4000))))) loaded
 
 -- the text of such an image
-abbrev pub IsLoadedText : Option ℕ → List Bool → List Card → List ℕ → Type 0
-IsLoadedText size switches cards text =
-    (image : Image) × IsLoadedImage size switches cards image × (text ≡ written_text image)
+abbrev pub IsLoadedText : Option ℕ → Features → List Bool → List Card → List ℕ → Type 0
+IsLoadedText size features switches cards text =
+    (image : Image) × IsLoadedImage size features switches cards image × (text ≡ written_text image)
 
--- the report of a job: its files are read, its switches set, and it is started and goes on to its limit at most
+-- the report of a job: its files are read, the machine is fitted, its switches are set, and it is started and goes on to
+-- its limit at most
 pub record IsReportOf (job : Job) (report : JobReport) : Type 0 where
   pub machine : State
   pub cards : List Card
   pub begun : IsBegun job.start job.language job.size (option_map string_bytes job.cards) machine cards
-  pub report_is : report ≡ report_on job.start job.limit (with_deck cards (with_switches job.switches machine))
+  pub report_is :
+      report ≡ report_on job.start job.limit (with_deck cards (set_up job.features job.switches machine))
 
 -- a job that ran to a halt
 abbrev pub HasHalted : Job → Type 0

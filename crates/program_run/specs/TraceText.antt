@@ -2,7 +2,7 @@
 use Rattle.std.specs.Prelude.{ℕ, zero, suc, List, [], ◌++◌, Option, None, Some}
 use Rattle.machine_panel.specs.declared.stop.Stop.{Stop}
 use Rattle.cpu_1401.specs.State.{State}
-use Rattle.cpu_1401.specs.Step.{step}
+use Rattle.cpu_1401.specs.Fitting.{fitted_step}
 use Rattle.job_runner.specs.Unattended.{emptied}
 use Rattle.job_trace.specs.TraceLine.{trace_line}
 
@@ -15,5 +15,5 @@ trace_on (Some why) s more = []
 unfoldable pub trace_text : ℕ → State → List ℕ
 trace_text zero s = []
 trace_text (suc limit) s =
-    trace_line (emptied s) (step (emptied s))
-    ++ trace_on (step (emptied s)).stop (step (emptied s)).state (trace_text limit)
+    trace_line (emptied s) (fitted_step (emptied s))
+    ++ trace_on (fitted_step (emptied s)).stop (fitted_step (emptied s)).state (trace_text limit)

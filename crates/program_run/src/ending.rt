@@ -3,7 +3,7 @@ ghost use Rattle.std.specs.Prelude.{◌≡◌, IfSome};
 ghost use Rattle.job_stops.specs.Reason.{stop_named};
 
 use crate::job_report::JobReport;
-use crate::stopped_at::{SourceRows, instruction_text};
+use crate::stopped_at::{RunSource, instruction_text};
 use bcd_1401::Cell;
 use core_1401::Core;
 use cpu_1401::{Machine, Stop};
@@ -72,7 +72,7 @@ impl Ending {
         alloc: Global,
         report: JobReport,
         machine: &Machine,
-        source: Option<&SourceRows>,
+        source: Option<&RunSource>,
     ) -> Ending
         ensures report { result.report ≡ report }
         ensures reason { IfSome result.reason (λ why. stop_named why ≡ report.stop) }

@@ -1,5 +1,5 @@
 //! The files that a run reads: its program, and its deck.
-ghost use Rattle.std.specs.Prelude.{◌≡◌, ◌++◌, true, false, None, Ok, Err, IfOk, IfErr, map, option_map, string_bytes};
+ghost use Rattle.std.specs.Prelude.{◌≡◌, ◌++◌, [], true, false, None, Ok, Err, IfOk, IfErr, map, option_map, string_bytes};
 ghost use Rattle.machine_graphics.specs.Graphics.{chain_of, ours_of};
 ghost use Rattle.job_runner.specs.DeckText.{deck_of};
 ghost use Rattle.program_run.specs.Program.{IsNoImage, IsNoProgram, is_meant_as_image};
@@ -10,8 +10,8 @@ ghost use Rattle.program_run.specs.RunJob.{HasFile, HasLoader, HasProgram, IsBeg
 use crate::fault::RunFault;
 use crate::programs::{image_machine, is_image, loaded_machine, program_of};
 use crate::source_reports::{report_faults, report_warnings};
-use crate::stopped_at::SourceRows;
-use autocoder_1401::{AsmKind, AssemblyRows};
+use crate::stopped_at::RunSource;
+use autocoder_1401::{AsmFault, AsmKind};
 use autocoder_statements::Language;
 use bytes_files::{FileFault, read_whole};
 use core_1401::CoreFault;
@@ -105,24 +105,26 @@ pub(crate) struct Inputs {
     /// The cards that follow those in its hopper.
     pub cards: CardList,
     /// The program's source, if it has one.
-    pub source: Option<SourceRows>,
+    pub source: Option<RunSource>,
 }
 
-/// Reports what is wrong with the source of this name.
-fn report_program(
+/// Reports what is wrong with the source of this name, whose first fault this is: all faults, or what may be said of a
+/// source without any; and which chain it may be for, if a byte isn't allowed in it.
+pub fn report_source(
     rt: &(impl Eprint + AllocGlobal),
     name: &str,
     language: Language,
     text: &[u8],
     size: Option<u16>,
-    program: &Result<AssemblyRows, RunFault>,
+    fault: Option<AsmFault>,
+    suggested: Option<Suggestion>,
 )
     requires { is_refused size ≡ false }
 {
-    match program {
-        Ok(_) => report_warnings(rt, name, language, text, size),
-        Err(RunFault::Source(first)) => report_faults(rt, name, language, text, size, *first),
-        Err(_) => {}
+    report_suggestion(rt, name, suggested_by(fault, suggested));
+    match fault {
+        None => report_warnings(rt, name, language, text, size),
+        Some(first) => report_faults(rt, name, language, text, size, first),
     }
 }
 
@@ -139,13 +141,18 @@ fn program_text(asked: Option<Graphics>, text: Vec<u8>) -> Vec<u8>
     }
 }
 
-/// What may be said of the chain of a source that is no program, if a byte isn't allowed in it.
-fn suggested_by(
-    program: &Result<AssemblyRows, RunFault>,
-    suggested: Option<Suggestion>,
-) -> Option<Suggestion> {
+/// What may be said of the chain of a source whose first fault this is, if a byte isn't allowed in it.
+fn suggested_by(fault: Option<AsmFault>, suggested: Option<Suggestion>) -> Option<Suggestion> {
+    match fault {
+        Some(first) if first.kind == AsmKind::Graphic => suggested,
+        _ => None,
+    }
+}
+
+/// The first fault of a source that is no program.
+fn fault_of(program: &Result<Machine, RunFault>) -> Option<AsmFault> {
     match program {
-        Err(RunFault::Source(first)) if first.kind == AsmKind::Graphic => suggested,
+        Err(RunFault::Source(first)) => Some(*first),
         _ => None,
     }
 }
@@ -170,8 +177,24 @@ fn image_inputs(
     })
 }
 
-/// A machine with the program of a source of this name, and no cards. What is wrong with it is reported.
+/// A machine with the program of a source.
 #[tactic(auto, using(crate::proofs::BegunLemmas::has_source))]
+fn source_machine(
+    alloc: Global,
+    language: Language,
+    text: &[u8],
+    size: Option<u16>,
+) -> Result<Machine, RunFault>
+    requires source { is_meant_as_image text.now ≡ false }
+    requires size { is_refused size ≡ false }
+    ensures program { IfOk result (λ machine. HasProgram language size machine []) }
+    ensures fault { IfErr result IsNoProgram }
+{
+    let image = program_of(alloc, language, text, size)?;
+    loaded_machine(alloc, &image)
+}
+
+/// A machine with the program of a source of this name, and no cards. What is wrong with it is reported.
 fn source_inputs(
     rt: &(impl Eprint + AllocGlobal),
     name: &str,
@@ -185,16 +208,32 @@ fn source_inputs(
     ensures file { IfOk result (λ inputs. HasProgram language size inputs.machine inputs.cards) }
     ensures fault { IfErr result IsNoProgram }
 {
-    let program = program_of(rt.alloc(), language, text.as_slice(), size);
-    report_suggestion(rt, name, suggested_by(&program, suggested));
-    report_program(rt, name, language, text.as_slice(), size, &program);
-    let AssemblyRows { image, rows } = program?;
-    let machine = loaded_machine(rt.alloc(), &image)?;
+    let made = source_machine(rt.alloc(), language, text.as_slice(), size);
+    let fault = fault_of(&made);
+    report_source(rt, name, language, text.as_slice(), size, fault, suggested);
+    let machine = made?;
     Ok(Inputs {
         machine,
         cards: CardList::new(rt.alloc()),
-        source: Some(SourceRows { text, rows }),
+        source: Some(RunSource { language, text }),
     })
+}
+
+/// The text of a program's file, as `program_text` gives it, and which chain it may be for, if something shows it.
+///
+/// # Errors
+///
+/// `File`, with the name as it was given; else `Memory`.
+pub fn read_program_text(
+    rt: &(impl Files + AllocGlobal),
+    file: String,
+    asked: Option<Graphics>,
+) -> Result<(Vec<u8>, Option<Suggestion>), RunFault>
+    ensures { IfErr result (IsUnreadFile (string_bytes file)) }
+{
+    let read = read_file(rt, file)?;
+    let suggested = suggest_foreign(asked, read.as_slice());
+    Ok((program_text(asked, read), suggested))
 }
 
 /// A machine with the program of a source or an image, and no cards. What is wrong with a source is reported.
@@ -212,9 +251,7 @@ fn read_program(
     let Ok(label) = file.clone() else {
         return Err(RunFault::Memory);
     };
-    let read = read_file(rt, file)?;
-    let suggested = suggest_foreign(asked, read.as_slice());
-    let text = program_text(asked, read);
+    let (text, suggested) = read_program_text(rt, file, asked)?;
     if is_image(text.as_slice()) {
         return image_inputs(rt.alloc(), language, text.as_slice(), size);
     }

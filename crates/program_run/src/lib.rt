@@ -8,6 +8,7 @@
 #![tactic(auto)]
 
 // what a run begins with
+pub mod card_lists;
 mod inputs;
 mod loaded_image;
 mod one_file;
@@ -28,15 +29,16 @@ pub mod job_report;
 pub mod running;
 pub mod stopped_at;
 
+pub use card_lists::list_cards;
 pub use deck_running::{Broken, run_started};
 pub use ending::Ending;
 pub use fault::{RunFault, job_outcome};
-pub use inputs::{read_cards, tell_small_letters};
+pub use inputs::{read_cards, read_program_text, report_source, tell_small_letters};
 pub use job_report::JobReport;
 pub use program_call::{is_refused, size_for};
-pub use programs::{image_machine, loaded_machine, program_of};
+pub use programs::{image_machine, is_image, loaded_machine, program_of};
 pub use punch_file::PunchFile;
 pub use running::{ErrorOutput, run_file, tell_ending};
-pub use stopped_at::SourceRows;
+pub use stopped_at::RunSource;
 pub use tracing::Trace;
 pub use watching::{HowFar, Shown, Unwatched, Watch};

@@ -5,18 +5,19 @@ ghost use Rattle.program_run.specs.RunFile.{IsUnstored};
 ghost use Rattle.program_run.specs.RunJob.{IsLoadedText};
 
 use crate::fault::RunFault;
-use crate::running::set_switches;
+use crate::running::set_up;
 use autocoder_deck::{LOADING_STEPS, LoadFault, loaded_image};
 use bytes_files::{WriteFault, put_whole};
 use core_1401::CoreFault;
 use cpu_1401::Machine;
 use job_runner::CardList;
 use machine_image::write_image;
+use machine_panel::Features;
 use program_call::{DEFAULT_SIZE, Start};
 use std::alloc::Global;
 use std::rt::Files;
 
-/// The text of the image of what these cards load, with these switches, into core storage of this size.
+/// The text of the image of what these cards load, with these features and switches, into core storage of this size.
 ///
 /// # Errors
 ///
@@ -27,10 +28,11 @@ fn loaded_text(
     alloc: Global,
     cards: &CardList,
     size: Option<u16>,
+    features: Features,
     switches: &[bool; 7],
 ) -> Result<Vec<u8>, RunFault>
     requires { is_refused size ≡ false }
-    ensures ok { IfOk result (λ text. IsLoadedText size switches.now cards.now text.items) }
+    ensures ok { IfOk result (λ text. IsLoadedText size features switches.now cards.now text.items) }
     ensures err { IfErr result (λ why. (file : Option (List ℕ)) → IsUnstored Start.LoadKey file why) }
 {
     let mut machine = match Machine::power_on(alloc, size.unwrap_or(DEFAULT_SIZE)) {
@@ -38,7 +40,7 @@ fn loaded_text(
         Err(CoreFault::Size) => unreachable!(),
         Err(CoreFault::Memory) => return Err(RunFault::Memory),
     };
-    set_switches(&mut machine, switches);
+    set_up(&mut machine, features, switches);
     let loaded = match loaded_image(alloc, &mut machine, cards, LOADING_STEPS) {
         Ok(loaded) => loaded,
         Err(LoadFault::Memory) => return Err(RunFault::Memory),
@@ -80,6 +82,7 @@ pub(crate) fn store_image<R: Files + Print + AllocGlobal>(
     start: Start,
     cards: &CardList,
     size: Option<u16>,
+    features: Features,
     switches: &[bool; 7],
 ) -> Result<(), RunFault>
     requires { is_refused size ≡ false }
@@ -87,7 +90,7 @@ pub(crate) fn store_image<R: Files + Print + AllocGlobal>(
 {
     match (start, name) {
         (Start::LoadKey, Some(name)) => {
-            let text = match loaded_text(rt.alloc(), cards, size, switches) {
+            let text = match loaded_text(rt.alloc(), cards, size, features, switches) {
                 Ok(text) => text,
                 Err(fault) => return Err(fault),
             };

@@ -58,18 +58,21 @@ pub(crate) fn unwritten(name: Option<String>) -> RunFault
     }
 }
 
+/// A file that a run writes.
+pub(crate) type OutputFile<F> = ToWriter<LimitedFile<F>>;
+
 /// Where a run writes.
 #[derive(Drop)]
-pub(crate) struct Outputs<F> {
-    /// The file of the paper; without one it is standard output.
-    pub paper: Option<F>,
+pub(crate) struct Outputs<W, F> {
+    /// Where the paper goes.
+    pub paper: W,
     /// The file of the punched cards, if there is one.
     pub punch: PunchFile<F>,
     /// The trace, if there is one.
     pub trace: Trace<F>,
 }
 
-/// New files, in place of those of these names.
+/// New files, in place of those of these names; without a name for the paper it has none.
 ///
 /// # Errors
 ///
@@ -77,7 +80,7 @@ pub(crate) struct Outputs<F> {
 pub(crate) fn create_outputs<R: Files + AllocGlobal>(
     rt: &R,
     names: &OutputNames,
-) -> Result<Outputs<ToWriter<LimitedFile<R::File>>>, RunFault>
+) -> Result<Outputs<Option<OutputFile<R::File>>, OutputFile<R::File>>, RunFault>
     ensures { IfErr result (IsUnwritten (written_names (option_map string_bytes names.now.paper)
         (option_map string_bytes names.now.punch) (option_map string_bytes names.now.trace)
         (option_map string_bytes names.now.image))) }
@@ -108,7 +111,7 @@ pub(crate) fn create_outputs<R: Files + AllocGlobal>(
 fn create_if_named<R: Files + AllocGlobal>(
     rt: &R,
     name: &Option<String>,
-) -> Result<Option<ToWriter<LimitedFile<R::File>>>, RunFault>
+) -> Result<Option<OutputFile<R::File>>, RunFault>
     ensures { IfErr result (IsUnwrittenFile (option_map string_bytes name.now)) }
 {
     match name {
@@ -121,10 +124,7 @@ fn create_if_named<R: Files + AllocGlobal>(
 }
 
 /// Creates or truncates the file of this name.
-fn create_named<R: Files + AllocGlobal>(
-    rt: &R,
-    name: &str,
-) -> Result<ToWriter<LimitedFile<R::File>>, RunFault>
+fn create_named<R: Files + AllocGlobal>(rt: &R, name: &str) -> Result<OutputFile<R::File>, RunFault>
     ensures { IfErr result (IsUnwrittenFile (Some name.now)) }
 {
     match create(rt, name) {

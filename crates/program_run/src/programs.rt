@@ -8,7 +8,7 @@ ghost use Rattle.program_run.specs.Program.{with_image};
 ghost use Rattle.program_call.specs.Sizes.{is_refused, size_for};
 
 use crate::fault::RunFault;
-use autocoder_1401::{AssemblyRows, assemble_rows};
+use autocoder_1401::assemble_image;
 use autocoder_statements::Language;
 use core_1401::CoreFault;
 use cpu_1401::Machine;
@@ -20,14 +20,14 @@ use std::alloc::Global;
 
 /// Whether a text is meant as that of an image.
 #[tactic(auto, unfolding(crate::specs::Program::is_meant_as_image))]
-pub(crate) fn is_image(text: &[u8]) -> bool
+pub fn is_image(text: &[u8]) -> bool
     ensures { result ≡ is_meant_as_image text.now }
 {
     text.starts_with(b"IMAGE1 ") || text.starts_with(b"IMAGE2 ")
 }
 
-/// The program of a source in this language, with the rows of its listing that have an address, in core storage of the
-/// size that is named; without one, of the size that the source asks for, or else of 4,000 places.
+/// The program of a source in this language, in core storage of the size that is named; without one, of the size that
+/// the source asks for, or else of 4,000 places.
 ///
 /// # Errors
 ///
@@ -37,13 +37,13 @@ pub fn program_of(
     language: Language,
     text: &[u8],
     size: Option<u16>,
-) -> Result<AssemblyRows, RunFault>
+) -> Result<Image, RunFault>
     requires { is_refused size ≡ false }
     ensures source { IsAssembled language (size_for size language text.now) text.now result }
-    ensures in_core { IfOk result (λ program. IsInCore program.image) }
+    ensures in_core { IfOk result IsInCore }
 {
-    match assemble_rows(alloc, language, text, size_for(size, language, text)) {
-        Ok(made) => Ok(made),
+    match assemble_image(alloc, language, text, size_for(size, language, text)) {
+        Ok(image) => Ok(image),
         Err(fault) => Err(RunFault::Source(fault)),
     }
 }

@@ -3,7 +3,7 @@ ghost use Rattle.std.specs.Prelude.{◌≡◌, true, Err, IfOk, IfErr, OnOk, opt
 ghost use Rattle.job_runner.specs.Unattended.{with_deck};
 ghost use Rattle.program_run.specs.Run.{job_outcome};
 ghost use Rattle.program_run.specs.RunFile.{IsFaultOf, IsOfRun, IsUnwritten, written_names};
-ghost use Rattle.program_run.specs.RunJob.{HasHalted, ReportsJob, ReportsStop, report_on, with_switches};
+ghost use Rattle.program_run.specs.RunJob.{HasHalted, ReportsJob, ReportsStop, report_on, set_up, with_switches};
 ghost use Rattle.program_call.specs.Sizes.{is_refused};
 
 use crate::deck_running::{Broken, run_started};
@@ -13,14 +13,13 @@ use crate::inputs::{InputGraphics, Inputs, read_inputs};
 use crate::job_report::JobReport;
 use crate::loaded_image::store_image;
 use crate::one_file::{Clash, check_names};
-use crate::outputs::{OutputNames, Outputs, create_outputs};
-use crate::tracing::Trace;
+use crate::outputs::{OutputFile, OutputNames, Outputs, create_outputs};
 use crate::watching::{Shown, Unwatched, Watch};
-use bytes_files::LimitedFile;
 use bytes_streams::{Sink, ToWriter};
 use cpu_1401::{Machine, Stop};
 use job_runner::CardList;
 use machine_graphics::Graphics;
+use machine_panel::Features;
 use program_call::{Job, Start, is_refused};
 use std::io;
 use std::rt::{Clock, Files};
@@ -36,7 +35,7 @@ pub enum ErrorOutput {
 
 /// Sets the sense switches.
 #[tactic(auto, using(crate::proofs::RunJobLemmas::turned_more, crate::proofs::RunJobLemmas::turned_none))]
-pub(crate) fn set_switches(machine: &mut Machine, switches: &[bool; 7])
+fn set_switches(machine: &mut Machine, switches: &[bool; 7])
     ensures { machine.new ≡ with_switches switches.now machine.old }
 {
     for (n, on) in switches.iter().enumerate() {
@@ -44,21 +43,32 @@ pub(crate) fn set_switches(machine: &mut Machine, switches: &[bool; 7])
     }
 }
 
+/// Fits a machine with features, and sets its sense switches.
+pub(crate) fn set_up(machine: &mut Machine, features: Features, switches: &[bool; 7])
+    ensures { machine.new ≡ set_up features switches.now machine.old }
+{
+    machine.fit(features);
+    set_switches(machine, switches);
+}
+
 /// Runs a machine with its cards, and shows how far it is if standard error is a terminal.
-fn run_shown<R: Eprint + Clock + AllocGlobal, W: Sink, P: Sink, F: Sink>(
+fn run_shown<R: Eprint + Clock + AllocGlobal, W: Sink + Drop, F: Sink + Drop>(
     rt: &R,
     error_output: ErrorOutput,
     machine: &mut Machine,
     cards: &CardList,
     start: Start,
     limit: u32,
-    paper: &mut W,
-    punch: &mut P,
-    trace: &mut Trace<F>,
+    mut outputs: Outputs<W, F>,
 ) -> Result<JobReport, Broken>
     ensures { IfOk result (λ report. report ≡ report_on start limit (with_deck cards.now machine.old)) }
 {
     let alloc = rt.alloc();
+    let Outputs {
+        paper,
+        punch,
+        trace,
+    } = &mut outputs;
     match error_output {
         ErrorOutput::Terminal => {
             let mut shown = Shown::new(rt);
@@ -85,40 +95,31 @@ fn run_into<R: Files + Print + Eprint + Clock + AllocGlobal>(
     cards: &CardList,
     start: Start,
     limit: u32,
-    outputs: Outputs<ToWriter<LimitedFile<R::File>>>,
+    outputs: Outputs<Option<OutputFile<R::File>>, OutputFile<R::File>>,
 ) -> Result<JobReport, Broken>
     ensures { IfOk result (λ report. report ≡ report_on start limit (with_deck cards.now machine.old)) }
 {
     let Outputs {
         paper,
-        mut punch,
-        mut trace,
+        punch,
+        trace,
     } = outputs;
     match paper {
-        Some(mut file) => run_shown(
-            rt,
-            error_output,
-            machine,
-            cards,
-            start,
-            limit,
-            &mut file,
-            &mut punch,
-            &mut trace,
-        ),
+        Some(paper) => {
+            let outputs = Outputs {
+                paper,
+                punch,
+                trace,
+            };
+            run_shown(rt, error_output, machine, cards, start, limit, outputs)
+        }
         None => {
-            let mut output = ToWriter::new(io::writer(rt));
-            run_shown(
-                rt,
-                error_output,
-                machine,
-                cards,
-                start,
-                limit,
-                &mut output,
-                &mut punch,
-                &mut trace,
-            )
+            let outputs = Outputs {
+                paper: ToWriter::new(io::writer(rt)),
+                punch,
+                trace,
+            };
+            run_shown(rt, error_output, machine, cards, start, limit, outputs)
         }
     }
 }
@@ -169,7 +170,7 @@ pub fn run_file<R: Files + Print + Eprint + Clock + AllocGlobal>(
 ) -> Result<(), RunFault>
     ensures size { is_refused job.size ≡ true → result ≡ Err RunFault.Size }
 
-    // Without a fault the job that is asked for ran to a halt, with its switches, its limit and what its files were
+    // Without a fault the job that is asked for ran to a halt, with its features, switches and limit and what its files were
     // read as; and any other stop that is reported is that job's.
     ensures halted { OnOk result (HasHalted job) }
     ensures stopped { IfErr result (ReportsJob job) }
@@ -193,6 +194,7 @@ pub fn run_file<R: Files + Print + Eprint + Clock + AllocGlobal>(
         size,
         limit,
         switches,
+        features,
     } = job;
     if is_refused(size) {
         return Err(RunFault::Size);
@@ -213,15 +215,24 @@ pub fn run_file<R: Files + Print + Eprint + Clock + AllocGlobal>(
         source: source_graphics,
         decks: graphics,
     };
-    let inputs = match read_inputs(rt, file, start, language, asked, size, cards) {
+    let mut inputs = match read_inputs(rt, file, start, language, asked, size, cards) {
         Ok(inputs) => inputs,
         Err(fault) => return Err(fault),
     };
-    match store_image(rt, &names.image, start, &inputs.cards, size, &switches) {
+    match store_image(
+        rt,
+        &names.image,
+        start,
+        &inputs.cards,
+        size,
+        features,
+        &switches,
+    ) {
         Ok(()) => {}
         Err(fault) => return Err(fault),
     }
-    run_and_tell(rt, error_output, inputs, start, limit, &switches, names)
+    set_up(&mut inputs.machine, features, &switches);
+    run_and_tell(rt, error_output, inputs, start, limit, names)
 }
 
 /// Runs what was read, writes to the files of these names, and tells how it ended.
@@ -232,13 +243,10 @@ fn run_and_tell<R: Files + Print + Eprint + Clock + AllocGlobal>(
     inputs: Inputs,
     start: Start,
     limit: u32,
-    switches: &[bool; 7],
     names: OutputNames,
 ) -> Result<(), RunFault>
-    ensures halted { OnOk result ((report_on start limit
-        (with_deck inputs.cards (with_switches switches.now inputs.machine))).stop ≡ Stop.Halt) }
-    ensures stopped { IfErr result (ReportsStop (report_on start limit
-        (with_deck inputs.cards (with_switches switches.now inputs.machine)))) }
+    ensures halted { OnOk result ((report_on start limit (with_deck inputs.cards inputs.machine)).stop ≡ Stop.Halt) }
+    ensures stopped { IfErr result (ReportsStop (report_on start limit (with_deck inputs.cards inputs.machine))) }
     ensures fault { IfErr result (IsOfRun (written_names (option_map string_bytes names.paper)
         (option_map string_bytes names.punch) (option_map string_bytes names.trace)
         (option_map string_bytes names.image))) }
@@ -248,7 +256,6 @@ fn run_and_tell<R: Files + Print + Eprint + Clock + AllocGlobal>(
         cards,
         source,
     } = inputs;
-    set_switches(&mut machine, switches);
     match run_inputs(rt, error_output, &mut machine, &cards, start, limit, names) {
         Ok(report) => {
             tell_ending(

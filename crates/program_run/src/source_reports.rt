@@ -3,43 +3,51 @@ ghost use Rattle.std.specs.Prelude.{◌≡◌, false};
 ghost use Rattle.program_call.specs.Sizes.{is_refused};
 
 use autocoder_1401::{
-    AsmKind, Warning, WarningKind, explained_faults, fault_lines, warning_lines, warnings,
+    Asked, AsmKind, FaultPages, asked_warnings, explained_faults, fault_lines, warning_lines,
 };
 use autocoder_statements::Language;
 use autocoder_symbols::AsmFault;
+use machine_panel::Features;
 use program_call::size_for;
 use std::alloc::{AllocError, Global};
 
-/// Whether a run reports a warning: what isn't read, and what isn't started. It looks as if the program were another
-/// one.
-fn is_reported(kind: WarningKind) -> bool {
-    match kind {
-        WarningKind::StartsNothing | WarningKind::Loses(_) => true,
-        WarningKind::NotFitted
-        | WarningKind::UnusedLabel
-        | WarningKind::UnsetIndicator
-        | WarningKind::UnlikeSigns
-        | WarningKind::NeverBranches
-        | WarningKind::ReadOn(_)
-        | WarningKind::Overlaps(_) => false,
-    }
-}
-
-/// The warnings that a run reports.
-fn reported_of(alloc: Global, found: &[Warning]) -> Result<Vec<Warning>, AllocError> {
-    let mut reported = Vec::new(alloc);
-    for warning in found {
-        if is_reported(warning.kind) {
-            reported.push(*warning)?;
-        }
-    }
-    Ok(reported)
-}
+/// How many warnings are printed at a time.
+const PAGE: usize = 1_000;
 
 /// Reports lines, if their memory wasn't refused.
 fn report_lines(rt: &impl Eprint, lines: Result<String, AllocError>) {
     if let Ok(lines) = lines {
         let _ = rt.eprint(lines);
+    }
+}
+
+/// Reports each fault of the lines of a source of this name, a page after the other.
+fn report_pages(
+    rt: &(impl Eprint + AllocGlobal),
+    name: &str,
+    language: Language,
+    source: &[u8],
+    size: u16,
+) -> Result<(), AsmFault> {
+    let mut pages = FaultPages::new(rt.alloc(), language, source, size)?;
+    for _ in 0..pages.count() {
+        let lines = pages.next_page(rt.alloc(), name)?;
+        let _ = rt.eprint(lines);
+    }
+    Ok(())
+}
+
+/// Reports what isn't in core of a source of this name.
+fn report_outside(
+    rt: &(impl Eprint + AllocGlobal),
+    name: &str,
+    language: Language,
+    source: &[u8],
+    size: u16,
+) {
+    if let Ok(found) = explained_faults(rt.alloc(), language, source, size) {
+        let lines = fault_lines(rt.alloc(), name, language, source, size, found.as_slice());
+        report_lines(rt, lines);
     }
 }
 
@@ -54,19 +62,26 @@ pub(crate) fn report_faults(
 )
     requires { is_refused size ≡ false }
 {
-    if first.kind == AsmKind::Memory {
-        return;
-    }
     let size = size_for(size, language, source);
-    if let Ok(found) = explained_faults(rt.alloc(), language, source, size) {
-        report_lines(
-            rt,
-            fault_lines(rt.alloc(), name, language, source, size, found.as_slice()),
-        );
+    match first.kind {
+        AsmKind::Memory => {},
+        AsmKind::OutOfCore => report_outside(rt, name, language, source, size),
+        AsmKind::LongLine
+        | AsmKind::Graphic
+        | AsmKind::Label
+        | AsmKind::DoubleLabel
+        | AsmKind::Operation
+        | AsmKind::Undefined
+        | AsmKind::Operand
+        | AsmKind::NoEnd
+        | AsmKind::AfterEnd => {
+            let _ = report_pages(rt, name, language, source, size);
+        },
     }
 }
 
-/// Warns of what isn't read of a source of this name, and of what it doesn't start.
+/// Warns of what isn't read of a source of this name, and of what it doesn't start: it looks as if the program were
+/// another one.
 pub(crate) fn report_warnings(
     rt: &(impl Eprint + AllocGlobal),
     name: &str,
@@ -77,10 +92,12 @@ pub(crate) fn report_warnings(
     requires { is_refused size ≡ false }
 {
     let size = size_for(size, language, source);
-    let Ok(found) = warnings(rt.alloc(), language, source, size) else {
+    // What isn't read is the same, whatever the machine is fitted with.
+    let features = Features::NONE;
+    let Ok(found) = asked_warnings(rt.alloc(), Asked::Lost, language, source, size, features) else {
         return;
     };
-    if let Ok(reported) = reported_of(rt.alloc(), found.as_slice()) {
-        report_lines(rt, warning_lines(rt.alloc(), name, reported.as_slice()));
+    for page in found.as_slice().chunks(PAGE) {
+        report_lines(rt, warning_lines(rt.alloc(), name, page));
     }
 }

@@ -1,23 +1,24 @@
 //! The instruction at which a job stopped: the statement of the line that placed it, or as Autocoder writes it.
 ghost use Rattle.std.specs.Prelude.{◌≡◌, ◌<◌, ◌≤◌, length, IfOk};
-ghost use Rattle.autocoder_listing.specs.Rows.{line_of};
+ghost use Rattle.autocoder_listing.specs.Rows.{line_of, rows_of};
+ghost use Rattle.autocoder_symbols.specs.Reading.{lines_in};
 
-use autocoder_1401::Rows;
-use autocoder_statements::split_line;
+use autocoder_1401::line_placing;
+use autocoder_statements::{Language, split_line};
 use bcd_1401::Cell;
 use core_1401::Core;
 use job_stops::instruction_len;
 use machine_mnemonics::put_instruction;
-use machine_notation::put_digits;
+use machine_notation::put_named_digits;
 use std::alloc::{AllocError, Global};
 
-/// A source, and the rows of its listing that have an address.
+/// A source that was assembled.
 #[derive(Drop)]
-pub struct SourceRows {
-    /// The source.
+pub struct RunSource {
+    /// Its language.
+    pub language: Language,
+    /// Its text.
     pub text: Vec<u8>,
-    /// The rows.
-    pub rows: Rows,
 }
 
 /// The columns of a source line, from 0 on, at which the label, the operation and the operands begin, and the one
@@ -41,7 +42,7 @@ pub fn instruction_text(
     alloc: Global,
     core: &Core,
     at: u16,
-    source: Option<&SourceRows>,
+    source: Option<&RunSource>,
 ) -> Result<Option<Vec<u8>>, AllocError> {
     if !core.in_core(at) || !core.get(at).mark {
         return Ok(None);
@@ -75,20 +76,22 @@ fn cells_at(alloc: Global, core: &Core, at: u16) -> Result<Vec<Cell>, AllocError
     Ok(cells)
 }
 
-/// The number of the last line of a source that placed these cells at a place, if there is one.
+/// The number of the last line of a source that placed these cells at a place, if there is one. The source is placed
+/// again for that.
 ///
 /// # Errors
 ///
 /// If the memory for the search is refused.
 pub fn placing_line(
     alloc: Global,
-    source: &SourceRows,
+    source: &RunSource,
     at: u16,
     cells: &[Cell],
 ) -> Result<Option<u64>, AllocError>
-    ensures { IfOk result (λ number. number ≡ line_of source.now.rows at cells.now) }
+    ensures { IfOk result
+        (λ number. number ≡ line_of (rows_of (lines_in source.now.language source.now.text.items)) at cells.now) }
 {
-    match source.rows.line_of(alloc, at, cells) {
+    match line_placing(alloc, source.language, source.text.as_slice(), at, cells) {
         Ok(number) => Ok(number),
         Err(_) => Err(AllocError),
     }
@@ -143,8 +146,7 @@ fn put_field(text: &mut Vec<u8>, field: &[u8]) -> Result<(), AllocError> {
 
 /// Adds the number and the statement of a line.
 fn put_line(text: &mut Vec<u8>, number: u64, line: &[u8]) -> Result<(), AllocError> {
-    text.extend_from_slice(b"line ".as_slice())?;
-    put_digits(text, 1, number)?;
+    put_named_digits(text, b"line ", 1, number)?;
     text.push(b',')?;
     put_field(text, columns(line, LABEL_FROM, OPERATION_FROM))?;
     put_field(text, columns(line, OPERATION_FROM, OPERANDS_FROM))?;

@@ -1,7 +1,8 @@
 -- What a call that loads an image has read, written and told, once the file is read (own).
-use Rattle.std.specs.Prelude.{◌≡◌, ◌<◌, ◌⊎◌, ℕ, ⊤, List, length, Result, Err}
+use Rattle.std.specs.Prelude.{◌≡◌, ◌<◌, ◌⊎◌, ℕ, ⊤, List, ◌++◌, length, Result, Err}
 use Rattle.console_lines.specs.declared.session_end.SessionEnd.{SessionEnd}
-use Rattle.console_1401.specs.ImageLoading.{load_entries}
+use Rattle.console_1401.specs.ImageLoading.{fit_entries, load_entries}
+use Rattle.machine_panel.specs.declared.features.Features.{Features}
 use Rattle.console_lines.specs.Session.{SessionDid}
 use Rattle.room_alone.specs.Turns.{Answered}
 use Rattle.machine_image.specs.declared.image.Image.{Image}
@@ -14,47 +15,47 @@ use Rattle.program_sessions.specs.declared.fault.HoldFault.TheVariants as fault
 use Rattle.console_terminal.specs.Console.{outcome_of, Streams}
 use Rattle.program_sessions.specs.Ended.{session_outcome}
 
--- a room of an image's size, whose journal is that of loading the image
-pub record IsLoadedRoom (text : List ℕ) (room : Account) : Type 0 where
+-- a room of an image's size, whose journal is that of fitting the machine with features, and of loading the image
+pub record IsLoadedRoom (features : Features) (text : List ℕ) (room : Account) : Type 0 where
   pub image : Image
   pub text_is : IsTextOf text image
   pub size_is : room.size ≡ image.size
-  pub journal_is : room.journal ≡ load_entries image
+  pub journal_is : room.journal ≡ fit_entries features ++ load_entries image
 
--- an image whose commands are more than a journal has entries
-pub record IsTooLong (text : List ℕ) : Type 0 where
+-- an image whose commands, with that of the features, are more than a journal has entries
+pub record IsTooLong (features : Features) (text : List ℕ) : Type 0 where
   pub image : Image
   pub text_is : IsTextOf text image
-  pub more : most_entries < length (load_entries image)
+  pub more : most_entries < length (fit_entries features ++ load_entries image)
 
 -- why no image was loaded: the text's own fault; too many segments; or want of memory
-abbrev pub IsWhyNotLoaded : List ℕ → HoldFault → Type 0
-IsWhyNotLoaded text fault.Output = ⊥
-IsWhyNotLoaded text fault.Size = ⊥
-IsWhyNotLoaded text (fault.Unread name) = ⊥
-IsWhyNotLoaded text (fault.Image why) = IsRefused text why
-IsWhyNotLoaded text fault.JournalFull = IsTooLong text
-IsWhyNotLoaded text fault.Memory = (image : Image) × IsTextOf text image
-IsWhyNotLoaded text (fault.Session why) = ⊥
-IsWhyNotLoaded text (fault.Kept why) = ⊥
+abbrev pub IsWhyNotLoaded : Features → List ℕ → HoldFault → Type 0
+IsWhyNotLoaded features text fault.Output = ⊥
+IsWhyNotLoaded features text fault.Size = ⊥
+IsWhyNotLoaded features text (fault.Unread name) = ⊥
+IsWhyNotLoaded features text (fault.Image why) = IsRefused text why
+IsWhyNotLoaded features text fault.JournalFull = IsTooLong features text
+IsWhyNotLoaded features text fault.Memory = (image : Image) × IsTextOf text image
+IsWhyNotLoaded features text (fault.Session why) = ⊥
+IsWhyNotLoaded features text (fault.Kept why) = ⊥
 
 -- No image was loaded: nothing was read, and nothing written.
-pub record NotLoaded (text : List ℕ) (old new : Streams) (outcome : Result ⊤ HoldFault) : Type 0 where
+pub record NotLoaded (features : Features) (text : List ℕ) (old new : Streams) (outcome : Result ⊤ HoldFault) : Type 0 where
   pub why : HoldFault
   pub told : outcome ≡ Err why
-  pub reason : IsWhyNotLoaded text why
+  pub reason : IsWhyNotLoaded features text why
   pub unread : new.left ≡ old.left
   pub unwritten : new.received ≡ old.received
 
 -- One session was held at a room with the image loaded, and all that was read and written is that session's.
-pub record HeldLoaded (text : List ℕ) (old new : Streams) (outcome : Result ⊤ HoldFault) : Type 0 where
+pub record HeldLoaded (features : Features) (text : List ℕ) (old new : Streams) (outcome : Result ⊤ HoldFault) : Type 0 where
   pub end : SessionEnd
   pub told : outcome ≡ session_outcome (outcome_of end)
   pub before : Account
-  pub loaded : IsLoadedRoom text before
+  pub loaded : IsLoadedRoom features text before
   pub after : Account
   pub session : SessionDid Answered end old.left new.left old.received new.received before after
 
 -- what a call did: no session, or one
-abbrev pub LoadDid : List ℕ → Streams → Streams → Result ⊤ HoldFault → Type 0
-LoadDid text old new outcome = NotLoaded text old new outcome ⊎ HeldLoaded text old new outcome
+abbrev pub LoadDid : Features → List ℕ → Streams → Streams → Result ⊤ HoldFault → Type 0
+LoadDid features text old new outcome = NotLoaded features text old new outcome ⊎ HeldLoaded features text old new outcome

@@ -7,9 +7,11 @@ ghost use Rattle.program_sessions.specs.Choosing.{HasChosen};
 use crate::fault::{HoldFault, console_fault, ended};
 use crate::loading::{load_file, loaded_room, read_file};
 use bytes_streams::{FromReader, Sink, Source, ToWriter};
+use console_1401::put_features;
 use console_lines::SessionEnd;
 use console_terminal::console;
 use core_1401::CoreFault;
+use machine_panel::Features;
 use program_call::{NewJournal, Opening, Resuming, Session, Showing};
 use room_alone::{Room, session};
 use room_files::{
@@ -78,12 +80,17 @@ fn tell_entries(
     }
 }
 
-/// A room of this size at power-on.
-fn new_room(alloc: Global, size: u16) -> Result<Room, HoldFault> {
-    match Room::power_on(alloc, size) {
-        Ok(room) => Ok(room),
-        Err(CoreFault::Size) => Err(HoldFault::Size),
-        Err(CoreFault::Memory) => Err(HoldFault::Memory),
+/// A room of this size at power-on, whose machine is then fitted with these features.
+fn new_room(alloc: Global, size: u16, features: Features) -> Result<Room, HoldFault> {
+    let mut room = match Room::power_on(alloc, size) {
+        Ok(room) => room,
+        Err(CoreFault::Size) => return Err(HoldFault::Size),
+        Err(CoreFault::Memory) => return Err(HoldFault::Memory),
+    };
+    // The journal of a new room isn't full.
+    match put_features(&mut room, features) {
+        Ok(()) => Ok(room),
+        Err(_) => Err(HoldFault::Memory),
     }
 }
 
@@ -93,10 +100,10 @@ fn begun_room(
     opening: Opening,
 ) -> Result<Room, HoldFault> {
     match opening {
-        Opening::PowerOn(size) => new_room(rt.alloc(), size),
-        Opening::Image(file) => {
+        Opening::PowerOn(size, features) => new_room(rt.alloc(), size, features),
+        Opening::Image(file, features) => {
             let text = read_file(rt, file)?;
-            loaded_room(rt.alloc(), text.as_slice())
+            loaded_room(rt.alloc(), text.as_slice(), features)
         }
         Opening::Journal(asked) => read_chosen(rt, asked),
     }
@@ -127,8 +134,8 @@ fn hold_unkept<R: Files<File = File> + Input + Print + Eprint + AllocGlobal>(
     opening: Opening,
 ) -> Result<(), HoldFault> {
     match opening {
-        Opening::PowerOn(size) => hold_console(rt, size),
-        Opening::Image(file) => load_file(rt, file),
+        Opening::PowerOn(size, features) => hold_console(rt, size, features),
+        Opening::Image(file, features) => load_file(rt, file, features),
         Opening::Journal(asked) => match asked.until {
             None => go_on(rt, asked.file, durability_of(asked.sync)),
             Some(_) => look_at(rt, read_chosen(rt, asked)?),
@@ -136,11 +143,18 @@ fn hold_unkept<R: Files<File = File> + Input + Print + Eprint + AllocGlobal>(
     }
 }
 
-/// Holds one of standard input and output at the console of a new room.
-fn hold_console<R: Input + Print + AllocGlobal>(rt: &R, size: u16) -> Result<(), HoldFault> {
-    let mut reader = FromReader::new(rt.reader());
-    let mut writer = ToWriter::new(io::writer(rt));
-    console(rt.alloc(), size, &mut reader, &mut writer).map_err(console_fault)
+/// Holds one of standard input and output at the console of a new room, whose machine has these features.
+fn hold_console<R: Input + Print + AllocGlobal>(
+    rt: &R,
+    size: u16,
+    features: Features,
+) -> Result<(), HoldFault> {
+    if features == Features::NONE {
+        let mut reader = FromReader::new(rt.reader());
+        let mut writer = ToWriter::new(io::writer(rt));
+        return console(rt.alloc(), size, &mut reader, &mut writer).map_err(console_fault);
+    }
+    look_at(rt, new_room(rt.alloc(), size, features)?)
 }
 
 /// What an entry outlasts, with `--sync` or without.

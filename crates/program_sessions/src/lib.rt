@@ -17,4 +17,4 @@ pub mod journals;
 
 pub use fault::{HoldFault, ended};
 pub use journals::{durability_of, hold_session, journal_file, read_chosen, tell_cut};
-pub use loading::{load, read_file};
+pub use loading::{load, loaded_room, read_file};

@@ -6,9 +6,10 @@ ghost use Rattle.program_sessions.specs.Load.{LoadDid, IsLoadedRoom, IsWhyNotLoa
 use crate::fault::{HoldFault, ended};
 use bytes_files::{FileFault, read_whole};
 use bytes_streams::{FromReader, Sink, Source, ToWriter};
-use console_1401::put_lent_image;
+use console_1401::{put_features, put_lent_image};
 use core_1401::CoreFault;
 use machine_image::lend_image;
+use machine_panel::Features;
 use room_alone::{Room, RoomFault, session};
 use std::alloc::Global;
 use std::io;
@@ -27,7 +28,7 @@ pub fn read_file(rt: &(impl Files + AllocGlobal), name: String) -> Result<Vec<u8
     }
 }
 
-/// Holds a session at standard input and output, with the image of a file loaded.
+/// Holds a session at standard input and output, on a machine with these features and the image of a file loaded.
 ///
 /// # Errors
 ///
@@ -35,14 +36,21 @@ pub fn read_file(rt: &(impl Files + AllocGlobal), name: String) -> Result<Vec<u8
 pub fn load_file<R: Files + Input + Print + AllocGlobal>(
     rt: &R,
     file: String,
+    features: Features,
 ) -> Result<(), HoldFault> {
     let text = read_file(rt, file)?;
     let mut reader = FromReader::new(rt.reader());
     let mut writer = ToWriter::new(io::writer(rt));
-    load(rt.alloc(), text.as_slice(), &mut reader, &mut writer)
+    load(
+        rt.alloc(),
+        text.as_slice(),
+        features,
+        &mut reader,
+        &mut writer,
+    )
 }
 
-/// One session at the console of a new room that has the image of this text loaded.
+/// One session at the console of a new room whose machine has these features, and the image of this text loaded.
 ///
 /// # Errors
 ///
@@ -51,21 +59,28 @@ pub fn load_file<R: Files + Input + Print + AllocGlobal>(
 pub fn load<R: Source, W: Sink>(
     alloc: Global,
     text: &[u8],
+    features: Features,
     reader: &mut R,
     writer: &mut W,
 ) -> Result<(), HoldFault>
-    ensures { LoadDid text.now (streams (R.left reader.old) (W.received writer.old))
+    ensures { LoadDid features text.now (streams (R.left reader.old) (W.received writer.old))
         (streams (R.left reader.new) (W.received writer.new)) result }
 {
-    let mut room = loaded_room(alloc, text)?;
+    let mut room = loaded_room(alloc, text, features)?;
     let end = session(alloc, &mut room, reader, writer);
     ended(end)
 }
 
-/// A new room of an image's size that has the image loaded. Of the image one segment is held at a time.
-pub(crate) fn loaded_room(alloc: Global, text: &[u8]) -> Result<Room, HoldFault>
-    ensures ok { IfOk result (IsLoadedRoom text.now) }
-    ensures err { IfErr result (IsWhyNotLoaded text.now) }
+/// A new room of an image's size whose machine has these features, and the image loaded. Of the image one segment is
+/// held at a time.
+///
+/// # Errors
+///
+/// `Image` if the text is no image's; `Memory` or `JournalFull` if the image isn't loaded.
+#[tactic(auto, using(crate::proofs::LoadLemmas::too_long))]
+pub fn loaded_room(alloc: Global, text: &[u8], features: Features) -> Result<Room, HoldFault>
+    ensures ok { IfOk result (IsLoadedRoom features text.now) }
+    ensures err { IfErr result (IsWhyNotLoaded features text.now) }
 {
     let image = match lend_image(text) {
         Ok(image) => image,
@@ -76,6 +91,11 @@ pub(crate) fn loaded_room(alloc: Global, text: &[u8]) -> Result<Room, HoldFault>
         Err(CoreFault::Memory) => return Err(HoldFault::Memory),
         Err(CoreFault::Size) => unreachable!(),
     };
+    // The journal of a new room isn't full.
+    match put_features(&mut room, features) {
+        Ok(()) => {}
+        Err(_) => return Err(HoldFault::Memory),
+    }
     match put_lent_image(&mut room, &image) {
         Ok(()) => Ok(room),
         Err(RoomFault::Memory) => Err(HoldFault::Memory),

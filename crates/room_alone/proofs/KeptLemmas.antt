@@ -5,7 +5,7 @@ use Rattle.std.specs.Prelude.{Option, Result, Ok, Err, OnOk, OnErr}
 use Rattle.std.proofs.KnownBytes.{Appends-trans}
 use Rattle.std.specs.Io.KnownBytes.{Appends}
 use Rattle.room_alone.specs.declared.entry.Entry.{Entry}
-use Rattle.room_alone.specs.Kept.{Form, AppendsPart, BreaksOff, IsKeptAs, kept_text, lines_by}
+use Rattle.room_alone.specs.Kept.{Form, AppendsPart, BreaksOff, IsKeptAs, LacksLast, kept_text, lines_by}
 
 -- the line of one entry more follows the others
 lines_by-push : (line : ℕ → Entry → List ℕ) (number : ℕ) (front : List Entry) (last : Entry)
@@ -50,40 +50,33 @@ broken_off form size n front last first old new is before more = record {
   kept_is = Appends-trans first old new (kept_text form size front) more.0 before more.2;
 }
 
--- One entry more, before it is kept: what is kept is the text of those before it, and this is its number.
-pub record OneMore (form : Form) (size n : ℕ) (front journal : List Entry) (last : Entry) (first old : Option (List ℕ))
-    : Type 0 where
-  pub before : Appends first old (kept_text form size front)
-  pub journal_is : journal ≡ front ++ last ∷ []
-  pub number_is : n ≡ length journal
-
 number_of : (n : ℕ) (front journal : List Entry) (last : Entry) → journal ≡ front ++ last ∷ [] → n ≡ length journal
     → n ≡ length front + 1
 number_of n front journal last is number = omega (arith, number, ap length is, length-append front (last ∷ []))
 
--- all of it is kept
-pub all_kept : (form : Form) (size n : ℕ) (front journal : List Entry) (last : Entry) (first old new : Option (List ℕ))
-    → OneMore form size n front journal last first old → Appends old new (form.line n last)
+-- all of the last entry, which has this number, is kept
+all_kept : (form : Form) (size n : ℕ) (journal : List Entry) (last : Entry) (first old new : Option (List ℕ))
+    → LacksLast form size journal last first old → n ≡ length journal → Appends old new (form.line n last)
     → Appends first new (kept_text form size journal)
-all_kept form size n front journal last first old new s line =
+all_kept form size n journal last first old new s number line =
     subst (λ (entries : List Entry). Appends first new (kept_text form size entries)) (sym s.journal_is)
-    (kept_more form size n front last first old new (number_of n front journal last s.journal_is s.number_is) s.before
+    (kept_more form size n s.front last first old new (number_of n s.front journal last s.journal_is number) s.kept_is
     line)
 
 -- what is kept is the text of the journal again, or breaks off in the last line
-pub kept_or_broken : {A E : Type 0} (form : Form) (size n : ℕ) (front journal : List Entry) (last : Entry)
+pub kept_or_broken : {A E : Type 0} (form : Form) (size n : ℕ) (journal : List Entry) (last : Entry)
     (first old new : Option (List ℕ)) (failed : Bool) (result : Result A E)
-    → OneMore form size n front journal last first old
+    → LacksLast form size journal last first old → n ≡ length journal
     → OnOk result (Appends old new (form.line n last)) → OnErr result (AppendsPart old new (form.line n last))
     → OnOk result (failed ≡ false) → OnErr result (failed ≡ true)
     → IsKeptAs form size journal failed first new
-kept_or_broken form size n front journal last first old new failed (Ok done) s line part good bad =
+kept_or_broken form size n journal last first old new failed (Ok done) s number line part good bad =
     subst (λ f. IsKeptAs form size journal f first new) (sym good)
-    (all_kept form size n front journal last first old new s line)
-kept_or_broken form size n front journal last first old new failed (Err why) s line part good bad =
+    (all_kept form size n journal last first old new s number line)
+kept_or_broken form size n journal last first old new failed (Err why) s number line part good bad =
     subst (λ f. IsKeptAs form size journal f first new) (sym bad)
     (subst (λ (entries : List Entry). BreaksOff form size entries first new) (sym s.journal_is)
-    (broken_off form size n front last first old new (number_of n front journal last s.journal_is s.number_is) s.before
+    (broken_off form size n s.front last first old new (number_of n s.front journal last s.journal_is number) s.kept_is
     part))
 
 -- what was kept before, if no write has failed

@@ -42,6 +42,13 @@ abbrev pub IsKeptAs : Form → ℕ → List Entry → Bool → Option (List ℕ)
 IsKeptAs form size journal false first kept = Appends first kept (kept_text form size journal)
 IsKeptAs form size journal true first kept = BreaksOff form size journal first kept
 
+-- What was kept since the first is the text of the journal without this entry, its last.
+pub record LacksLast (form : Form) (size : ℕ) (journal : List Entry) (last : Entry) (first kept : Option (List ℕ))
+    : Type 0 where
+  pub front : List Entry
+  pub journal_is : journal ≡ front ++ last ∷ []
+  pub kept_is : Appends first kept (kept_text form size front)
+
 -- what contracts see of a room that is kept: the room, whether a write has failed, and the bytes that are kept
 pub record KeptAccount : Type 0 where
   pub room : Account

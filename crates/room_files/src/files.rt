@@ -60,7 +60,7 @@ pub(crate) fn keep_name(
 }
 
 /// All bytes of a file, if there are no more than a journal may have.
-fn bytes_of(alloc: Global, file: &File) -> Result<Vec<u8>, JournalFileFault> {
+pub(crate) fn bytes_of(alloc: Global, file: &File) -> Result<Vec<u8>, JournalFileFault> {
     let mut bytes = Vec::new(alloc);
     match file.take(MOST_BYTES + 1).read_to_end(&mut bytes) {
         Ok(_) if bytes.len() as u64 > MOST_BYTES => Err(JournalFileFault::TooLong),

@@ -1,9 +1,13 @@
 //! The file of a journal, as a sink of its lines.
 ghost use Rattle.std.specs.Prelude.{◌≡◌, ◌<◌, ◌≤◌, false, length, IfOk, None};
 
+use crate::fault::JournalFileFault;
+use crate::files::{bytes_of, file_fault};
 use bytes_files::size_limit;
 use bytes_streams::{Failed, Sink, ToWriter};
+use std::alloc::Global;
 use std::fs::{File, OpenFile};
+use std::io::{Seek, SeekFrom};
 use std::os::unix::fs::MetadataExt;
 
 /// What a line of a journal outlasts, once it counts as written.
@@ -44,11 +48,55 @@ impl JournalFile {
         }
     }
 
-    /// Whether the file is as this sink left it, with a name, and may have a byte more.
+    /// Whether the file is as this sink left it, with a name.
     fn is_whole(&self) -> bool {
         match self.file.metadata() {
-            Ok(now) => now.len() == self.len && now.nlink() > 0 && self.len < self.most,
+            Ok(now) => now.len() == self.len && now.nlink() > 0,
             Err(_) => false,
+        }
+    }
+
+    /// What lines of it outlast.
+    pub(crate) fn durability(&self) -> Durability {
+        self.durability
+    }
+
+    /// The bytes that the file has.
+    ///
+    /// # Errors
+    ///
+    /// `Unwritten` if another process has changed the file; else why it can't be read.
+    pub(crate) fn text(&self, alloc: Global) -> Result<Vec<u8>, JournalFileFault> {
+        if !self.is_whole() {
+            return Err(JournalFileFault::Unwritten);
+        }
+        match (&self.file).seek(SeekFrom::Start(0)) {
+            Ok(_) => bytes_of(alloc, &self.file),
+            Err(error) => Err(file_fault(error.kind(), JournalFileFault::Unreadable)),
+        }
+    }
+
+    /// The file with no more than its first bytes.
+    ///
+    /// # Errors
+    ///
+    /// `Unwritten` if it isn't cut, or if that isn't forced onto the disk where it should be.
+    pub(crate) fn cut(self, len: u64) -> Result<JournalFile, JournalFileFault>
+        ensures received { IfOk result (λ file. ⟦<JournalFile as Sink>⟧.received file ≡ None) }
+        ensures failed { IfOk result (λ file. ⟦<JournalFile as Sink>⟧.has_failed file ≡ false) }
+    {
+        let JournalFile {
+            file,
+            durability,
+            ..
+        } = self;
+        let cut = match (file.set_len(len), durability) {
+            (Ok(()), Durability::Disk) => file.sync_data(),
+            (cut, _) => cut,
+        };
+        match cut {
+            Ok(()) => Ok(JournalFile::new(file, len, durability)),
+            Err(_) => Err(JournalFileFault::Unwritten),
         }
     }
 
@@ -57,7 +105,8 @@ impl JournalFile {
         ensures most { IfOk result (λ n. n ≤ length bytes.now) }
         ensures some { IfOk result (λ n. 0 < length bytes.now → 0 < n) }
     {
-        if !self.is_whole() {
+        // It may have a byte more.
+        if !self.is_whole() || self.len >= self.most {
             return Err(Failed);
         }
         let written = ToWriter::new(&self.file).put(bytes)?;

@@ -22,6 +22,9 @@ pub mod files;
 pub mod journal_file;
 pub mod new_file;
 
+// a file that has a journal, and is to have another
+pub mod rewriting;
+
 // a journal shown or checked
 pub mod showing;
 
@@ -32,6 +35,7 @@ pub use files::{
 pub use journal_file::{Durability, JournalFile};
 pub use keeping::{begin_text, keep_room, take_up_room, verify_journal};
 pub use new_file::{MadeJournal, MadeName, begin_journal, create_journal};
+pub use rewriting::rewrite_journal;
 pub use sessions::{keep_session, resume_session};
 pub use showing::{ShowFault, check_journal, show_journal};
 pub use text_keeper::{Beginning, TextKeeper};

@@ -5,7 +5,7 @@ use crate::fault::{JournalFileFault, KeepFault};
 use crate::files::{file_fault, keep_name, lock};
 use crate::journal_file::{Durability, JournalFile};
 use crate::keeping::begin_text;
-use bytes_streams::Sink;
+use bytes_streams::{Sink, put_all};
 use std::fs;
 use std::fs::{File, OpenOptions};
 use std::io::ErrorKind;
@@ -33,6 +33,7 @@ fn remove_own(rt: &impl Files<File = File>, name: &str, file: &File) {
 /// A new file of this name, to which lines are added.
 fn make_file(rt: &impl Files<File = File>, name: &str) -> Result<File, ErrorKind> {
     match OpenOptions::new()
+        .read(true)
         .append(true)
         .create_new(true)
         .open(rt, name)
@@ -193,4 +194,51 @@ pub fn begin_journal(
         Ok(()) => Ok(MadeJournal { file, name }),
         Err(fault) => Err(KeepFault::of_text(name.remove(rt), fault)),
     }
+}
+
+/// Gives a new file, which is locked, a text, and then the name of another file.
+fn put_in_place(
+    rt: &impl Files<File = File>,
+    file: File,
+    beside: &str,
+    name: &str,
+    text: &[u8],
+    durability: Durability,
+) -> Result<JournalFile, JournalFileFault>
+    ensures good { IfOk result (λ made. ⟦<JournalFile as Sink>⟧.has_failed made ≡ false) }
+{
+    lock(&file)?;
+    let mut file = JournalFile::new(file, 0, durability);
+    if put_all(&mut file, text).is_err() || file.has_failed() {
+        return Err(JournalFileFault::Unwritten);
+    }
+    match fs::rename(rt, beside, name) {
+        Ok(()) => {}
+        Err(error) => return Err(file_fault(error.kind(), JournalFileFault::Unwritten)),
+    }
+    keep_name(rt, name, durability)?;
+    Ok(file)
+}
+
+/// A new file that has this text, in the place of the one of this name: whoever opens that finds the old text or the
+/// new one.
+///
+/// # Errors
+///
+/// Why it can't be made or written; then the file of this name is the old one, unless the new name isn't forced onto
+/// the disk.
+pub(crate) fn supersede(
+    rt: &(impl Files<File = File> + AllocGlobal),
+    name: &str,
+    text: &[u8],
+    durability: Durability,
+) -> Result<JournalFile, JournalFileFault>
+    ensures good { IfOk result (λ made. ⟦<JournalFile as Sink>⟧.has_failed made ≡ false) }
+{
+    let (file, beside) = make_beside(rt, name)?;
+    let made = put_in_place(rt, file, beside.as_str(), name, text, durability);
+    if made.is_err() {
+        let _ = fs::remove_file(rt, beside.as_str());
+    }
+    made
 }

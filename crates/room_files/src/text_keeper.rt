@@ -47,6 +47,14 @@ impl<J: Beginning, S: Sink + Drop> TextKeeper<J, S> {
             of: PhantomData,
         }
     }
+
+    /// The sink.
+    pub fn into_sink(self) -> S
+        ensures received { S.received result ≡ ⟦<TextKeeper<J, S> as Keeper>⟧.kept self }
+    {
+        let TextKeeper { sink, .. } = self;
+        sink
+    }
 }
 
 impl<J: Beginning, S: Sink + Drop> Keeper for TextKeeper<J, S> {

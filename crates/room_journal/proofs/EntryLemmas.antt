@@ -1,40 +1,33 @@
 -- An entry read from its line, and what is read as one.
-use Rattle.std.proofs.Common.{◌≡◌, ℕ, zero, suc, ◌+◌, ◌-◌, ◌^◌, ◌<◌, ◌≤◌, ◌==◌, ◌&&◌, Bool, true, false, not}
+use Rattle.std.proofs.Common.{◌≡◌, ℕ, zero, suc, ◌+◌, ◌<◌, ◌≤◌, ◌==◌, ◌&&◌, Bool, true, false}
 use Rattle.std.proofs.Common.{nat_le, nat_lt}
-use Rattle.std.proofs.Common.{if◌then◌else◌, List, [], ◌∷◌, ◌++◌, length, map, replicate, get_or}
+use Rattle.std.proofs.Common.{if◌then◌else◌, List, [], ◌∷◌, ◌++◌, length}
 use Rattle.std.proofs.Common.{Option, None}
 use Rattle.std.proofs.Common.{Some, Result, Ok, Err, refl, sym, ap, ◌∙◌, subst, arith, inl, inr}
-use Rattle.std.specs.Prelude.{IfOk, IfErr, codes, slice_index}
-use Rattle.std.specs.Fmt.{decimal, digits}
-use Rattle.std.specs.Int.Digits.{digits_of}
-use Rattle.std.specs.List.{list_all, flat_map, prefix_len}
-use Rattle.std.specs.Option.{ok_or}
+use Rattle.std.specs.Prelude.{IfOk, IfErr}
+use Rattle.std.specs.Fmt.{digits}
+use Rattle.std.specs.List.{list_all}
+use Rattle.std.specs.Option.{ok_or, option_map_or}
 use Rattle.std.proofs.lemmas.Bool.{and_parts, cases_lt, eqb-true, ltb-true}
 use Rattle.std.proofs.lemmas.Bool.Decides.{nat_tests}
-use Rattle.std.proofs.lemmas.Fmt.{decimal_digit, decimal-digits_of}
-use Rattle.std.proofs.lemmas.List.{append_assoc, take_at}
-use Rattle.std.proofs.lemmas.List.Folds.{list_all-append}
-use Rattle.bcd_1401.specs.declared.cell.Cell.{Cell}
-use Rattle.bcd_1401.specs.Graphic.{graphics}
-use Rattle.machine_panel.specs.declared.switch_name.SwitchName.{SwitchName}
-use Rattle.machine_panel.specs.declared.switch_name.SwitchName.TheVariants as switch
-use Rattle.machine_notation.specs.Cells.{cell_text, cells_text}
+use Rattle.std.proofs.lemmas.List.{append_assoc}
 use Rattle.machine_notation.specs.Digits.{digits_in, number_in}
 use Rattle.machine_notation.specs.Prefix.{after_prefix}
 use Rattle.machine_notation.proofs.PrefixLemmas.{after_prefix_again, after_prefix_takes}
 use Rattle.machine_commands.specs.declared.answer.Answer.{Answer}
 use Rattle.machine_commands.specs.declared.command.Command.{Command}
-use Rattle.machine_commands.specs.declared.command.Command.TheVariants as command
+use Rattle.machine_commands.specs.declared.command.Command.TheVariants.{Fit}
 use Rattle.console_text.specs.declared.line.Line.{Line}
 use Rattle.console_text.specs.declared.line.Line.TheVariants as line
 use Rattle.console_text.specs.declared.line.LineFault.{LineFault}
 use Rattle.console_text.specs.declared.line.LineFault.TheVariants as fault
 use Rattle.console_text.specs.AnswerText.{answer_text}
-use Rattle.machine_notation.specs.Characters.{graphics_of, trimmed}
 use Rattle.console_text.specs.CommandText.{command_text}
 use Rattle.console_text.specs.ConsoleLine.{said_by, said_in_words, most_line_bytes}
-use Rattle.console_text.specs.LineText.{CanBeSaid, setting_text}
-use Rattle.console_text.specs.Words.{letter_of}
+use Rattle.console_text.specs.LineText.{CanBeSaid}
+use Rattle.console_text.specs.FitText.{fit_of, fit_text}
+use Rattle.machine_panel.specs.declared.features.Features.{Features}
+use Rattle.console_text.proofs.FitTextLemmas.{fit_again, fit_exact, fit_short, fit_unknown}
 use Rattle.console_text.proofs.CommandTextLemmas.{line_of_command}
 use Rattle.console_text.proofs.LineTextLemmas.{in_words}
 use Rattle.console_text.proofs.SayableLemmas.{words_can}
@@ -42,9 +35,10 @@ use Rattle.room_alone.specs.declared.entry.Entry.{Entry}
 use Rattle.room_alone.specs.Journal.{answer_to, entry, is_full}
 use Rattle.room_journal.specs.declared.fault.Wrong.{Wrong}
 use Rattle.room_journal.specs.declared.fault.Wrong.TheVariants as wrong
-use Rattle.room_journal.specs.JournalText.{CanBeKept, entry_text, tab, with_feed, with_tab}
-use Rattle.room_journal.specs.Reading.{◌>>=◌, answer_at, command_at, entry_at, field, if_command}
+use Rattle.room_journal.specs.JournalText.{CanBeKept, CanBeRead, entry_text, tab, with_feed, with_tab}
+use Rattle.room_journal.specs.Reading.{◌>>=◌, answer_at, command_at, command_in, entry_at, field, if_command}
 use Rattle.room_journal.specs.Reading.{if_seat, number_at, seat_at, seat_in}
+use Rattle.room_journal.proofs.TabLemmas.{command_all, digits_all, field_is, no_tab}
 
 -- what was read first, and what then
 pub first_read : {A B : Type 0} (read : Result A Wrong) (more : A → Result B Wrong) (found : B)
@@ -98,9 +92,6 @@ seat_text seat = with_tab (digits_in 1 seat)
 abbrev pub command_part : Command → List ℕ
 command_part command = with_tab (command_text command)
 
-abbrev pub CanSay : Command → Type 0
-CanSay command = CanBeSaid (line.Command command)
-
 found_by : {A : Type 0} (spell : A → List ℕ) (IsGood : A → Type 0) (text : List ℕ) (read : Option A) (why : Wrong)
     (found : A × List ℕ)
     → (ok_or read why >>= λ value. (ok_or (after_prefix (spell value) text) why >>= λ rest. Ok (value, rest))) ≡ Ok found
@@ -127,12 +118,20 @@ seat_takes text found h =
     found_by seat_text (λ seat. seat < 256) text (seat_in (field text)) wrong.Seat found h (seat_below (field text))
 
 command_can : (said : Result Line LineFault) (command : Command) → IfOk said CanBeSaid → if_command said ≡ Some command
-    → CanSay command
+    → CanBeSaid (line.Command command)
 command_can (Ok line.Empty) command can h = absurd cc
-command_can (Ok (line.Command said)) command can h = subst CanSay (cc h) can
+command_can (Ok (line.Command said)) command can h =
+    subst (λ (c : Command). CanBeSaid (line.Command c)) (cc h) can
 command_can (Ok (line.Glance address)) command can h = absurd cc
 command_can (Ok line.Quit) command can h = absurd cc
 command_can (Err fault) command can h = absurd cc
+
+-- what is read from a field can be read
+read_can : (fit : Option Features) (said : Result Line LineFault) (command : Command) → IfOk said CanBeSaid
+    → option_map_or (λ features. Some (Fit features)) fit (if_command said) ≡ Some command
+    → CanBeRead command
+read_can None said command can h = inl (command_can said command can h)
+read_can (Some features) said command can h = inr (features, cc h)
 
 -- what a line says can be said
 said_can : (long : Bool) (said : Result Line LineFault) (fault : LineFault) → IfOk said CanBeSaid
@@ -145,11 +144,11 @@ unfolding said_by
 line_can text = said_can (nat_lt most_line_bytes (length text)) (said_in_words text) fault.Length (words_can text)
 
 pub command_takes : (text : List ℕ) (found : Command × List ℕ) → command_at text ≡ Ok found
-    → Found command_part CanSay text found
+    → Found command_part CanBeRead text found
 unfolding command_at
 command_takes text found h =
-    found_by command_part CanSay text (if_command (said_by (field text))) wrong.Command found h
-    (λ command is. command_can (said_by (field text)) command (line_can (field text)) is)
+    found_by command_part CanBeRead text (command_in (field text)) wrong.Command found h
+    (λ command is. read_can (fit_of (field text)) (said_by (field text)) command (line_can (field text)) is)
 
 -- The journal has room, and the answer is at the front.
 pub record Answered (journal : List Entry) (answer : Answer) (text rest : List ℕ) : Type 0 where
@@ -202,126 +201,6 @@ entry_takes size journal text found h =
       answer_is = refl;
     } in
     subst (IsEntryOf size journal text) same here
-
--- no tab
-abbrev pub no_tab : ℕ → Bool
-no_tab byte = not (byte == tab)
-
-front_len : (q : ℕ → Bool) (front back : List ℕ) (byte : ℕ) → list_all q front ≡ true → q byte ≡ false
-    → prefix_len q (front ++ byte ∷ back) ≡ length front
-front_len q [] back byte all stop = rw stop refl
-front_len q (x ∷ front) back byte all stop =
-    let here : q x ≡ true = (and_parts (q x) (list_all q front) all).0 in
-    let more : prefix_len q (front ++ byte ∷ back) ≡ length front =
-    front_len q front back byte (and_parts (q x) (list_all q front) all).1 stop in
-    rw here (omega (arith, more))
-
-field_is : (word back : List ℕ) → list_all no_tab word ≡ true → field (word ++ tab ∷ back) ≡ word
-field_is word back all =
-    rw (front_len no_tab word back tab all refl) (take_at word (tab ∷ back) (length word) refl)
-
-both_all : (xs ys : List ℕ) → list_all no_tab xs ≡ true → list_all no_tab ys ≡ true
-    → list_all no_tab (xs ++ ys) ≡ true
-both_all xs ys h k = list_all-append no_tab xs ys ∙ rw (h, k) refl
-
-zeros_all : (n : ℕ) → list_all no_tab (replicate n 48) ≡ true
-zeros_all zero = refl
-zeros_all (suc n) = zeros_all n
-
-not_tab : (byte : ℕ) → 48 ≤ byte → not (byte == 9) ≡ true
-not_tab byte large = grind (arith, nat_tests)
-
-shifted_all : (values : List ℕ) → list_all no_tab (map (λ digit. 48 + digit) values) ≡ true
-shifted_all [] = refl
-shifted_all (digit ∷ values) =
-    let here : not ((48 + digit) == 9) ≡ true = not_tab (48 + digit) (omega arith) in rw here (shifted_all values)
-
-decimal_all : (number : ℕ) → number < 2 ^ 64 → list_all no_tab (decimal number) ≡ true
-decimal_all number fits = elim (cases_lt number 10) [
-  | inl small ↦
-      let here : not ((48 + number) == 9) ≡ true = not_tab (48 + number) (omega arith) in
-      ap (list_all no_tab) (decimal_digit number small) ∙ rw here refl
-  | inr large ↦
-      ap (list_all no_tab) (decimal-digits_of number (omega arith) fits) ∙ shifted_all (digits_of 10 number)
-]
-
-digits_all : (width number : ℕ) → number < 2 ^ 64 → list_all no_tab (digits_in width number) ≡ true
-digits_all width number fits =
-    both_all (replicate (width - length (decimal number)) 48) (decimal number)
-    (zeros_all (width - length (decimal number))) (decimal_all number fits)
-
-all_at : (xs : List ℕ) (i : ℕ) → list_all no_tab xs ≡ true → no_tab (get_or xs i 0) ≡ true
-all_at [] i all = refl
-all_at (x ∷ xs) zero all = (and_parts (no_tab x) (list_all no_tab xs) all).0
-all_at (x ∷ xs) (suc i) all = all_at xs i (and_parts (no_tab x) (list_all no_tab xs) all).1
-
-graphics_all : list_all no_tab graphics ≡ true
-unfolding graphics
-graphics_all = refl
-
-graphic_all : (char : ℕ) → no_tab (slice_index graphics char) ≡ true
-graphic_all char = all_at graphics char graphics_all
-
-one_cell_all : (mark : Bool) (graphic : ℕ) → no_tab graphic ≡ true
-    → list_all no_tab (if mark then 126 ∷ graphic ∷ [] else graphic ∷ []) ≡ true
-one_cell_all true graphic h = rw h refl
-one_cell_all false graphic h = rw h refl
-
-cells_all : (cells : List Cell) → list_all no_tab (cells_text cells) ≡ true
-unfolding cells_text
-cells_all [] = refl
-cells_all (cell ∷ cells) =
-    both_all (cell_text cell) (flat_map cell_text cells)
-    (one_cell_all cell.mark (slice_index graphics cell.char) (graphic_all cell.char)) (cells_all cells)
-
-chars_all : (chars : List ℕ) → list_all no_tab (graphics_of chars) ≡ true
-unfolding graphics_of
-chars_all [] = refl
-chars_all (char ∷ chars) =
-    let here : no_tab (slice_index graphics char) ≡ true = graphic_all char in
-    let more : list_all no_tab (map (λ each. slice_index graphics each) chars) ≡ true = chars_all chars in
-    both_all (slice_index graphics char ∷ []) (map (λ each. slice_index graphics each) chars) (rw here refl) more
-
-letter_all : (n : SwitchName) → list_all no_tab (letter_of n) ≡ true
-letter_all switch.A = refl
-letter_all switch.B = refl
-letter_all switch.C = refl
-letter_all switch.D = refl
-letter_all switch.E = refl
-letter_all switch.F = refl
-letter_all switch.G = refl
-
-setting_all : (on : Bool) → list_all no_tab (setting_text on) ≡ true
-setting_all true = refl
-setting_all false = refl
-
-command_all : (command : Command) → CanSay command → list_all no_tab (command_text command) ≡ true
-unfolding command_text
-command_all (command.Deposit address cells) can =
-    let digits : List ℕ = digits_in 4 address in
-    both_all (codes "DEPOSIT " ++ digits ++ codes " ") (cells_text cells)
-    (both_all (codes "DEPOSIT " ++ digits) (codes " ")
-    (both_all (codes "DEPOSIT ") digits refl (digits_all 4 address (omega (arith, can.0)))) refl) (cells_all cells)
-command_all (command.Examine address count) can =
-    let digits : List ℕ = digits_in 4 address in
-    both_all (codes "EXAMINE " ++ digits ++ codes " ") (digits_in 1 count)
-    (both_all (codes "EXAMINE " ++ digits) (codes " ")
-    (both_all (codes "EXAMINE ") digits refl (digits_all 4 address (omega (arith, can.0)))) refl)
-    (digits_all 1 count (omega (arith, can.1)))
-command_all command.Registers can = refl
-command_all (command.SetI address) can =
-    both_all (codes "START ") (digits_in 4 address) refl (digits_all 4 address (omega (arith, can)))
-command_all (command.Switch n on) can =
-    both_all (codes "SWITCH " ++ letter_of n ++ codes " ") (setting_text on)
-    (both_all (codes "SWITCH " ++ letter_of n) (codes " ")
-    (both_all (codes "SWITCH ") (letter_of n) refl (letter_all n)) refl) (setting_all on)
-command_all (command.Feed card) can =
-    both_all (codes "FEED ") (graphics_of (trimmed card.0)) refl (chars_all (trimmed card.0))
-command_all command.LoadKey can = refl
-command_all (command.Run limit) can =
-    both_all (codes "RUN ") (digits_in 1 limit) refl (digits_all 1 limit (omega (arith, can)))
-command_all command.TakeLine can = refl
-command_all command.TakeCard can = refl
 
 -- whether a seat is found in its digits
 is_found : Option ℕ → ℕ → Bool
@@ -386,7 +265,8 @@ seat_again seat rest below =
     read_again seat_text seat_in wrong.Seat seat (digits_in 1 seat) (seat_text seat ++ rest) rest refl
     (digits_all 1 seat (omega arith)) (seat_is seat below) refl
 
-said_again : (command : Command) → CanSay command → said_by (command_text command) ≡ Ok (line.Command command)
+said_again : (command : Command) → CanBeSaid (line.Command command)
+    → said_by (command_text command) ≡ Ok (line.Command command)
 unfolding said_by
 said_again command can =
     let is = line_of_command command can in
@@ -394,12 +274,45 @@ said_again command can =
     let short : nat_lt most_line_bytes (length (command_text command)) ≡ false = grind (arith, nat_tests) in
     rw short (in_words (line.Command command) (command_text command) can is.typed)
 
-command_again : (command : Command) (rest : List ℕ) → CanSay command
+-- what fits a machine is said by no line
+fit_unsaid : (features : Features) → said_by (fit_text features) ≡ Err fault.Word
+unfolding said_by
+fit_unsaid features =
+    let few : length (fit_text features) ≤ most_line_bytes = fit_short features in
+    let short : nat_lt most_line_bytes (length (fit_text features)) ≡ false = grind (arith, nat_tests) in
+    rw short (fit_unknown features)
+
+no_fit : (fit : Option Features) (text : List ℕ) (said : Line) → fit_of text ≡ fit → said_by text ≡ Ok said
+    → fit ≡ None
+no_fit None text said is h = refl
+no_fit (Some features) text said is h =
+    let unsaid : said_by text ≡ Err fault.Word = ap said_by (fit_exact text features is) ∙ fit_unsaid features in
+    let both : Ok said ≡ Err fault.Word = sym h ∙ unsaid in
+    absurd cc
+
+-- a command is read from its text
+in_field : (command : Command) → CanBeRead command → command_in (command_text command) ≡ Some command
+unfolding command_text
+in_field command (inl can) =
+    let text : List ℕ = command_text command in
+    let said : said_by text ≡ Ok (line.Command command) = said_again command can in
+    let none : fit_of text ≡ None = no_fit (fit_of text) text (line.Command command) refl said in
+    ap (λ (fit : Option Features). option_map_or (λ features. Some (Fit features)) fit (if_command (said_by text)))
+    none
+    ∙ ap if_command said
+in_field command (inr fit) =
+    let text : List ℕ = fit_text fit.0 in
+    ap (λ (c : Command). command_in (command_text c)) fit.1
+    ∙ ap (λ (found : Option Features).
+    option_map_or (λ features. Some (Fit features)) found (if_command (said_by text))) (fit_again fit.0)
+    ∙ ap Some (sym fit.1)
+
+command_again : (command : Command) (rest : List ℕ) → CanBeRead command
     → command_at (command_part command ++ rest) ≡ Ok (command, rest)
 unfolding command_at
 command_again command rest can =
-    read_again command_part (λ word. if_command (said_by word)) wrong.Command command (command_text command)
-    (command_part command ++ rest) rest refl (command_all command can) (ap if_command (said_again command can)) refl
+    read_again command_part command_in wrong.Command command (command_text command) (command_part command ++ rest) rest
+    refl (command_all command can) (in_field command can) refl
 
 answer_again : (full : Bool) (due answer : Answer) (rest : List ℕ) → full ≡ false → answer ≡ due
     → (if full then Err wrong.Full
@@ -474,7 +387,7 @@ of_seat text =
 of_command : (text : List ℕ) → IfErr (command_at text) IsOfEntry
 unfolding command_at
 of_command text =
-    let found : Option Command = if_command (said_by (field text)) in
+    let found : Option Command = command_in (field text) in
     of_both (ok_or found wrong.Command) _ (of_option found wrong.Command tt) (λ said.
     of_both (ok_or (after_prefix (command_part said) text) wrong.Command) (λ rest. Ok (said, rest))
     (of_option (after_prefix (command_part said) text) wrong.Command tt) (λ rest. tt))

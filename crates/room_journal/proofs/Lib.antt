@@ -1,4 +1,5 @@
 pub mod ChoiceLemmas
 pub mod EntryLemmas
 pub mod ReadsLemmas
+pub mod TabLemmas
 pub mod TextLemmas

@@ -1,8 +1,11 @@
 -- The text of a journal (own): a line that names the size of core storage, and one for each entry.
-use Rattle.std.specs.Prelude.{◌≡◌, ◌<◌, ◌≤◌, ℕ, ◌+◌, true, All, List, [], ◌∷◌, ◌++◌, length, codes}
+use Rattle.std.specs.Prelude.{◌≡◌, ◌<◌, ◌≤◌, ◌⊎◌, ℕ, true, All, List, [], ◌∷◌, ◌++◌, length, codes}
 use Rattle.core_1401.specs.Storage.{is_core_size}
 use Rattle.machine_notation.specs.Bytes.{line_feed}
 use Rattle.machine_notation.specs.Digits.{digits_in}
+use Rattle.machine_panel.specs.declared.features.Features.{Features}
+use Rattle.machine_commands.specs.declared.command.Command.{Command}
+use Rattle.machine_commands.specs.declared.command.Command.TheVariants.{Fit}
 use Rattle.console_text.specs.declared.line.Line.TheVariants as line
 use Rattle.console_text.specs.AnswerText.{answer_text}
 use Rattle.console_text.specs.CommandText.{command_text}
@@ -45,9 +48,13 @@ journal_form = record { head = header_text; line = entry_text }
 abbrev pub journal_text : ℕ → List Entry → List ℕ
 journal_text size journal = kept_text journal_form size journal
 
--- a line can say the entry's command, and its seat is a seat's number
+-- a line can say the command, or it fits a machine
+abbrev pub CanBeRead : Command → Type 0
+CanBeRead command = CanBeSaid (line.Command command) ⊎ ((features : Features) × (command ≡ Fit features))
+
+-- the entry's command can be read, and its seat is a seat's number
 abbrev pub CanBeKept : Entry → Type 0
-CanBeKept entry = CanBeSaid (line.Command entry.command) × (entry.seat < 256)
+CanBeKept entry = CanBeRead entry.command × (entry.seat < 256)
 
 -- A room of this size can have this journal, and each of its entries can be kept.
 pub record IsJournal (size : ℕ) (journal : List Entry) : Type 0 where

@@ -4,19 +4,21 @@ use Rattle.std.specs.Prelude.{◌≡◌, ℕ, ◌+◌, ◌<◌, nat_le, nat_lt, 
 use Rattle.std.specs.Prelude.{List, [], ◌∷◌, ◌++◌, length, find, Option, None, Some, is_some, Result}
 use Rattle.std.specs.Prelude.{Ok, Err}
 use Rattle.std.specs.List.{before_first, list_any}
-use Rattle.std.specs.Option.{ok_or}
+use Rattle.std.specs.Option.{ok_or, option_map_or}
 use Rattle.core_1401.specs.Storage.{core_sizes}
 use Rattle.machine_notation.specs.Bytes.{line_feed}
 use Rattle.machine_notation.specs.Digits.{digits_in, number_in}
 use Rattle.machine_notation.specs.Prefix.{after_prefix}
 use Rattle.machine_commands.specs.declared.answer.Answer.{Answer}
 use Rattle.machine_commands.specs.declared.command.Command.{Command}
+use Rattle.machine_commands.specs.declared.command.Command.TheVariants.{Fit}
 use Rattle.console_text.specs.declared.line.Line.{Line}
 use Rattle.console_text.specs.declared.line.Line.TheVariants as line
 use Rattle.console_text.specs.declared.line.LineFault.{LineFault}
 use Rattle.console_text.specs.AnswerText.{answer_text}
 use Rattle.console_text.specs.CommandText.{command_text}
 use Rattle.console_text.specs.ConsoleLine.{said_by}
+use Rattle.console_text.specs.FitText.{fit_of}
 use Rattle.room_alone.specs.declared.entry.Entry.{Entry}
 use Rattle.room_alone.specs.Journal.{answer_to, entry, is_full}
 use Rattle.room_journal.specs.declared.fault.JournalFault.{JournalFault}
@@ -62,10 +64,14 @@ if_command (Ok (line.Glance address)) = None
 if_command (Ok line.Quit) = None
 if_command (Err fault) = None
 
+-- the command that a field has: what fits a machine, which no line says, or a line's
+abbrev pub command_in : List ℕ → Option Command
+command_in text = option_map_or (λ features. Some (Fit features)) (fit_of text) (if_command (said_by text))
+
 -- a command in its own text, and what follows it
 unfoldable pub command_at : List ℕ → Result (Command × List ℕ) Wrong
 command_at text = do
-  command ← ok_or (if_command (said_by (field text))) wrong.Command
+  command ← ok_or (command_in (field text)) wrong.Command
   rest ← ok_or (after_prefix (with_tab (command_text command)) text) wrong.Command
   Ok (command, rest)
 

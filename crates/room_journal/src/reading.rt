@@ -10,12 +10,12 @@ ghost use Rattle.room_alone.specs.declared.entry.Entry.{Entry};
 ghost use Rattle.room_alone.specs.Journal.{IsLegal, most_entries};
 ghost use Rattle.room_journal.specs.JournalText.{header_text, tab, with_feed, with_tab};
 ghost use Rattle.room_journal.specs.Reading.{HasHeader, IsNoHeader, IsRefused, IsRefusedIn, IsTextOf, IsThat, IsWhy};
-ghost use Rattle.room_journal.specs.Reading.{Takes, command_at, entry_at, field, has_line, number_at, seat_at};
+ghost use Rattle.room_journal.specs.Reading.{Takes, command_at, command_in, entry_at, field, has_line, number_at, seat_at};
 ghost use Rattle.room_journal.specs.Reading.{seat_in, size_among};
 
 use crate::fault::{JournalFault, Wrong};
 use crate::writing::put_header;
-use console_text::{Line, parse_line, put_command, reply_text};
+use console_text::{Line, parse_fit, parse_line, put_command, reply_text};
 use core_1401::SIZES;
 use machine_notation::{put_digits, read_digits};
 use room_alone::{Answer, Command, Room, RoomFault};
@@ -254,7 +254,7 @@ fn split_command(alloc: Global, text: &[u8]) -> Result<(Command, &[u8]), Wrong>
     ensures ok { IfOk result (λ found. command_at text.now ≡ Ok (found.0, found.1.now)) }
     ensures why { IfErr result (IsWhy (command_at text.now)) }
 {
-    let Ok(Line::Command(command)) = parse_line(field(text)) else {
+    let Some(command) = command(field(text)) else {
         return Err(Wrong::Command);
     };
     let Ok(front) = command_front(alloc, &command) else {
@@ -263,6 +263,19 @@ fn split_command(alloc: Global, text: &[u8]) -> Result<(Command, &[u8]), Wrong>
     match text.strip_prefix(front.as_slice()) {
         Some(rest) => Ok((command, rest)),
         None => Err(Wrong::Command),
+    }
+}
+
+/// The command that a field has: what fits a machine, which no line at a console says, or a line's.
+fn command(text: &[u8]) -> Option<Command>
+    ensures { result ≡ command_in text.now }
+{
+    if let Some(features) = parse_fit(text) {
+        return Some(Command::Fit(features));
+    }
+    match parse_line(text) {
+        Ok(Line::Command(command)) => Some(command),
+        _ => None,
     }
 }
 

@@ -598,7 +598,8 @@ BC9:'branch at channel 9',BCV:'branch at channel 12',BSS:'branch by a sense swit
 BCE:'branch if the character is equal',SAR:'store the A register',SBR:'store the B register',
 NOP:'no operation',H:'halt',SS:'select a stacker',R:'read a card',W:'print a line',WM:'print word marks',
 P:'punch a card',WR:'print and read',RP:'read and punch',WP:'print and punch',WRP:'print, read and punch',
-CC:'control the carriage',
+CC:'control the carriage',M:'multiply',D:'divide',MCM:'move a record',MA:'modify an address',
+BBE:'branch if bits are equal',SRF:'start the read feed',SPF:'start the punch feed',
 },
 legendRead:'card read 001-080',legendPunch:'card punched 101-180',legendPrint:'line printed 201-332',
 legendNext:'next instruction',legendMark:'word mark',
@@ -900,7 +901,8 @@ BCV:'springen bei Kanal 12',BSS:'springen nach einem Schalter',BCE:'springen, we
 SAR:'A-Register speichern',SBR:'B-Register speichern',NOP:'keine Operation',H:'anhalten',
 SS:'Ablage w\xe4hlen',R:'Karte lesen',W:'Zeile drucken',WM:'Wortmarken drucken',P:'Karte stanzen',
 WR:'drucken und lesen',RP:'lesen und stanzen',WP:'drucken und stanzen',WRP:'drucken, lesen und stanzen',
-CC:'Vorschub steuern',
+CC:'Vorschub steuern',M:'multiplizieren',D:'dividieren',MCM:'Satz \xfcbertragen',MA:'Adresse \xe4ndern',
+BBE:'springen, wenn Bits gleich sind',SRF:'Lesevorschub ansto\xdfen',SPF:'Stanzvorschub ansto\xdfen',
 },
 legendRead:'gelesene Karte 001-080',legendPunch:'gestanzte Karte 101-180',legendPrint:'Druckzeile 201-332',
 legendNext:'n\xe4chster Befehl',legendMark:'Wortmarke',
@@ -1060,13 +1062,13 @@ replies:{
 'ERROR 5':'Nach dem Ende des Befehls kommt noch etwas.',
 'FAULT 1':'F\xfcr den n\xe4chsten Eintrag des Journals war kein Speicher da.',
 'FAULT 2':'Das Journal ist voll.',
-'FAULT 3':'Nicht ausgef\xfchrt: der Platz lie\xdf sich nicht mit dem Journal vergleichen.',
-'FAULT 4':'Die Datei des Journals l\xe4sst sich nicht schreiben.',
-'GLANCE FAULT 1':'Diese Stelle gibt es nicht.',
-'GLANCE FAULT 2':'Es gab nichts zu lesen.',"##;
+'FAULT 3':'Nicht ausgef\xfchrt: der Platz lie\xdf sich nicht mit dem Journal vergleichen.',"##;
 
 /// The rest of the page.
 pub const REST: &[u8] = br##"
+'FAULT 4':'Die Datei des Journals l\xe4sst sich nicht schreiben.',
+'GLANCE FAULT 1':'Diese Stelle gibt es nicht.',
+'GLANCE FAULT 2':'Es gab nichts zu lesen.',
 BYE:'Der Platz bleibt; die n\xe4chste Zeile nimmt ihn wieder ein.',
 },
 lines:[
@@ -3113,7 +3115,7 @@ begin();
 /// The `content-security-policy` of the page: its own script and style by their SHA-256, exchanges with its own server,
 /// and nothing else.
 pub const POLICY: &str = "default-src 'none'; \
-    script-src 'sha256-tqMbHj6xofwiHSZTpQ9YJ8jJ7aMctRWpeaDKCjL7ObU='; \
+    script-src 'sha256-EqLuMEp3NbmVffc/h1z37kOe3yk7c1AitIeNUnb8SqI='; \
     style-src 'sha256-59aFZCQciM0a7kK5TsM8yNoux63Ji81fTk2rUPrgvQE='; \
     img-src data:; \
     connect-src 'self'; \

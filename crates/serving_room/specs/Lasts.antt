@@ -6,7 +6,7 @@ use Rattle.machine_commands.specs.declared.command.Command.TheVariants as comman
 use Rattle.serving_room.specs.declared.last.Act.{Act}
 use Rattle.serving_room.specs.declared.last.Act.TheVariants.{Deposit, Examine, Registers, Start, Switch, Feed, Load}
 use Rattle.serving_room.specs.declared.last.Act.TheVariants.{Run}
-use Rattle.serving_room.specs.declared.last.Act.TheVariants.{Line, Card}
+use Rattle.serving_room.specs.declared.last.Act.TheVariants.{Line, Card, Fit}
 
 -- what a command does
 abbrev pub act_of : Command → Act
@@ -20,8 +20,9 @@ act_of command.LoadKey = Load
 act_of (command.Run limit) = Run limit
 act_of command.TakeLine = Line
 act_of command.TakeCard = Card
+act_of (command.Fit features) = Fit
 
--- the console's word for it; for a run also its limit
+-- the console's word for it, or a journal's where a console has none; for a run also its limit
 abbrev pub act_text : Act → List ℕ
 act_text Deposit = codes "DEPOSIT"
 act_text Examine = codes "EXAMINE"
@@ -33,3 +34,4 @@ act_text Load = codes "LOAD"
 act_text (Run limit) = codes "RUN " ++ digits_in 1 limit
 act_text Line = codes "LINE"
 act_text Card = codes "CARD"
+act_text Fit = codes "FIT"

@@ -29,6 +29,8 @@ pub(crate) enum Act {
     Line,
     /// A punched card was taken.
     Card,
+    /// The machine was fitted with features.
+    Fit,
 }
 
 /// The last command, and the seat that gave it.
@@ -61,10 +63,11 @@ pub(crate) fn act_of(command: &Command) -> Act
         Command::Run { limit } => Act::Run(*limit),
         Command::TakeLine => Act::Line,
         Command::TakeCard => Act::Card,
+        Command::Fit(_) => Act::Fit,
     }
 }
 
-/// Adds the console's word for it; for a run also its limit.
+/// Adds the console's word for it, or a journal's where a console has none; for a run also its limit.
 pub(crate) fn put_act(text: &mut Vec<u8>, act: Act) -> Result<(), AllocError>
     ensures { OnOk result (text.new.items ≡ text.old.items ++ act_text act) }
 {
@@ -82,5 +85,6 @@ pub(crate) fn put_act(text: &mut Vec<u8>, act: Act) -> Result<(), AllocError>
         }
         Act::Line => text.extend_from_slice(b"LINE"),
         Act::Card => text.extend_from_slice(b"CARD"),
+        Act::Fit => text.extend_from_slice(b"FIT"),
     }
 }

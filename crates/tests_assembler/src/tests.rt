@@ -2,5 +2,6 @@
 
 mod assembly;
 mod expecting;
+mod fitted;
 mod images;
 mod lines;

@@ -6,7 +6,7 @@ mod stop_reasons;
 mod traces;
 
 use bcd_1401::Cell;
-use cpu_1401::Machine;
+use cpu_1401::{Features, Machine};
 use machine_notation::read_cells;
 use std::fmt::{Debug, Display};
 use std::process::Abort;
@@ -66,5 +66,17 @@ fn machine_with(rt: &(impl Abort + AllocGlobal), from: u16, text: &[u8]) -> Mach
     let mut machine = machine_of(rt, 1_400);
     put_cells(rt, &mut machine, from, text);
     begin_at(rt, &mut machine, from);
+    machine
+}
+
+/// The same machine, fitted with these features.
+fn fitted_machine(
+    rt: &(impl Abort + AllocGlobal),
+    features: Features,
+    from: u16,
+    text: &[u8],
+) -> Machine {
+    let mut machine = machine_with(rt, from, text);
+    machine.fit(features);
     machine
 }

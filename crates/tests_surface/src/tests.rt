@@ -1,11 +1,14 @@
 //! What each of the eight crates shows. Nothing else is imported, for a user needs nothing else.
 
 mod assembler;
+mod blocks;
 mod characters;
 mod consoles;
 mod devices;
 mod fields;
+mod keeping;
 mod processor;
+mod products;
 mod rooms;
 mod storage;
 

@@ -3,6 +3,7 @@
 mod answers;
 mod commands;
 mod journals;
+mod keeping;
 mod lines;
 mod notation;
 

@@ -1,13 +1,14 @@
 //! Each call of the assembler on a source, worked out by hand. What it makes of others, and what it refuses and why, is
 //! shown by the program: the texts in `tests/sources/`, and `tests/test_assembling.py`.
 
-use super::expecting::{expect_bytes, expect_same, put_bytes};
+use super::expecting::{expect_bytes, expect_same, expect_warned, put_bytes, put_row};
 use autocoder_1401::{
-    AsmFault, AsmKind, Assembly, AssemblyTables, Cause, Explanation, Listing, Warning, WarningKind,
+    AsmFault, AsmKind, Assembly, AssemblyTables, Cause, Explanation, Listing, WarningKind,
     assemble, assemble_image, assemble_with_tables, explained_faults, faults, warnings,
 };
 use autocoder_statements::{Language, Stretch, size_asked};
 use machine_image::{Image, write_image};
+use machine_panel::Features;
 use std::process::Abort;
 
 /// The image and the listing of a plain source in 4,000 places.
@@ -159,11 +160,6 @@ fn the_image_beside_them_is_that_of_the_source(rt: HostRuntime) {
     expect_beside(&rt, source, start);
 }
 
-/// Adds a row to those that are told.
-fn put_row<T: Drop>(rt: &impl Abort, told: &mut Vec<T>, row: T) {
-    told.push(row).expect(rt, "room");
-}
-
 /// Compares faults with lines, and kinds of fault.
 fn expect_told(
     rt: &(impl Abort + AllocGlobal),
@@ -204,23 +200,11 @@ fn each_faulty_line_is_told(rt: HostRuntime) {
     expect_faults(&rt, b"     A         H\n               END  A\n", &[]);
 }
 
-/// Compares warnings with lines, and what they are about.
-fn expect_warned(
-    rt: &(impl Abort + AllocGlobal),
-    found: &[Warning],
-    wanted: &[(u64, WarningKind)],
-    source: &[u8],
-) {
-    let mut told = Vec::new(rt.alloc());
-    for warning in found {
-        put_row(rt, &mut told, (warning.line, warning.kind));
-    }
-    expect_same(rt, &told.as_slice(), &wanted, source);
-}
-
 /// Compares the warnings of a plain source: lines, and what they are about.
 fn expect_warnings(rt: &(impl Abort + AllocGlobal), source: &[u8], wanted: &[(u64, WarningKind)]) {
-    let found = warnings(rt.alloc(), Language::Plain, source, 4_000).expect(rt, "warnings");
+    let found = warnings(rt.alloc(), Language::Plain, source, 4_000, Features::NONE).expect(
+        rt, "warnings",
+    );
     expect_warned(rt, found.as_slice(), wanted, source);
 }
 

@@ -1,8 +1,8 @@
 //! The texts of the reasons, and the reasons of machines that stop.
 
-use super::{expect_bytes, expect_same, machine_with};
+use super::{expect_bytes, expect_same, fitted_machine, machine_with, put_cells};
 use bcd_1401::Char;
-use cpu_1401::{Machine, Stop};
+use cpu_1401::{Feature, Features, Machine, Stop};
 use job_stops::{FieldReason, Operand, Reason, Span, halt_address, reason_told, stop_reason};
 use std::process::Abort;
 
@@ -140,7 +140,10 @@ fn each_reason_of_operands_names_the_places(rt: HostRuntime) {
                 "from 003 down core has no 8 places, as many as the A field",
             ),
             (
-                FieldReason::NoAddressPlaces { at: 1 },
+                FieldReason::NoAddressPlaces {
+                    which: Operand::A,
+                    at: 1,
+                },
                 "from 001 down core has no 3 places for an address",
             ),
             (
@@ -233,16 +236,283 @@ fn a_machine_tells_why_it_stops(rt: HostRuntime) {
     );
 }
 
-/// Carries out the halt at 500 that a program begins with, and compares where it is found.
-fn expect_halt_found(rt: &(impl Abort + AllocGlobal), text: &[u8]) {
-    let mut machine = machine_with(rt, 500, text);
+/// Checks that a machine with these features, with these cells from a place on and a program at 600, stops so, and says
+/// this.
+fn fitted_tells(
+    rt: &(impl Abort + AllocGlobal),
+    features: Features,
+    fields: (u16, &[u8]),
+    text: &[u8],
+    stop: Stop,
+    told: &str,
+) {
+    let mut machine = fitted_machine(rt, features, 600, text);
+    put_cells(rt, &mut machine, fields.0, fields.1);
+    expect_reason(rt, &machine, stop, told);
+    expect_none_told(rt, &machine, Stop::Limit);
+}
+
+/// The same for each program, on a machine with all features.
+fn all_fitted_tell(rt: &(impl Abort + AllocGlobal), rows: &[(u16, &[u8], &[u8], Stop, &str)]) {
+    for (from, cells, text, stop, told) in rows {
+        fitted_tells(rt, Features::ALL, (*from, cells), text, *stop, told);
+    }
+}
+
+#[test]
+fn a_product_or_quotient_needs_its_places(rt: HostRuntime) {
+    all_fitted_tell(
+        &rt,
+        &[
+            (
+                700,
+                b"~123",
+                b"~@001715~.",
+                Stop::Address,
+                "no word mark from 001 down to 000 in the A field",
+            ),
+            // U50 is 1450.
+            (
+                700,
+                b"~123",
+                b"~@702U50~.",
+                Stop::Address,
+                "the B address 1450 isn't in core",
+            ),
+            (
+                700,
+                b"~123",
+                b"~@702003~.",
+                Stop::Address,
+                "core has no place for a multiplier 4 places left of 003",
+            ),
+            (
+                720,
+                b"~123",
+                b"~@722020~.",
+                Stop::Address,
+                "no word mark from 016 down to 000 in the multiplier",
+            ),
+            // One address is that of the multiplicand and of the product.
+            (
+                705,
+                b"~00000~0012",
+                b"~@713~.",
+                Stop::Overlap,
+                "the A field from 713 down to 710 and the product from 713 down to 705 overlap",
+            ),
+            (
+                700,
+                b"~12~0000145",
+                b"~%701708~.",
+                Stop::Address,
+                "no place from 708 up to the end of core has a zone that ends the dividend",
+            ),
+            (
+                700,
+                b"~12",
+                b"~%701U50~.",
+                Stop::Address,
+                "the B address 1450 isn't in core",
+            ),
+            (
+                1,
+                b"4E0~12",
+                b"~%005001~.",
+                Stop::Address,
+                "from 002 down core has no 4 places for rest and quotient",
+            ),
+            (
+                710,
+                b"~00014E",
+                b"~%715713~.",
+                Stop::Overlap,
+                "the A field from 715 down to 710 and rest and quotient from 715 down to 708 overlap",
+            ),
+        ],
+    );
+}
+
+#[test]
+fn records_addresses_and_branches_need_their_places(rt: HostRuntime) {
+    all_fitted_tell(
+        &rt,
+        &[
+            (
+                700,
+                b"ABC",
+                b"~P700710~.",
+                Stop::Address,
+                "moving from 700 to 710 comes to the end of core before a record mark or a group mark with a word mark",
+            ),
+            // A group mark without a word mark is none of them, and the record mark is past the last place at b.
+            (
+                700,
+                b"A\"BC'",
+                b"~P700T96~.",
+                Stop::Address,
+                "moving from 700 to 1396 comes to the end of core before a record mark or a group mark with a word mark",
+            ),
+            (
+                700,
+                b"A'",
+                b"~PU50700~.",
+                Stop::Address,
+                "the A address 1450 isn't in core",
+            ),
+            (
+                700,
+                b"001",
+                b"~#001702~.",
+                Stop::Address,
+                "from 001 down core has no 3 places for an address",
+            ),
+            (
+                700,
+                b"001",
+                b"~#702001~.",
+                Stop::Address,
+                "from 001 down core has no 3 places for an address",
+            ),
+            (
+                700,
+                b"001",
+                b"~#702U50~.",
+                Stop::Address,
+                "the B address 1450 isn't in core",
+            ),
+            (
+                700,
+                b"A",
+                b"~W800U50A~.",
+                Stop::Address,
+                "the B address 1450 isn't in core",
+            ),
+            (
+                700,
+                b"001",
+                b"~H001700~.",
+                Stop::Address,
+                "from 001 down core has no 3 places for an address",
+            ),
+            // The A register is 000 at power-on.
+            (
+                700,
+                b"001",
+                b"~Q~.",
+                Stop::Address,
+                "from 000 down core has no 3 places for an address",
+            ),
+        ],
+    );
+}
+
+#[test]
+fn a_feature_leaves_lengths_that_no_machine_has(rt: HostRuntime) {
+    all_fitted_tell(
+        &rt,
+        &[
+            (
+                700,
+                b"A",
+                b"~W12~.",
+                Stop::Length,
+                "the operation W has no instruction of 3 characters",
+            ),
+            (
+                700,
+                b"A",
+                b"~8000~.",
+                Stop::Length,
+                "the operation 8 has no instruction of 4 characters",
+            ),
+            (
+                700,
+                b"A",
+                b"~@7007101~.",
+                Stop::Length,
+                "the operation @ has no instruction of 8 or more characters",
+            ),
+            (
+                700,
+                b"A",
+                b"~X700710~.",
+                Stop::NotFitted,
+                "the operation X isn't fitted",
+            ),
+            (
+                700,
+                b"A",
+                b"~M%U1700R~.",
+                Stop::NotFitted,
+                "the operation M isn't fitted with 8 characters",
+            ),
+        ],
+    );
+    // Without the lengths a branch by bits has no chained form, and without its own feature it is none at all.
+    fitted_tells(
+        &rt,
+        Features::NONE.with(Feature::BitTest),
+        (700, b"A"),
+        b"~W~.",
+        Stop::Length,
+        "the operation W has no instruction of 1 character",
+    );
+    fitted_tells(
+        &rt,
+        Features::NONE.with(Feature::Lengths),
+        (700, b"A"),
+        b"~W~.",
+        Stop::NotFitted,
+        "the operation W isn't fitted",
+    );
+}
+
+#[test]
+fn a_branch_of_one_character_names_its_register(rt: HostRuntime) {
+    // An H of seven leaves its second address in the B register.
+    for text in [b"~H710U50~B~.".as_slice(), b"~H710U50~V~.", b"~H710U50~W~."] {
+        let mut machine = fitted_machine(&rt, Features::ALL, 600, text);
+        expect_same(&rt, &machine.step(), &None, text.escape_ascii());
+        expect_reason(
+            &rt,
+            &machine,
+            Stop::Address,
+            "the B address 1450 isn't in core",
+        );
+    }
+}
+
+/// Carries out the halt at 500 that a program of a machine with these features begins with, and compares where it is
+/// found.
+fn expect_halt_found(rt: &(impl Abort + AllocGlobal), features: Features, text: &[u8]) {
+    let mut machine = fitted_machine(rt, features, 500, text);
+    expect_same(
+        rt,
+        &stop_reason(&machine),
+        &Some(Reason::Halt),
+        text.escape_ascii(),
+    );
     expect_same(rt, &machine.step(), &Some(Stop::Halt), text.escape_ascii());
     expect_same(rt, &halt_address(&machine), &500, text.escape_ascii());
 }
 
 #[test]
 fn a_halt_is_found_again(rt: HostRuntime) {
-    expect_halt_found(&rt, b"~.~.");
-    expect_halt_found(&rt, b"~.500~.");
-    expect_halt_found(&rt, b"~.077~.");
+    for features in [Features::NONE, Features::ALL] {
+        expect_halt_found(&rt, features, b"~.~.");
+        expect_halt_found(&rt, features, b"~.500~.");
+        expect_halt_found(&rt, features, b"~.077~.");
+    }
+    for text in [
+        b"~.1~.".as_slice(),
+        b"~.12~.",
+        b"~.0771~.",
+        b"~.07712~.",
+        b"~.077500~.",
+        b"~.0775001~.",
+        b"~.07750012~.",
+    ] {
+        expect_halt_found(&rt, Features::ALL, text);
+    }
 }

@@ -2,9 +2,9 @@
 
 ghost use Rattle.std.specs.Prelude.{◌≡◌, length};
 
-use super::{expect_bytes, machine_with};
+use super::{expect_bytes, fitted_machine, machine_with};
 use bcd_1401::Char;
-use cpu_1401::Machine;
+use cpu_1401::{Features, Machine};
 use devices_1401::Card;
 use job_trace::{Snapshot, Work};
 use std::process::Abort;
@@ -150,6 +150,65 @@ fn each_kind_of_step_has_its_line(rt: HostRuntime) {
                 0,
                 NOTHING,
                 b"00600\tM610611  \tMCW  610,611        \t00000\t00000\tNOMARK\n",
+            ),
+        ],
+    );
+}
+
+/// Carries out one step of a program on a machine with all features, and compares its line with what is wanted.
+fn expect_fitted_lines(rt: &(impl Abort + AllocGlobal), rows: &[(&[u8], &[u8])]) {
+    for (cells, line) in rows {
+        let mut machine = fitted_machine(rt, Features::ALL, 600, cells);
+        let mut before = snapshot_of(rt, &machine);
+        expect_next(rt, &mut machine, &mut before, NOTHING, line);
+    }
+}
+
+#[test]
+fn an_operation_of_a_feature_has_its_mnemonic_and_what_it_changes(rt: HostRuntime) {
+    expect_fitted_lines(
+        &rt,
+        &[
+            // 3 times 7 is 21, in three places.
+            (
+                b"~@610614~.00~30~7  ",
+                b"00600\t~@610614 \tM    610,614        \t00609\t00611\t00612|~7  |~02A\n",
+            ),
+            // 21 by 3 is 07, and the rest 00.
+            (
+                b"~%610614~.00~30002A",
+                b"00600\t~%610614 \tD    610,614        \t00609\t00612\t00613|02A|G0?\n",
+            ),
+            // A character and the record mark.
+            (
+                b"~P610614~.00A'",
+                b"00600\t~P610614 \tMCM  610,614        \t00612\t00616\t00614|  |A'\n",
+            ),
+            // 001 added to 099.
+            (
+                b"~#612617~.0000100099",
+                b"00600\t~#612617 \tMA   612,617        \t00609\t00614\t00615|099|100\n",
+            ),
+            // A and C have both zones in common.
+            (
+                b"~W650610A~.0C",
+                b"00600\t~W650610A\tBBE  650,610,A      \t00650\t00608\n",
+            ),
+            (
+                b"~H612650~.00000",
+                b"00600\t~H612650 \tSBR  612,650        \t00609\t00650\t00610|00|65\n",
+            ),
+            (
+                b"~8~.",
+                b"00600\t~8       \tSRF                 \t00000\t00000\n",
+            ),
+            (
+                b"~.12~.",
+                b"00600\t~.12     \tH    12             \t00000\t00000\tHALT\n",
+            ),
+            (
+                b"~@610003~.00~30",
+                b"00600\t~@610003 \tM    610,003        \t00000\t00000\tADDRESS\n",
             ),
         ],
     );

@@ -1,9 +1,11 @@
-//! Commands that a machine refuses, worked out by hand.
+//! Commands that a machine refuses, and what it is fitted with, worked out by hand.
 
+use super::characters::char_of;
 use super::expecting::{expect_same_at, expect_text};
 use super::processor::machine_of;
-use bcd_1401::Char;
-use cpu_1401::Machine;
+use bcd_1401::{Cell, Char};
+use core_1401::Cells;
+use cpu_1401::{Feature, Features, Machine, Stop};
 use devices_1401::{Card, MOST_HELD};
 use machine_execution::{Answer, Command, Refusal, carry_out};
 use std::alloc::Global;
@@ -75,6 +77,47 @@ fn a_copy_is_a_machine_of_its_own(rt: HostRuntime) {
     expect_same_at(&rt, copy.regs().switches[1], false, "a copy");
     copy.copy_from(&machine);
     expect_same_at(&rt, copy.regs(), machine.regs(), "copied again");
+}
+
+/// A halt with a word mark.
+fn halt(rt: &impl Abort) -> Cell {
+    let char = char_of(rt, b'.');
+    Cell { char, mark: true }
+}
+
+/// A halt of two characters, and one after it.
+fn halt_of_two(rt: &impl Abort) -> Cells {
+    Cells::from_slice(&[halt(rt), Cell::BLANK, halt(rt)]).expect(rt, "three cells")
+}
+
+/// Fits a machine, and runs the halt at 500.
+fn expect_run(rt: &impl Abort, machine: &mut Machine, features: Features, ran: Answer) {
+    let address = 500;
+    expect_answer(rt, machine, Command::Fit(features), Answer::Done);
+    expect_same_at(rt, machine.features(), features, "fitted");
+    expect_answer(rt, machine, Command::SetI { address }, Answer::Done);
+    expect_answer(rt, machine, Command::Run { limit: 9 }, ran);
+}
+
+#[test]
+fn a_machine_is_fitted_at_any_time(rt: HostRuntime) {
+    let mut machine = machine_of(&rt, rt.alloc(), 1_400);
+    let (address, cells) = (500, halt_of_two(&rt));
+    let halt = Command::Deposit { address, cells };
+    expect_answer(&rt, &mut machine, halt, Answer::Done);
+    let lengths = Features::NONE.with(Feature::Lengths);
+    let bit_test = Features::NONE.with(Feature::BitTest);
+    for (features, steps, stop, i) in [
+        (Features::NONE, 0, Stop::Length, 500),
+        (lengths, 1, Stop::Halt, 502),
+        // What isn't named is taken out.
+        (bit_test, 0, Stop::Length, 500),
+        (Features::ALL, 1, Stop::Halt, 502),
+        (Features::NONE, 0, Stop::Length, 500),
+    ] {
+        let ran = Answer::Ran { steps, stop, i };
+        expect_run(&rt, &mut machine, features, ran);
+    }
 }
 
 /// Compares what is written of a refusal.

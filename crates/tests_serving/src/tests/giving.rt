@@ -4,6 +4,7 @@ ghost use Rattle.std.specs.Prelude.{◌≡◌};
 use crate::tests::lines::Lines;
 use crate::tests::{expect_same, expect_text};
 use room_1401::{Command, Entry, Opened, Room, RoomFault, RoomId, Seat, SharedRoom};
+use room_journal::read_journal;
 use serving_room::{GiveFault, foreign_seat, give_entries};
 use std::alloc::AllocGlobal;
 use std::marker::Brand;
@@ -108,6 +109,16 @@ fn each_command_is_given_by_its_seat_and_a_consoles_by_the_first(rt: HostRuntime
         [2, 2],
         "1\t1\tSTART 0701\tOK\n2\t2\tSTART 0702\tOK\n3\t1\tSTART 0700\tOK\n4\t2\tSTART 0702\tOK\n",
     );
+}
+
+#[test]
+fn what_fits_the_machine_is_given_again(rt: HostRuntime) {
+    let text = "JOURNAL1 4000\n1\t1\tFIT LENGTHS\tOK\n2\t2\tFIT NONE\tOK\n";
+    let room = read_journal(rt.alloc(), text.as_bytes()).expect(&rt, text);
+    let given = give_to_two(&rt, 99, room.journal());
+    expect_same(&rt, &(given.ended, given.made), &(Ok(()), [1, 1]), text);
+    let kept = "1\t1\tFIT LENGTHS\tOK\n2\t2\tFIT NONE\tOK\n";
+    expect_text(&rt, given.kept.text.as_slice(), kept);
 }
 
 #[test]

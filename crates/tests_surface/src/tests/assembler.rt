@@ -8,7 +8,7 @@ use autocoder_1401::{
 use std::process::Abort;
 
 /// Five and five are ten.
-const SOURCE: &str = "               ORG  400
+pub(super) const SOURCE: &str = "               ORG  400
      START     ZA   +5,TOTAL
                A    +5,TOTAL
                H    *-3
@@ -35,7 +35,7 @@ const LISTING: [&str; 9] = [
 ];
 
 /// Compares the lines of a listing.
-fn expect_listing(rt: &impl Abort, listing: &Listing) {
+pub(super) fn expect_listing(rt: &impl Abort, listing: &Listing) {
     let lines: &[ListingLine] = listing.as_slice();
     expect_same(rt, "lines", &lines.len(), &LISTING.len());
     for (line, wanted) in lines.iter().zip(LISTING.iter()) {
@@ -56,7 +56,7 @@ fn five_and_five(rt: &(impl Abort + AllocGlobal)) -> Image {
 }
 
 /// Compares an image with five and five.
-fn expect_image(rt: &(impl Abort + AllocGlobal), call: &str, image: &Image) {
+pub(super) fn expect_image(rt: &(impl Abort + AllocGlobal), call: &str, image: &Image) {
     let wanted = five_and_five(rt);
     let found = (image.size, image.start);
     expect_same(rt, call, &found, &(wanted.size, wanted.start));

@@ -1,7 +1,7 @@
 //! Characters and cells.
 
 use super::{cell_of, char_of, expect_same};
-use bcd_1401::{Cell, Char};
+use bcd_1401::{CODES, Cell, Char};
 use std::process::Abort;
 
 /// Compares the column and the place in the collating order of a graphic.
@@ -37,4 +37,13 @@ fn codes_zones_and_digits(rt: HostRuntime) {
     expect_same(&rt, "from_code", &Char::from_code(64), &None);
     let Cell { char, mark } = cell_of(&rt, b'5', true);
     expect_same(&rt, "a cell", &(char, mark), &(five, true));
+}
+
+#[test]
+fn blanks_and_digits(rt: HostRuntime) {
+    expect_same(&rt, "CODES", &CODES, &64);
+    expect_same(&rt, "Char::BLANK", &Char::BLANK, &char_of(&rt, b' '));
+    let blank = cell_of(&rt, b' ', false);
+    expect_same(&rt, "Cell::BLANK", &Cell::BLANK, &blank);
+    expect_same(&rt, "of_digit", &Char::of_digit(5, 2), &char_of(&rt, b'N'));
 }

@@ -2,13 +2,17 @@
 ghost use Rattle.std.specs.Prelude.{◌≡◌, ◌<◌};
 
 use super::assembler::IMAGE;
-use super::{cells_of, expect_same, expect_text};
-use autocoder_1401::read_image;
+use super::devices::card_of;
+use super::{cells_of, char_of, expect_same, expect_text};
+use autocoder_1401::{LentImage, lend_image, read_image};
 use console_1401::{
-    Failed, FromReader, Line, LineFault, OpenDoor, ServeFault, Served, SessionEnd, Sink, Source,
-    ToWriter, attend, parse_line, put_image, reply_text, serve, session,
+    Door, Failed, FromReader, Line, LineFault, OpenDoor, ServeFault, Served, SessionEnd, Sink,
+    Source, ToWriter, Unanswered, ahead_of, answer_line, attend, parse_line, put_image,
+    put_lent_image, reply_text, serve, session,
 };
-use room_1401::{Answer, Command, Opened, Room, RoomId, Seat, SharedRoom};
+use cpu_1401::{Machine, Stop};
+use devices_1401::PrintLine;
+use room_1401::{Answer, Command, Opened, Refusal, Room, RoomId, Seat, SharedRoom};
 use std::io::{Read, Write};
 use std::marker::Brand;
 use std::net::{Ipv4Addr, Net, Shutdown, TcpListener, TcpStream};
@@ -52,16 +56,47 @@ fn numbers_of_faults_and_ends(rt: HostRuntime) {
         SessionEnd::Write.number(),
         SessionEnd::Bound.number(),
         SessionEnd::Memory.number(),
+        SessionEnd::Unkept.number(),
     ];
-    expect_same(&rt, "number", &of_sessions, &[1, 2, 3, 4, 5, 6]);
+    expect_same(&rt, "number", &of_sessions, &[1, 2, 3, 4, 5, 6, 7]);
     let of_services = [ServeFault::Accept.number(), ServeFault::Thread.number()];
     expect_same(&rt, "number", &of_services, &[1, 2]);
+    assert!(rt; Unanswered::Memory != Unanswered::Unkept);
+}
+
+/// Compares the text of an answer.
+fn expect_reply(rt: &(impl Abort + AllocGlobal), answer: Answer, wanted: &str) {
+    let text = reply_text(rt.alloc(), &answer).expect(rt, "room");
+    expect_text(rt, "reply_text", text.as_slice(), wanted);
 }
 
 #[test]
-fn the_text_of_an_answer(rt: HostRuntime) {
-    let text = reply_text(rt.alloc(), &Answer::Cells(cells_of(&rt, "~0K"))).expect(&rt, "room");
-    expect_text(&rt, "reply_text", text.as_slice(), "~0K");
+fn the_texts_of_answers(rt: HostRuntime) {
+    let (form, line, text) = (1, 4, [char_of(&rt, b' '); 132]);
+    let (steps, stop, i) = (7, Stop::Reader, 41);
+    let refused = Answer::Refused(Refusal::Address);
+    expect_reply(&rt, Answer::Done, "OK");
+    expect_reply(&rt, Answer::Cells(cells_of(&rt, "~0K")), "~0K");
+    expect_reply(
+        &rt,
+        Answer::Ran { steps, stop, i },
+        "STOP 03 READER STEPS 7 I 00041",
+    );
+    expect_reply(
+        &rt,
+        Answer::Line(PrintLine { form, line, text }),
+        "LINE 0001 04 ",
+    );
+    expect_reply(&rt, Answer::Card(card_of(&rt, b' ')), "CARD ");
+    expect_reply(&rt, refused, "REFUSED 1 ADDRESS");
+}
+
+#[test]
+fn the_text_of_the_registers(rt: HostRuntime) {
+    let machine = Machine::power_on(rt.alloc(), 4_000).expect(&rt, "a machine");
+    let wanted = "I=00000 A=00000 B=00000 UNEQUAL=0 LOW=0 HIGH=0 OVERFLOW=0 SWITCHES=------- \
+                  HOPPER=000 STACKER=000 PAPER=000 FORM=0001 LINE=01";
+    expect_reply(&rt, Answer::Regs(machine.regs()), wanted);
 }
 
 #[test]
@@ -71,6 +106,13 @@ fn a_source_gives_byte_after_byte(rt: HostRuntime) {
     let second = reader.next_byte().expect(&rt, "an end");
     expect_same(&rt, "next_byte", &(first, second), &(Some(b'Q'), None));
     expect_same(&rt, "has_failed", &Source::has_failed(&reader), &false);
+}
+
+#[test]
+fn a_connection_is_read_ahead(rt: HostRuntime) {
+    let mut reader = FromReader::new(ahead_of(rt.alloc(), b"Q".as_slice()));
+    let first = reader.next_byte().expect(&rt, "a byte");
+    expect_same(&rt, "ahead_of", &first, &Some(b'Q'));
 }
 
 #[test]
@@ -109,23 +151,41 @@ fn an_image_is_put_into_a_room(rt: HostRuntime) {
     expect_same(&rt, "journal", &room.journal().len(), &4);
 }
 
-/// A seat that knows of one command, which put a K into place 500, after a console there.
+#[test]
+fn an_image_that_is_lent_is_put_into_a_room(rt: HostRuntime) {
+    let image: LentImage = lend_image(IMAGE.as_bytes()).expect(&rt, "an image");
+    let mut room = Room::power_on(rt.alloc(), image.size()).expect(&rt, "a room");
+    let put = put_lent_image(&mut room, &image);
+    expect_same(&rt, "put_lent_image", &put, &Ok(()));
+    expect_same(&rt, "journal", &room.journal().len(), &2);
+}
+
+/// A door of a user's own.
+struct Hall;
+
+impl Door for Hall {
+    fn before(&self, _seat: u8, _line: u64) {}
+
+    fn after(&self, _seat: u8, _line: u64) {}
+}
+
+/// A seat that knows of one command, which put a K into place 500, after a line and a console there.
 pub(super) fn attended<J: RoomId, R: Wait + Abort + AllocGlobal>(
     rt: &R,
     room: &SharedRoom<J, &R>,
-    seat: Seat<J>,
+    mut seat: Seat<J>,
 ) -> Seat<J> {
+    let reply = answer_line(rt.alloc(), rt, room, &mut seat, b"GLANCE 0500");
+    let reply: Result<Vec<u8>, Unanswered> = reply;
+    expect_text(
+        rt,
+        "answer_line",
+        reply.expect(rt, "a reply").as_slice(),
+        "AFTER 1 K\n",
+    );
     let mut reader = FromReader::new(b"GLANCE 0500\nQUIT\n".as_slice());
     let mut writer = ToWriter::new(Vec::new(rt.alloc()));
-    let (seat, end) = attend(
-        rt.alloc(),
-        rt,
-        room,
-        seat,
-        &mut reader,
-        &mut writer,
-        &OpenDoor,
-    );
+    let (seat, end) = attend(rt.alloc(), rt, room, seat, &mut reader, &mut writer, &Hall);
     expect_text(
         rt,
         "attend",

@@ -3,7 +3,8 @@
 use super::{char_of, expect_same};
 use bcd_1401::Char;
 use devices_1401::{
-    Card, ControlFault, Devices, FormsFull, HopperFull, PrintLine, ReaderEmpty, StackerFull,
+    CARD_COLUMNS, Card, ControlFault, Devices, FormsFull, Hole, HopperFull, MOST_HELD, Movement,
+    PrintLine, ReaderEmpty, Spaces, StackerFull,
 };
 use std::alloc::AllocError;
 use std::process::Abort;
@@ -128,4 +129,61 @@ fn numbers_of_control_faults(rt: HostRuntime) {
         ControlFault::Carriage.number(),
     ];
     expect_same(&rt, "number", &numbers, &[1, 2]);
+}
+
+/// Compares what is pending after this control.
+fn expect_pending(rt: &impl Abort, devices: &mut Devices, d: u8, wanted: Option<Movement>) {
+    expect_control(rt, devices, d, Ok(()));
+    expect_same(rt, "pending_movement", &devices.pending_movement(), &wanted);
+}
+
+#[test]
+fn movements_wait_for_the_next_print(rt: HostRuntime) {
+    let mut devices = devices_of(&rt);
+    for (d, spaces) in [
+        (b'/', Spaces::One),
+        (b'S', Spaces::Two),
+        (b'T', Spaces::Three),
+    ] {
+        expect_pending(&rt, &mut devices, d, Some(Movement::SpaceBy(spaces)));
+    }
+    for (d, hole) in [
+        (b'A', Hole::First),
+        (b'I', Hole::Ninth),
+        (b')', Hole::Twelfth),
+    ] {
+        expect_pending(&rt, &mut devices, d, Some(Movement::SkipTo(hole)));
+    }
+    let counts = [
+        Spaces::One.count(),
+        Spaces::Two.count(),
+        Spaces::Three.count(),
+    ];
+    expect_same(&rt, "count", &counts, &[1, 2, 3]);
+    let lines = [Hole::First.line(), Hole::Ninth.line(), Hole::Twelfth.line()];
+    expect_same(&rt, "line", &lines, &[4, 60, 63]);
+}
+
+/// Compares what is at the front of the hopper, at the back of the stacker, and on the paper.
+fn expect_ends(rt: &impl Abort, devices: &Devices) {
+    let card = Some(card_of(rt, b'A'));
+    expect_same(rt, "next_card", &devices.next_card(), &card);
+    expect_same(rt, "last_punched", &devices.last_punched(), &card);
+    let (form, line, text) = (1, 1, text_of(rt, b'A'));
+    let printed = Some(PrintLine { form, line, text });
+    expect_same(rt, "printed_line", &devices.printed_line(0), &printed);
+    expect_same(rt, "printed_line", &devices.printed_line(1), &None);
+}
+
+#[test]
+fn what_is_held_is_seen_and_copied(rt: HostRuntime) {
+    expect_same(&rt, "sizes", &(CARD_COLUMNS, MOST_HELD), &(80, 500));
+    let mut devices = devices_of(&rt);
+    expect_feed(&rt, &mut devices, Ok(()));
+    expect_punch(&rt, &mut devices, Ok(()));
+    expect_print(&rt, &mut devices, Ok(()));
+    expect_ends(&rt, &devices);
+    let mut copy = devices_of(&rt);
+    copy.copy_from(&devices);
+    expect_ends(&rt, &copy);
 }

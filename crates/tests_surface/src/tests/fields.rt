@@ -4,8 +4,11 @@ use super::expect_same;
 use super::storage::{core_of, deposit, expect_cells};
 use core_1401::Core;
 use fields_1401::{
-    Done, FieldStop, add, clear_down, clear_marks, compare, edit, load_chars, move_chars,
-    move_digit, move_zone, set_marks, subtract, suppress, zero_add, zero_subtract,
+    Done, FieldStop, Sign, add, add_within, clear_down, clear_marks, clear_marks_within, compare,
+    compare_within, count_replaceable, edit, load_chars, move_chars, move_chars_within, move_digit,
+    move_digit_within, move_zone, move_zone_within, set_marks, set_marks_within, step_down,
+    subtract, subtract_within, suppress, zero_add, zero_add_within, zero_subtract,
+    zero_subtract_within,
 };
 use std::process::Abort;
 
@@ -50,6 +53,32 @@ impl Operation {
             Operation::ClearDown => clear_down(core, b),
         }
     }
+
+    /// Makes the call that doesn't ask whether both places are in core, if there is one.
+    fn call_within(
+        self,
+        rt: &impl Abort,
+        core: &mut Core,
+        a: u16,
+        b: u16,
+    ) -> Result<Done, FieldStop> {
+        assert!(rt; a < 16_000 && b < 16_000 && core.in_core(a) && core.in_core(b));
+        match self {
+            Operation::Add => add_within(core, a, b),
+            Operation::Subtract => subtract_within(core, a, b),
+            Operation::ZeroAdd => zero_add_within(core, a, b),
+            Operation::ZeroSubtract => zero_subtract_within(core, a, b),
+            Operation::Compare => compare_within(core, a, b),
+            Operation::MoveChars => move_chars_within(core, a, b),
+            Operation::MoveDigit => Ok(move_digit_within(core, a, b)),
+            Operation::MoveZone => Ok(move_zone_within(core, a, b)),
+            Operation::SetMarks => Ok(set_marks_within(core, a, b)),
+            Operation::ClearMarks => Ok(clear_marks_within(core, a, b)),
+            Operation::Edit | Operation::Suppress | Operation::LoadChars | Operation::ClearDown => {
+                self.call(rt, core, a, b)
+            }
+        }
+    }
 }
 
 /// Cells from a place on.
@@ -88,13 +117,23 @@ const fn left_high(a: u16, b: u16) -> Result<Done, FieldStop> {
     })
 }
 
-/// Makes the call of a row, and compares what it leaves.
-fn expect_row(rt: &(impl Abort + AllocGlobal), row: &Row) {
-    let (operation, (a, b), [one, two], wanted, (from, text)) = *row;
+/// Core storage with cells at two places.
+fn core_with(rt: &(impl Abort + AllocGlobal), [one, two]: [Cells; 2]) -> Core {
     let mut core = core_of(rt, rt.alloc(), 4_000);
     deposit(rt, &mut core, one.0, one.1);
     deposit(rt, &mut core, two.0, two.1);
+    core
+}
+
+/// Makes the calls of a row, and compares what each leaves.
+fn expect_row(rt: &(impl Abort + AllocGlobal), row: &Row) {
+    let (operation, (a, b), before, wanted, (from, text)) = *row;
+    let mut core = core_with(rt, before);
     let found = operation.call(rt, &mut core, a, b);
+    expect_same(rt, text, &found, &wanted);
+    expect_cells(rt, text, &core, from, text);
+    let mut core = core_with(rt, before);
+    let found = operation.call_within(rt, &mut core, a, b);
     expect_same(rt, text, &found, &wanted);
     expect_cells(rt, text, &core, from, text);
 }
@@ -249,4 +288,15 @@ fn moves_and_marks(rt: HostRuntime) {
 fn numbers_of_field_stops(rt: HostRuntime) {
     let numbers = [FieldStop::Address.number(), FieldStop::Overlap.number()];
     expect_same(&rt, "number", &numbers, &[1, 2]);
+}
+
+#[test]
+fn registers_signs_and_control_words(rt: HostRuntime) {
+    expect_same(&rt, "step_down", &step_down(0, 1), &15_999);
+    assert!(rt; Sign::Plus != Sign::Minus);
+    let mut core = core_of(&rt, rt.alloc(), 4_000);
+    deposit(&rt, &mut core, 720, "~   ,  0.  &CR");
+    assert!(rt; core.in_core(732));
+    let count = count_replaceable(&core, 732, 13);
+    expect_same(&rt, "count_replaceable", &count, &8);
 }

@@ -2,9 +2,10 @@
 
 use super::devices::card_of;
 use super::{cell_of, cells_of, char_of, expect_same};
+use bcd_1401::Cell;
 use core_1401::CoreFault;
-use cpu_1401::{Machine, Ran, Regs, Stop};
-use devices_1401::{PrintLine, ReaderEmpty};
+use cpu_1401::{InstructionCells, Machine, Ran, Regs, Stop, instruction_cells, step_law};
+use devices_1401::{Hole, Movement, PrintLine, ReaderEmpty};
 use std::process::Abort;
 
 /// A machine with 4,000 places and the cells of a text from a place on, which is the next instruction's.
@@ -91,6 +92,36 @@ fn a_line_and_a_card_are_taken(rt: HostRuntime) {
     expect_same(&rt, "take_line", &machine.take_line(), &Some(printed));
     let punched = Some(card_of(&rt, b' '));
     expect_same(&rt, "take_card", &machine.take_card(), &punched);
+}
+
+/// Compares the cells of an instruction.
+fn expect_instruction(rt: &(impl Abort + AllocGlobal), call: &str, found: &[Cell], text: &str) {
+    expect_same(rt, call, &found, &cells_of(rt, text).as_slice());
+}
+
+#[test]
+fn the_instruction_that_is_next(rt: HostRuntime) {
+    let machine = machine_with(&rt, 600, "~,I9I~.");
+    let next: InstructionCells = machine.next_instruction().expect(&rt, "a word mark");
+    expect_instruction(&rt, "next_instruction", next.as_slice(), "~,I9I");
+    let found = instruction_cells(machine.core(), 604);
+    expect_instruction(&rt, "instruction_cells", found.as_slice(), "~.       ");
+}
+
+#[test]
+fn a_machine_is_copied(rt: HostRuntime) {
+    let mut machine = machine_with(&rt, 600, "~FI~.~.");
+    step_law();
+    expect_same(&rt, "step", &machine.step(), &None);
+    let mut copy = machine.copy(rt.alloc()).expect(&rt, "a copy");
+    let pending = Some(Movement::SkipTo(Hole::Ninth));
+    expect_same(&rt, "copy", &copy.pending_movement(), &pending);
+    expect_same(&rt, "step", &machine.step(), &Some(Stop::Halt));
+    assert!(rt; copy.core().size() == machine.core().size());
+    copy.copy_from(&machine);
+    expect_same(&rt, "copy_from", &copy.regs(), &machine.regs());
+    expect_same(&rt, "read_area", &copy.read_area(), &card_of(&rt, b' '));
+    expect_same(&rt, "devices", &copy.devices().line(), &1);
 }
 
 #[test]

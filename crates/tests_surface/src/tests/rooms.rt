@@ -5,7 +5,7 @@ use super::consoles::attended;
 use super::devices::card_of;
 use super::{cell_of, cells_of, expect_same};
 use core_1401::CoreFault;
-use cpu_1401::Stop;
+use cpu_1401::{Features, Stop};
 use room_1401::{
     Answer, CloseFault, Command, Entry, Glance, GlanceFault, Opened, Refusal, Room, RoomFault,
     RoomId, Seat, SharedRoom, StartFault, SwitchName, Told,
@@ -15,7 +15,7 @@ use std::process::Abort;
 use std::sync::Wait;
 
 /// Each command, and its answer at a new room.
-fn commands(rt: &(impl Abort + AllocGlobal)) -> [(Command, Answer); 12] {
+fn commands(rt: &(impl Abort + AllocGlobal)) -> [(Command, Answer); 13] {
     let cells = cells_of(rt, "~.~.");
     let (address, card) = (600, card_of(rt, b'A'));
     let (n, on) = (SwitchName::A, false);
@@ -40,6 +40,7 @@ fn commands(rt: &(impl Abort + AllocGlobal)) -> [(Command, Answer); 12] {
         (Command::Feed { card }, Answer::Done),
         (Command::TakeLine, Answer::Refused(Refusal::Empty)),
         (Command::TakeCard, Answer::Refused(Refusal::Empty)),
+        (Command::Fit(Features::ALL), Answer::Done),
     ]
 }
 
@@ -68,7 +69,7 @@ fn each_command_is_answered(rt: HostRuntime) {
     let rows = commands(&rt);
     expect_same(&rt, "reserve", &room.reserve(), &Ok(()));
     expect_answers(&rt, &mut room, rows.as_slice());
-    expect_same(&rt, "journal", &room.journal().len(), &12);
+    expect_same(&rt, "journal", &room.journal().len(), &13);
     expect_first(&rt, room.journal(), rows[0]);
     let regs = Answer::Regs(room.machine().regs());
     expect_same(&rt, "carry", &room.carry(0, Command::Registers), &Ok(regs));
@@ -95,8 +96,9 @@ fn numbers_of_faults(rt: HostRuntime) {
         RoomFault::Memory.number(),
         RoomFault::JournalFull.number(),
         RoomFault::NoReading.number(),
+        RoomFault::Unkept.number(),
     ];
-    expect_same(&rt, "number", &of_rooms, &[1, 2, 3]);
+    expect_same(&rt, "number", &of_rooms, &[1, 2, 3, 4]);
     let of_glances = [GlanceFault::Range.number(), GlanceFault::Gone.number()];
     expect_same(&rt, "number", &of_glances, &[1, 2]);
     let of_starts = [

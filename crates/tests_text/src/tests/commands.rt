@@ -2,8 +2,8 @@
 
 use super::{expect_same, expect_text, marked_zero_and_k};
 use bcd_1401::Char;
-use console_text::{Line, parse_line, put_command};
-use cpu_1401::SwitchName;
+use console_text::{Line, parse_fit, parse_line, put_command};
+use cpu_1401::{Feature, Features, SwitchName};
 use devices_1401::Card;
 use machine_execution::Command;
 use std::alloc::Global;
@@ -109,4 +109,61 @@ fn what_no_line_says_is_written_and_not_read(rt: HostRuntime) {
             (Command::Run { limit: 10_000_000 }, "RUN 10000000"),
         ],
     );
+}
+
+/// Writes what fits a machine, which must have this text, be read from it, and be no line.
+fn is_fit(rt: &impl Abort, alloc: Global, features: Features, text: &str) {
+    is_written(rt, alloc, &Command::Fit(features), text);
+    expect_same(rt, &parse_fit(text.as_bytes()), &Some(features), text);
+    is_not_read(rt, text);
+}
+
+#[test]
+fn what_fits_a_machine_has_its_text_and_no_line(rt: HostRuntime) {
+    let record = Features::NONE.with(Feature::MoveRecord);
+    let two = Features::NONE
+        .with(Feature::Lengths)
+        .with(Feature::Multiply);
+    is_fit(&rt, rt.alloc(), Features::NONE, "FIT NONE");
+    is_fit(&rt, rt.alloc(), record, "FIT MOVE-RECORD");
+    is_fit(&rt, rt.alloc(), two, "FIT MULTIPLY LENGTHS");
+    is_fit(
+        &rt,
+        rt.alloc(),
+        Features::ALL,
+        "FIT MULTIPLY MOVE-RECORD MODIFY-ADDRESS BIT-TEST LENGTHS READ-PUNCH-RELEASE",
+    );
+}
+
+/// Spellings that are none.
+const NO_FITS: [&str; 17] = [
+    "",
+    "FIT",
+    "FIT ",
+    "FITNONE",
+    " FIT NONE",
+    "FIT NONE ",
+    "FIT  NONE",
+    "fit none",
+    "FIT none",
+    "FIT LENGTHS MULTIPLY",
+    "FIT LENGTHS LENGTHS",
+    "FIT MULTIPLY  LENGTHS",
+    "FIT LENGTHS ",
+    "FIT LENGTHS NONE",
+    "FIT MULTIPLY,LENGTHS",
+    "FIT ALL",
+    "REGS",
+];
+
+/// Reads texts that fit no machine.
+fn are_no_fits(rt: &impl Abort, texts: &[&str]) {
+    for text in texts {
+        expect_same(rt, &parse_fit(text.as_bytes()), &None, text);
+    }
+}
+
+#[test]
+fn what_fits_a_machine_has_no_other_spelling(rt: HostRuntime) {
+    are_no_fits(&rt, &NO_FITS);
 }

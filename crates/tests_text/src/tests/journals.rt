@@ -1,9 +1,12 @@
 //! A small journal, written down by hand, and texts that are none.
 
 use super::{expect_same, expect_text, is_told};
+use cpu_1401::{Feature, Features};
+use machine_execution::Command;
 use room_alone::Room;
 use room_journal::{
-    JournalFault, View, Wrong, list_journal, read_journal, recover_journal, write_journal,
+    JournalFault, View, Wrong, carry_chosen, list_journal, read_journal, recover_journal,
+    write_journal,
 };
 use std::alloc::Global;
 use std::process::Abort;
@@ -18,6 +21,22 @@ const SESSION: &str = "JOURNAL1 1400\n\
     6\t255\tFEED  0\tOK\n\
     7\t0\tREGS\tI=00005 A=00000 B=00000 UNEQUAL=0 LOW=0 HIGH=0 OVERFLOW=0 SWITCHES=------G HOPPER=001 \
     STACKER=000 PAPER=000 FORM=0001 LINE=01\n";
+
+/// A machine that is fitted, halts at a length that it had not, and is fitted with nothing again.
+const FITTED: &str = "JOURNAL1 1400\n\
+    1\t1\tFIT MULTIPLY LENGTHS\tOK\n\
+    2\t0\tDEPOSIT 0500 ~. ~.\tOK\n\
+    3\t0\tSTART 0500\tOK\n\
+    4\t0\tRUN 2\tSTOP 02 HALT STEPS 1 I 00502\n\
+    5\t1\tFIT NONE\tOK\n\
+    6\t0\tSTART 0500\tOK\n\
+    7\t0\tRUN 2\tSTOP 08 LENGTH STEPS 0 I 00500\n";
+
+/// Its first lines.
+const FITTED_START: &str = "JOURNAL1 1400\n\
+    1\t1\tFIT MULTIPLY LENGTHS\tOK\n\
+    2\t0\tDEPOSIT 0500 ~. ~.\tOK\n\
+    3\t0\tSTART 0500\tOK\n";
 
 /// Writes the journal of a room of this size, which must be this text.
 fn is_written(rt: &impl Abort, alloc: Global, size: u16, room: &Room, text: &str) {
@@ -52,6 +71,54 @@ fn has_the_session(rt: &impl Abort, alloc: Global, room: &Room) {
 fn a_journal_is_read_and_written_again(rt: HostRuntime) {
     let room = room_of(&rt, rt.alloc(), SESSION);
     has_the_session(&rt, rt.alloc(), &room);
+}
+
+/// Compares what a room's machine is fitted with.
+fn is_fitted(rt: &impl Abort, room: &Room, features: Features, text: &str) {
+    expect_same(rt, &room.machine().features(), &features, text);
+}
+
+#[test]
+fn a_machine_is_fitted_by_its_journal(rt: HostRuntime) {
+    let room = room_of(&rt, rt.alloc(), FITTED);
+    has_entries(&rt, &room, 7, FITTED);
+    is_fitted(&rt, &room, Features::NONE, FITTED);
+    is_written(&rt, rt.alloc(), 1_400, &room, FITTED);
+    let room = room_of(&rt, rt.alloc(), FITTED_START);
+    has_entries(&rt, &room, 3, FITTED_START);
+    let two = Features::NONE
+        .with(Feature::Multiply)
+        .with(Feature::Lengths);
+    is_fitted(&rt, &room, two, FITTED_START);
+}
+
+/// Carries a command out for a seat.
+fn carry(rt: &impl Abort, room: &mut Room, seat: u8, command: Command) {
+    room.carry(seat, command).expect(rt, FITTED);
+}
+
+#[test]
+fn a_journal_goes_on_with_what_the_machine_is_fitted_with(rt: HostRuntime) {
+    let mut room = room_of(&rt, rt.alloc(), FITTED_START);
+    carry(&rt, &mut room, 0, Command::Run { limit: 2 });
+    carry(&rt, &mut room, 1, Command::Fit(Features::NONE));
+    carry(&rt, &mut room, 0, Command::SetI { address: 500 });
+    carry(&rt, &mut room, 0, Command::Run { limit: 2 });
+    is_written(&rt, rt.alloc(), 1_400, &room, FITTED);
+}
+
+/// The same without the first command.
+const WITHOUT_FIRST: &str = "JOURNAL1 1400\n\
+    1\t0\tDEPOSIT 0500 ~. ~.\tOK\n\
+    2\t0\tSTART 0500\tOK\n\
+    3\t0\tRUN 2\tSTOP 08 LENGTH STEPS 0 I 00500\n";
+
+#[test]
+fn what_fits_the_machine_is_left_out_as_any_command(rt: HostRuntime) {
+    let room = room_of(&rt, rt.alloc(), FITTED);
+    let plain = carry_chosen(rt.alloc(), 1_400, room.journal(), 4, &[1]).expect(&rt, FITTED);
+    is_fitted(&rt, &plain, Features::NONE, WITHOUT_FIRST);
+    is_written(&rt, rt.alloc(), 1_400, &plain, WITHOUT_FIRST);
 }
 
 /// Reads a journal without an entry, and writes it again.
@@ -137,6 +204,32 @@ fn the_first_wrong_line_is_told(rt: HostRuntime) {
             ("JOURNAL1 1400\n1\t0\tQUIT\tBYE\n", 2, Wrong::Command),
             ("JOURNAL1 1400\n1\t0\t\tOK\n", 2, Wrong::Command),
             ("JOURNAL1 1400\n1\t0\tEXAMINE 0005\t \n", 2, Wrong::Command),
+            ("JOURNAL1 1400\n1\t0\tFIT\tOK\n", 2, Wrong::Command),
+            ("JOURNAL1 1400\n1\t0\tFIT none\tOK\n", 2, Wrong::Command),
+            ("JOURNAL1 1400\n1\t0\tFIT NONE \tOK\n", 2, Wrong::Command),
+            (
+                "JOURNAL1 1400\n1\t0\tFIT NONE LENGTHS\tOK\n",
+                2,
+                Wrong::Command,
+            ),
+            (
+                "JOURNAL1 1400\n1\t0\tFIT LENGTHS MULTIPLY\tOK\n",
+                2,
+                Wrong::Command,
+            ),
+            ("JOURNAL1 1400\n1\t0\tFIT  LENGTHS\tOK\n", 2, Wrong::Command),
+            ("JOURNAL1 1400\n1\t0\tFIT LENGTHS\n", 2, Wrong::Command),
+            ("JOURNAL1 1400\n1\t0\tFIT LENGTHS\tok\n", 2, Wrong::Answer),
+            (
+                "JOURNAL1 1400\n1\t0\tFIT LENGTHS\tREFUSED 1 ADDRESS\n",
+                2,
+                Wrong::Answer,
+            ),
+            (
+                "JOURNAL1 1400\n1\t0\tFIT LENGTHS\tOK\n2\t0\tFIT TAPES\tOK\n",
+                3,
+                Wrong::Command,
+            ),
             ("JOURNAL1 1400\n1\t0\tSTART 0005\tok\n", 2, Wrong::Answer),
             ("JOURNAL1 1400\n1\t0\tSTART 0005\tOK \n", 2, Wrong::Answer),
             ("JOURNAL1 1400\n1\t0\tSTART 0005\t\n", 2, Wrong::Answer),
@@ -262,5 +355,16 @@ fn a_list_has_columns(rt: HostRuntime) {
             (None, 8, ""),
             (Some(7), 0, ""),
         ],
+    );
+    let fitted = room_of(&rt, rt.alloc(), FITTED);
+    are_listed(
+        &rt,
+        rt.alloc(),
+        &fitted,
+        &[(
+            Some(1),
+            1,
+            "1 seat 1  FIT MULTIPLY LENGTHS         OK\n5 seat 1  FIT NONE                     OK\n",
+        )],
     );
 }

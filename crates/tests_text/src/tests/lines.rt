@@ -107,6 +107,8 @@ fn a_line_has_its_first_fault(rt: HostRuntime) {
         &rt,
         &[
             ("HELLO", LineFault::Word),
+            ("FIT NONE", LineFault::Word),
+            ("FIT MULTIPLY LENGTHS", LineFault::Word),
             ("quit", LineFault::Word),
             ("QUIT\r", LineFault::Word),
             ("\tREGS", LineFault::Word),

@@ -14,4 +14,4 @@ returns-in-Ok-clause-loads c =
     let none : first_taken storage ≡ None = search rules in
     let chars : HaveChars (drop card_places storage) = subst HaveChars c.split_at.ensures.back c.in-Ok.ensures.chars in
     subst (λ (each : List ℕ). LoadsItself each (length storage) storage c.args.start) (sym text)
-    (loads_itself storage c.args.start c.requires.core none c.requires.start chars)
+    (loads_itself c.fitting_law.ensures storage c.args.start c.requires.core none c.requires.start chars)

@@ -1,10 +1,14 @@
 -- Before each line those so far are done, and no read has failed.
-use Rattle.std.proofs.Common.{◌≡◌, false}
-use Rattle.operate_console.specs.Line.{OperatedBy}
+use Rattle.std.proofs.Common.{◌≡◌, ◌≤◌, false}
+use Rattle.operate_console.specs.Line.{LinesSoFar}
+use Rattle.operate_console.specs.Run.{at_console}
 use Rattle.operate_console.proofs.operating.do_lines.Given as goal
 
 abbrev pub invariant-loop-line : goal.invariant-loop-line
 invariant-loop-line g l = record {
-  operated : OperatedBy l.program l.fn.sitting l.sitting;
+  so_far :
+      LinesSoFar l.program l.manner.limit (record { at = at_console l.fn.sitting l.fn.notebook; faults = 0 })
+      (record { at = at_console l.sitting l.notebook; faults = l.faults });
+  counted : l.faults ≤ l._line;
   good : g.R.Source.has_failed l.reader ≡ false;
 }

@@ -5,10 +5,9 @@ use Rattle.program_run.proofs.programs.program_of.Goals as goal
 
 pub returns-in-Ok-clause-source : goal.returns-in-Ok-clause-source
 returns-in-Ok-clause-source c = (
-  with_listing c.args.language c.args.text.now c.in-Ok.made.image,
+  with_listing c.args.language c.args.text.now c.in-Ok.image,
   subst (λ (size : ℕ). assembly_in c.args.language size c.args.text.now
-      ≡ Ok (with_listing c.args.language c.args.text.now c.in-Ok.made.image))
+      ≡ Ok (with_listing c.args.language c.args.text.now c.in-Ok.image))
       c.size_for.ensures.value c.in-Ok.ensures.exact,
   refl,
-  c.in-Ok.ensures.rows,
 )

@@ -1,8 +1,8 @@
 -- The text that is kept has the entry's line, or breaks off in it.
 use Rattle.std.proofs.Common.{◌≡◌, false, ap, sym, ◌∙◌, subst, arith, List, [], ◌∷◌, ◌++◌, length, length-append}
-use Rattle.room_alone.specs.Kept.{IsKeptAs}
+use Rattle.room_alone.specs.Kept.{IsKeptAs, LacksLast}
 use Rattle.room_alone.specs.declared.entry.Entry.{Entry}
-use Rattle.room_alone.proofs.KeptLemmas.{OneMore, kept_or_broken}
+use Rattle.room_alone.proofs.KeptLemmas.{kept_or_broken}
 use Rattle.room_1401.proofs.KeepingLemmas.{if_ok}
 use Rattle.room_1401.proofs.recording.carry_kept.Goals as goal
 
@@ -18,13 +18,12 @@ returns-clause-text g c =
     let last : Entry = c.new-entry.result in
     let journal : now ≡ room.journal ++ last ∷ [] =
     c.move_on-answer.ensures.recorded ∙ ap (λ (e : Entry). room.journal ++ e ∷ []) (sym c.new-entry.ensures) in
-    let more : OneMore form room.size c.args.number room.journal now last first kept = record {
-      before = c.requires.kept;
-      journal_is = journal;
-      number_is = omega (arith, c.requires.number, ap length journal, length-append room.journal (last ∷ []));
-    } in
+    let number : c.args.number ≡ length now =
+    omega (arith, c.requires.number, ap length journal, length-append room.journal (last ∷ [])) in
+    let more : LacksLast form room.size now last first kept =
+    record { front = room.journal; journal_is = journal; kept_is = c.requires.kept } in
     subst (λ n. IsKeptAs form n now failed first keeps) (sym c.move_on-answer.ensures.size)
-    (kept_or_broken form room.size c.args.number room.journal now last first kept keeps failed c.keep.result more
+    (kept_or_broken form room.size c.args.number now last first kept keeps failed c.keep.result more number
     c.keep.ensures.line c.keep.ensures.part c.keep.ensures.good c.keep.ensures.failed)
 
 -- no write has failed, if the entry is kept

@@ -1,0 +1,23 @@
+mod AddressExamples
+mod BorrowLemmas
+mod ColumnLemmas
+pub mod DivideLemmas
+mod DivisionLemmas
+mod ExampleCells
+mod FigureLemmas
+mod LawLemmas
+mod NumberLemmas
+mod OutsideLemmas
+mod PartLemmas
+mod PlainLemmas
+mod ProductExamples
+mod ProductLemmas
+mod QuotientExamples
+mod QuotientLemmas
+pub mod ReadLemmas
+mod RecordExamples
+mod RecordLemmas
+mod SubtractionLemmas
+mod TakenLemmas
+mod TermLemmas
+mod TwoNumberLemmas

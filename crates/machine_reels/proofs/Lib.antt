@@ -1,0 +1,12 @@
+pub mod AddLemmas
+pub mod BodyLemmas
+pub mod FrontLemmas
+pub mod GrammarLemmas
+pub mod HeldLemmas
+pub mod MoveLemmas
+pub mod ReadLemmas
+pub mod RecordLemmas
+pub mod ReelExamples
+pub mod ReelLemmas
+pub mod TapExamples
+pub mod WriteLemmas

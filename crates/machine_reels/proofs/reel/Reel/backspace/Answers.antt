@@ -1,0 +1,29 @@
+-- The record that was passed last is between two places of the head, or there is none.
+use Rattle.std.proofs.Common.{ap, sym, ◌∙◌, arith}
+use Rattle.machine_reels.specs.Reel.{Reel, after_backspace}
+use Rattle.machine_reels.proofs.MoveLemmas.{between_back}
+use Rattle.machine_reels.proofs.MoveLemmas.{at_start, moved_back, wound_low}
+use Rattle.machine_reels.proofs.reel.Reel.backspace.Goals as goal
+
+pub invariant_of-self : goal.invariant_of-self
+invariant_of-self c =
+    let reel = c.self.inside in
+    let last = c.last_start-self-inside in
+    wound_low reel.bytes.items last.result reel.head reel.end
+    (between_back reel.bytes.items c.deref.result.now reel.head reel.end last.result c.self.invariant
+    c.deref.ensures.value last.ensures.inside last.ensures.first last.ensures.others)
+
+pub returns-then-self-gt0 : goal.returns-then-self-gt0
+returns-then-self-gt0 c =
+    let reel = c.self.inside in
+    let last = c.last_start-self-inside in
+    moved_back reel.bytes.items last.result reel.head reel.end
+    (between_back reel.bytes.items c.deref.result.now reel.head reel.end last.result c.self.invariant
+    c.deref.ensures.value last.ensures.inside last.ensures.first last.ensures.others)
+    ∙ ap (λ (r : Reel). after_backspace r) c.self.view_is
+
+pub returns-else-self-gt0 : goal.returns-else-self-gt0
+returns-else-self-gt0 c =
+    let reel = c.self.inside in
+    sym c.self.view_is ∙ at_start reel.bytes.items reel.head reel.end (omega arith)
+    ∙ ap (λ (r : Reel). after_backspace r) c.self.view_is

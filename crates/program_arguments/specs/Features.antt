@@ -1,0 +1,32 @@
+-- The features that an option names (own).
+use Rattle.std.specs.Prelude.{ℕ, ◌||◌, Bool, List, [], codes, option_map, unwrap_or}
+use Rattle.std.specs.List.{list_any}
+use Rattle.std.specs.Str.{bytes_eq}
+use Rattle.clap.specs.Words.{matched_of, raw_values}
+use Rattle.clap.specs.declared.parser.matches.Found.{Found}
+use Rattle.machine_panel.specs.Features.{feature_name}
+use Rattle.machine_panel.specs.declared.features.Feature.{Feature}
+use Rattle.machine_panel.specs.declared.features.Feature.TheVariants.{Multiply, MoveRecord, ModifyAddress, BitTest}
+use Rattle.machine_panel.specs.declared.features.Feature.TheVariants.{Lengths, ReadPunchRelease}
+use Rattle.machine_panel.specs.declared.features.Features.{Features}
+
+-- a feature is named by its name, or among all
+abbrev pub is_named : List (List ℕ) → Feature → Bool
+is_named names feature =
+    list_any (λ each. bytes_eq each (codes "all")) names
+    || list_any (λ each. bytes_eq each (feature_name feature)) names
+
+abbrev pub features_named : List (List ℕ) → Features
+features_named names =
+    record {
+      multiply = is_named names Multiply;
+      move_record = is_named names MoveRecord;
+      modify_address = is_named names ModifyAddress;
+      bit_test = is_named names BitTest;
+      lengths = is_named names Lengths;
+      read_punch_release = is_named names ReadPunchRelease;
+    }
+
+-- what `--fit` names; without it there are none
+abbrev pub features_in : Found → Features
+features_in found = features_named (unwrap_or (option_map raw_values (matched_of found (codes "fit"))) [])

@@ -1,0 +1,177 @@
+//! The words of `run`, read by `clap`.
+ghost use Rattle.std.specs.Prelude.{◌≡◌, IfOk, OnOk, codes};
+ghost use Rattle.clap.specs.Words.{found_of};
+ghost use Rattle.program_arguments.specs.Options.{IsNameIn, IsNumberOr};
+ghost use Rattle.program_arguments.specs.Calls.{IsJob, IsRun};
+
+use crate::commands::{Session, Subcommand, refusal};
+use crate::features::{FIT, NAMED_TWICE, features_in};
+use crate::graphics::{GRAPHICS, OUT_GRAPHICS, SOURCE_GRAPHICS, graphics_by, graphics_in};
+use crate::languages::{LANGUAGE, language_in};
+use crate::options::{ANY_U32, Argument, FREE, Kind, TEXT, name_in};
+use crate::sizes::{SIZE, named_size_in};
+use crate::switches::{NO_LETTERS, SWITCHES, switches_in};
+use clap::{ArgMatches, Error};
+use machine_panel::Features;
+use program_call::{Call, Job, Start};
+use std::alloc::{AllocError, Global};
+
+/// The most instructions that are carried out if no number is named.
+const DEFAULT_LIMIT: u32 = 1_000_000_000;
+
+/// The most instructions that are carried out.
+pub(crate) const LIMIT: Argument = Argument {
+    name: "limit",
+    kind: Kind::Value("STEPS", ANY_U32, &["1000000000"]),
+    help: "The most instructions to carry out, up to 4294967295",
+    ..FREE
+};
+
+/// The arguments of `run`: its cards and the files that are written, and the program.
+const RUNNING: &[Argument] = &[
+    Argument {
+        name: "load",
+        kind: Kind::Flag,
+        help: "FILE is a deck: presses the load key, which reads its first card and starts there",
+        ..FREE
+    },
+    Argument {
+        name: "cards",
+        kind: Kind::Value("DECK", TEXT, &[]),
+        help: "The deck file, a card a line; its cards follow those of FILE if FILE is a deck",
+        ..FREE
+    },
+    Argument {
+        name: "punch",
+        kind: Kind::Value("OUT", TEXT, &[]),
+        help: "The file for the punched cards, which are otherwise only counted",
+        ..FREE
+    },
+    Argument {
+        name: "paper",
+        kind: Kind::Value("OUT", TEXT, &[]),
+        help: "The file for the paper, in place of standard output",
+        ..FREE
+    },
+    Argument {
+        name: "trace",
+        kind: Kind::Value("OUT", TEXT, &[]),
+        help: "The file for a trace: a line for each step, with what it changed",
+        ..FREE
+    },
+    Argument {
+        name: "image",
+        kind: Kind::Value("OUT", TEXT, &[]),
+        needs: &["load"],
+        help: "The file for the core image of what the deck has loaded when its program begins",
+        ..FREE
+    },
+    LANGUAGE,
+    GRAPHICS,
+    SOURCE_GRAPHICS,
+    OUT_GRAPHICS,
+    SIZE,
+    FIT,
+    LIMIT,
+    SWITCHES,
+    Argument {
+        name: "file",
+        kind: Kind::File,
+        is_required: true,
+        help: "The file: a source, an image or a deck; - is a name like any other",
+        ..FREE
+    },
+];
+
+/// The subcommand `run`.
+static RUN: Subcommand = Subcommand {
+    name: "run",
+    whole_name: "ibm1401 run",
+    about: "Runs a source or an image with a deck, from cards to paper",
+    session: Session::Nothing,
+    arguments: RUNNING,
+};
+
+/// A reference to it.
+pub(crate) fn run() -> &'static Subcommand {
+    &RUN
+}
+
+/// The most instructions that the options of a subcommand name.
+pub(crate) fn limit_in(matches: &ArgMatches<'_>) -> u32
+    ensures { IsNumberOr 32 (found_of matches.now) (codes "limit") 1000000000 result }
+{
+    matches.get_one("limit").unwrap_or(DEFAULT_LIMIT)
+}
+
+/// What the options of `run` ask for.
+pub(crate) fn run_call(alloc: Global, matches: &ArgMatches<'_>, file: &str) -> Result<Call, Error>
+    ensures { IfOk result (λ call. IsRun (found_of matches.now) file.now call) }
+{
+    match (switches_in(matches), features_in(matches)) {
+        (Some(switches), Some(features)) => {
+            Ok(Call::Run(job_in(alloc, matches, file, switches, features)?))
+        }
+        (None, _) => Err(refusal(alloc, run(), NO_LETTERS)?),
+        (Some(_), None) => Err(refusal(alloc, run(), NAMED_TWICE)?),
+    }
+}
+
+/// The job of a file, with these switches and features, that the options of `run` ask for.
+fn job_in(
+    alloc: Global,
+    matches: &ArgMatches<'_>,
+    file: &str,
+    switches: [bool; 7],
+    features: Features,
+) -> Result<Job, AllocError>
+    ensures { IfOk result (λ job. IsJob (found_of matches.now) file.now switches features job) }
+{
+    let start = if matches.get_flag("load") {
+        Start::LoadKey
+    } else {
+        Start::Entry
+    };
+    let mut job = Job {
+        file: String::from_str(alloc, file)?,
+        start,
+        cards: None,
+        punch: None,
+        paper: None,
+        trace: None,
+        image: None,
+        language: language_in(matches),
+        graphics: graphics_in(matches),
+        source_graphics: graphics_by(matches, "source-graphics"),
+        punch_graphics: graphics_by(matches, "out-graphics"),
+        size: named_size_in(matches),
+        limit: limit_in(matches),
+        switches,
+        features,
+    };
+    name_files(alloc, matches, &mut job)?;
+    Ok(job)
+}
+
+/// Names the files of a job that the options of `run` name.
+fn name_files(alloc: Global, matches: &ArgMatches<'_>, job: &mut Job) -> Result<(), AllocError>
+    ensures cards { OnOk result (IsNameIn (found_of matches.now) (codes "cards") job.new.cards) }
+    ensures punch { OnOk result (IsNameIn (found_of matches.now) (codes "punch") job.new.punch) }
+    ensures paper { OnOk result (IsNameIn (found_of matches.now) (codes "paper") job.new.paper) }
+    ensures trace { OnOk result (IsNameIn (found_of matches.now) (codes "trace") job.new.trace) }
+    ensures image { OnOk result (IsNameIn (found_of matches.now) (codes "image") job.new.image) }
+    ensures rest { OnOk result (job.new ≡ record job.old {
+      cards = job.new.cards;
+      punch = job.new.punch;
+      paper = job.new.paper;
+      trace = job.new.trace;
+      image = job.new.image;
+    }) }
+{
+    job.cards = name_in(alloc, matches, "cards")?;
+    job.punch = name_in(alloc, matches, "punch")?;
+    job.paper = name_in(alloc, matches, "paper")?;
+    job.trace = name_in(alloc, matches, "trace")?;
+    job.image = name_in(alloc, matches, "image")?;
+    Ok(())
+}

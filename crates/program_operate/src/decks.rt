@@ -1,0 +1,101 @@
+//! The decks that are there when a person sits down.
+ghost use Rattle.std.specs.Prelude.{◌≢◌, IfErr};
+
+use crate::fault::{OperateFault, unready};
+use devices_1401::{Card, MOST_HELD};
+use machine_graphics::Graphics;
+use operate_answers::put_deck;
+use program_run::{RunFault, list_cards, read_cards};
+use room_alone::{Command, OWN_SEAT, Room, RoomFault};
+use std::alloc::Global;
+use std::rt::Files;
+
+/// A deck, and the name of its file.
+#[derive(Drop)]
+pub(crate) struct NamedDeck {
+    name: String,
+    cards: Vec<Card>,
+}
+
+impl NamedDeck {
+    /// The deck of the file of this name, which has the graphics of the chain that was asked for.
+    ///
+    /// # Errors
+    ///
+    /// `Run`, as `run` reports it.
+    pub(crate) fn read(
+        rt: &(impl Files + Eprint + AllocGlobal),
+        name: String,
+        asked: Option<Graphics>,
+    ) -> Result<NamedDeck, OperateFault>
+        ensures { IfErr result (λ why. why ≢ OperateFault.Faulty) }
+    {
+        let Ok(label) = name.clone() else {
+            return Err(OperateFault::Run(RunFault::Memory));
+        };
+        let cards = match read_cards(rt, name, asked) {
+            Ok(cards) => cards,
+            Err(fault) => return Err(OperateFault::Run(fault)),
+        };
+        match list_cards(rt.alloc(), &cards) {
+            Ok(cards) => Ok(NamedDeck { name: label, cards }),
+            Err(_) => Err(OperateFault::Run(RunFault::Memory)),
+        }
+    }
+
+    /// Puts its cards into the hopper as long as there is room, and the others into the hand, and says so.
+    ///
+    /// # Errors
+    ///
+    /// `Hold` with `JournalFull` or `Memory`.
+    pub(crate) fn feed(
+        &self,
+        room: &mut Room,
+        hand: &mut Vec<Card>,
+        greeting: &mut Vec<u8>,
+    ) -> Result<(), OperateFault>
+        ensures { IfErr result (λ why. why ≢ OperateFault.Faulty) }
+    {
+        feed_cards(room, self.cards.as_slice(), hand)?;
+        let cards = self.cards.len() as u64;
+        match put_deck(
+            greeting,
+            self.name.as_bytes(),
+            cards,
+            room.machine(),
+            hand.len(),
+        ) {
+            Ok(()) => Ok(()),
+            Err(_) => Err(OperateFault::Run(RunFault::Memory)),
+        }
+    }
+}
+
+/// Puts cards into the hopper, and those for which it has no room into the hand. Once a card is in hand, so is each
+/// after it.
+fn feed_cards(room: &mut Room, cards: &[Card], hand: &mut Vec<Card>) -> Result<(), OperateFault>
+    ensures { IfErr result (λ why. why ≢ OperateFault.Faulty) }
+{
+    for card in cards {
+        if usize::from(room.machine().regs().hopper) < MOST_HELD {
+            carry(room, Command::Feed { card: *card })?;
+        } else if hand.push(*card).is_err() {
+            return Err(OperateFault::Run(RunFault::Memory));
+        }
+    }
+    Ok(())
+}
+
+/// Carries a command out, which is recorded.
+///
+/// # Errors
+///
+/// `Hold` with `JournalFull` or `Memory`.
+pub(crate) fn carry(room: &mut Room, command: Command) -> Result<(), OperateFault>
+    ensures { IfErr result (λ why. why ≢ OperateFault.Faulty) }
+{
+    match room.carry(OWN_SEAT, command) {
+        Ok(_) => Ok(()),
+        Err(fault) => Err(unready(fault)),
+    }
+}

@@ -1,0 +1,165 @@
+//! The files that a person names.
+
+use bytes_files::read_whole;
+use bytes_streams::put_all;
+use devices_1401::Card;
+use job_runner::DeckTextFault;
+use machine_graphics::Graphics;
+use operate_console::{Desk, FileFault};
+use program_run::{RunFault, list_cards, read_cards};
+use room_alone::Room;
+use room_files::{
+    Durability, JournalFile, JournalFileFault, KeepFault, MadeJournal, create_journal, read_room,
+};
+use std::fs::File;
+use std::rt::Files;
+use std::{fs, str};
+
+/// The files of a person, whose decks have the graphics of a chain.
+#[derive(Drop)]
+pub(crate) struct FileDesk<'a, R> {
+    rt: &'a R,
+    graphics: Option<Graphics>,
+    // The name of the journal's file; empty if it has none.
+    kept: &'a str,
+    transcript: Option<JournalFile>,
+}
+
+impl<'a, R: Files<File = File> + Eprint + AllocGlobal> FileDesk<'a, R> {
+    /// The files of the system. The journal's has this name, which is empty if it has none.
+    pub(crate) fn new(rt: &'a R, graphics: Option<Graphics>, kept: &'a str) -> FileDesk<'a, R> {
+        FileDesk {
+            rt,
+            graphics,
+            kept,
+            transcript: None,
+        }
+    }
+
+    /// A name that was typed.
+    fn name_of(&self, name: &[u8]) -> Result<String, FileFault> {
+        let Ok(name) = str::from_utf8(name) else {
+            return Err(FileFault::Unreadable);
+        };
+        match String::from_str(self.rt.alloc(), name) {
+            Ok(name) => Ok(name),
+            Err(_) => Err(FileFault::Memory),
+        }
+    }
+
+    /// A name that was typed, of a file that can be read to its end: neither a pipe nor a device, at which a read may
+    /// wait for ever.
+    fn name_to_read(&self, name: &[u8]) -> Result<String, FileFault> {
+        let name = self.name_of(name)?;
+        match fs::metadata(self.rt, name.as_str()) {
+            Ok(metadata) if metadata.is_file() => Ok(name),
+            Ok(_) => Err(FileFault::Irregular),
+            Err(_) => Err(FileFault::Unreadable),
+        }
+    }
+
+    /// A new file of this name.
+    fn make(&self, name: &[u8]) -> Result<MadeJournal, FileFault> {
+        match create_journal(self.rt, self.name_of(name)?, Durability::System) {
+            Ok(made) => Ok(made),
+            Err(fault) => Err(unmade(fault)),
+        }
+    }
+}
+
+/// Why a new file isn't made.
+fn unmade(fault: KeepFault) -> FileFault {
+    match fault {
+        KeepFault::File(_, JournalFileFault::Exists) => FileFault::Exists,
+        KeepFault::Memory => FileFault::Memory,
+        KeepFault::File(..) | KeepFault::Journal(..) | KeepFault::NoEntry(_) => {
+            FileFault::Unwritable
+        },
+    }
+}
+
+/// Why the cards of a file aren't read.
+fn no_deck(fault: RunFault) -> FileFault {
+    match fault {
+        RunFault::Deck(_, DeckTextFault::Graphic { line, .. })
+        | RunFault::Deck(_, DeckTextFault::Length { line }) => FileFault::Wrong { line },
+        RunFault::Memory => FileFault::Memory,
+        _ => FileFault::Unreadable,
+    }
+}
+
+/// Why the journal of a file isn't read.
+fn no_journal(fault: KeepFault) -> FileFault {
+    match fault {
+        KeepFault::Journal(_, fault) => FileFault::Wrong {
+            line: u64::from(fault.line),
+        },
+        KeepFault::Memory => FileFault::Memory,
+        KeepFault::File(..) | KeepFault::NoEntry(_) => FileFault::Unreadable,
+    }
+}
+
+impl<'a, R: Files<File = File> + Eprint + AllocGlobal> Desk for FileDesk<'a, R> {
+    fn lines(&mut self, name: &[u8]) -> Result<Vec<u8>, FileFault> {
+        let name = self.name_to_read(name)?;
+        match read_whole(self.rt, name.as_str()) {
+            Ok(lines) => Ok(lines),
+            Err(bytes_files::FileFault::Memory) => Err(FileFault::Memory),
+            Err(_) => Err(FileFault::Unreadable),
+        }
+    }
+
+    fn cards(&mut self, name: &[u8]) -> Result<Vec<Card>, FileFault> {
+        let name = self.name_to_read(name)?;
+        let cards = match read_cards(self.rt, name, self.graphics) {
+            Ok(cards) => cards,
+            Err(fault) => return Err(no_deck(fault)),
+        };
+        match list_cards(self.rt.alloc(), &cards) {
+            Ok(cards) => Ok(cards),
+            Err(_) => Err(FileFault::Memory),
+        }
+    }
+
+    fn journal(&mut self, name: &[u8]) -> Result<Room, FileFault> {
+        match read_room(self.rt, self.name_to_read(name)?) {
+            Ok(room) => Ok(room),
+            Err(fault) => Err(no_journal(fault)),
+        }
+    }
+
+    fn save(&mut self, name: &[u8], text: &[u8]) -> Result<(), FileFault> {
+        let MadeJournal { mut file, name } = self.make(name)?;
+        match put_all(&mut file, text) {
+            Ok(()) => Ok(()),
+            Err(_) => {
+                let _ = name.remove(self.rt);
+                Err(FileFault::Unwritable)
+            }
+        }
+    }
+
+    fn begin_transcript(&mut self, name: &[u8]) -> Result<(), FileFault> {
+        let made = self.make(name)?;
+        self.transcript = Some(made.file);
+        Ok(())
+    }
+
+    fn end_transcript(&mut self) {
+        self.transcript = None;
+    }
+
+    fn transcribe(&mut self, text: &[u8]) {
+        let Some(file) = &mut self.transcript else {
+            return;
+        };
+        if put_all(file, text).is_err() {
+            let _ = eprintln!(self.rt; "ibm1401: the transcript cannot be written, and ends here");
+            self.transcript = None;
+        }
+    }
+
+    fn kept_name(&self) -> &[u8] {
+        self.kept.as_bytes()
+    }
+}

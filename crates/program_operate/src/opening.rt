@@ -1,0 +1,262 @@
+//! The program of a file, and the room that it is loaded in.
+ghost use Rattle.std.specs.Prelude.{◌≡◌, ◌≢◌, false, IfErr, IfOk};
+ghost use Rattle.autocoder_listing.specs.Rows.{rows_of};
+ghost use Rattle.autocoder_listing.specs.SymbolTable.{symbols_in};
+ghost use Rattle.autocoder_symbols.specs.Reading.{lines_in};
+ghost use Rattle.machine_image.specs.Image.{IsInCore};
+ghost use Rattle.program_call.specs.Sizes.{is_refused};
+
+use crate::decks::NamedDeck;
+use crate::fault::{OperateFault, unready};
+use autocoder_1401::{AssemblyProgram, assemble_program};
+use autocoder_statements::Language;
+use console_1401::{put_features, put_image};
+use core_1401::CoreFault;
+use machine_graphics::{Graphics, Suggestion};
+use machine_panel::Features;
+use operate_program::Program;
+use program_call::{DEFAULT_SIZE, Start, is_refused, size_for};
+use program_run::{RunFault, is_image, read_program_text, report_source};
+use program_sessions::loaded_room;
+use room_alone::Room;
+use std::alloc::Global;
+use std::rt::Files;
+
+/// How the files of a person are read.
+#[derive(Clone, Copy)]
+pub(crate) struct Reading {
+    /// The language of a source, and of statements that are typed.
+    pub language: Language,
+    /// The chain whose graphics decks have.
+    pub decks: Option<Graphics>,
+    /// The chain whose graphics a source has.
+    pub source: Option<Graphics>,
+    /// How many places core storage has, if the file is no image.
+    pub size: Option<u16>,
+    /// What a new machine is fitted with, before all else.
+    pub features: Features,
+}
+
+/// A room at which a program is loaded; and the deck that loads itself, if that is the program.
+#[derive(Drop)]
+pub(crate) struct Opened {
+    /// The room.
+    pub room: Room,
+    /// What is known of the program.
+    pub program: Program,
+    /// The deck.
+    pub deck: Option<NamedDeck>,
+}
+
+/// A room at power-on.
+fn new_room(alloc: Global, size: u16) -> Result<Room, OperateFault>
+    ensures size { IfOk result (λ room. room.size ≡ size) }
+    ensures before { IfErr result (λ why. why ≢ OperateFault.Faulty) }
+{
+    match Room::power_on(alloc, size) {
+        Ok(room) => Ok(room),
+        Err(CoreFault::Size) => Err(OperateFault::Size),
+        Err(CoreFault::Memory) => Err(OperateFault::Run(RunFault::Memory)),
+    }
+}
+
+/// A room with nothing loaded, whose machine is fitted with these features.
+fn bare_room(alloc: Global, size: u16, features: Features) -> Result<Room, OperateFault>
+    ensures size { IfOk result (λ room. room.size ≡ size) }
+    ensures before { IfErr result (λ why. why ≢ OperateFault.Faulty) }
+{
+    let mut room = new_room(alloc, size)?;
+    match put_features(&mut room, features) {
+        Ok(()) => Ok(room),
+        Err(fault) => Err(unready(fault)),
+    }
+}
+
+/// A program whose source isn't known.
+pub(crate) fn sourceless(alloc: Global, reading: Reading) -> Program {
+    Program::without_source(alloc, reading.language)
+}
+
+/// The program of a source of this name. What is wrong with it is reported.
+///
+/// # Errors
+///
+/// `Run`, as `run` reports it.
+fn assembled(
+    rt: &(impl Eprint + AllocGlobal),
+    name: &str,
+    reading: Reading,
+    text: &[u8],
+    suggested: Option<Suggestion>,
+) -> Result<AssemblyProgram, OperateFault>
+    requires { is_refused reading.size ≡ false }
+    ensures in_core { IfOk result (λ made. IsInCore made.image) }
+    ensures rows { IfOk result (λ made. made.rows ≡ rows_of (lines_in reading.language text.now)) }
+    ensures symbols { IfOk result (λ made. made.symbols.items ≡ symbols_in (lines_in reading.language text.now)) }
+    ensures before { IfErr result (λ why. why ≢ OperateFault.Faulty) }
+{
+    let Reading { language, size, .. } = reading;
+    match assemble_program(rt.alloc(), language, text, size_for(size, language, text)) {
+        Ok(made) => {
+            report_source(rt, name, language, text, size, None, suggested);
+            Ok(made)
+        }
+        Err(fault) => {
+            report_source(rt, name, language, text, size, Some(fault), suggested);
+            Err(OperateFault::Run(RunFault::Source(fault)))
+        }
+    }
+}
+
+/// A room at which the program of a source is loaded.
+fn of_source(
+    rt: &(impl Eprint + AllocGlobal),
+    name: &str,
+    reading: Reading,
+    text: Vec<u8>,
+    suggested: Option<Suggestion>,
+) -> Result<Opened, OperateFault>
+    requires { is_refused reading.size ≡ false }
+    ensures { IfErr result (λ why. why ≢ OperateFault.Faulty) }
+{
+    let made = assembled(rt, name, reading, text.as_slice(), suggested)?;
+    let AssemblyProgram {
+        image,
+        rows,
+        symbols,
+    } = made;
+    let mut room = bare_room(rt.alloc(), image.size, reading.features)?;
+    match put_image(&mut room, &image) {
+        Ok(()) => {}
+        Err(fault) => return Err(unready(fault)),
+    }
+    Ok(Opened {
+        room,
+        program: Program::of_source(reading.language, text, rows, symbols),
+        deck: None,
+    })
+}
+
+/// A program's file that was read.
+#[derive(Drop)]
+struct ReadFile {
+    /// Its name.
+    name: String,
+    /// Its text: that of an image as it is, a source in this machine's graphics.
+    text: Vec<u8>,
+    /// Which chain the text may be for, if something shows it.
+    suggested: Option<Suggestion>,
+}
+
+/// The file of a program.
+///
+/// # Errors
+///
+/// `Run`, as `run` reports it.
+fn read_file(
+    rt: &(impl Files + AllocGlobal),
+    file: String,
+    reading: Reading,
+) -> Result<ReadFile, OperateFault>
+    ensures { IfErr result (λ why. why ≢ OperateFault.Faulty) }
+{
+    let Ok(name) = file.clone() else {
+        return Err(OperateFault::Run(RunFault::Memory));
+    };
+    match read_program_text(rt, file, reading.source) {
+        Ok((text, suggested)) => Ok(ReadFile {
+            name,
+            text,
+            suggested,
+        }),
+        Err(fault) => Err(OperateFault::Run(fault)),
+    }
+}
+
+/// A room at which the program of a file is loaded: a source, or an image.
+///
+/// # Errors
+///
+/// `Run` or `Hold`, as `run` and `load` report it.
+fn of_file(
+    rt: &(impl Files + Eprint + AllocGlobal),
+    file: String,
+    reading: Reading,
+) -> Result<Opened, OperateFault>
+    requires { is_refused reading.size ≡ false }
+    ensures { IfErr result (λ why. why ≢ OperateFault.Faulty) }
+{
+    let ReadFile {
+        name,
+        text,
+        suggested,
+    } = read_file(rt, file, reading)?;
+    if !is_image(text.as_slice()) {
+        return of_source(rt, name.as_str(), reading, text, suggested);
+    }
+    match loaded_room(rt.alloc(), text.as_slice(), reading.features) {
+        Ok(room) => Ok(Opened {
+            room,
+            program: sourceless(rt.alloc(), reading),
+            deck: None,
+        }),
+        Err(fault) => Err(OperateFault::Hold(fault)),
+    }
+}
+
+/// The labels of a source alone, next to a journal.
+///
+/// # Errors
+///
+/// `Size`; `Run`, as `run` reports it; `NoLabels` if the file has an image.
+pub(crate) fn labels_of(
+    rt: &(impl Files + Eprint + AllocGlobal),
+    file: String,
+    reading: Reading,
+) -> Result<Program, OperateFault>
+    ensures { IfErr result (λ why. why ≢ OperateFault.Faulty) }
+{
+    if is_refused(reading.size) {
+        return Err(OperateFault::Size);
+    }
+    let ReadFile {
+        name,
+        text,
+        suggested,
+    } = read_file(rt, file, reading)?;
+    if is_image(text.as_slice()) {
+        return Err(OperateFault::NoLabels(name));
+    }
+    let made = assembled(rt, name.as_str(), reading, text.as_slice(), suggested)?;
+    let AssemblyProgram { rows, symbols, .. } = made;
+    Ok(Program::of_source(reading.language, text, rows, symbols))
+}
+
+/// A room at which the program of a file is loaded; without a file it is at power-on.
+///
+/// # Errors
+///
+/// `Size`; `Run` or `Hold`, as `run` and `load` report it.
+pub(crate) fn open_room(
+    rt: &(impl Files + Eprint + AllocGlobal),
+    file: Option<String>,
+    start: Start,
+    reading: Reading,
+) -> Result<Opened, OperateFault>
+    ensures { IfErr result (λ why. why ≢ OperateFault.Faulty) }
+{
+    if is_refused(reading.size) {
+        return Err(OperateFault::Size);
+    }
+    let deck = match (file, start) {
+        (Some(file), Start::Entry) => return of_file(rt, file, reading),
+        (Some(file), Start::LoadKey) => Some(NamedDeck::read(rt, file, reading.decks)?),
+        (None, _) => None,
+    };
+    let size = reading.size.unwrap_or(DEFAULT_SIZE);
+    Ok(Opened {
+        room: bare_room(rt.alloc(), size, reading.features)?,
+        program: sourceless(rt.alloc(), reading),
+        deck,
+    })
+}

@@ -1,0 +1,261 @@
+//! A person's console, from its files to its end.
+ghost use Rattle.std.specs.Prelude.{◌≡◌, ◌≢◌, IfErr};
+ghost use Rattle.program_operate.specs.Outcome.{limit_at};
+
+use crate::beginning::{Around, Begun, around_again, begin};
+use crate::cutter::FileCutter;
+use crate::desk::FileDesk;
+use crate::fault::{OperateFault, ended};
+use crate::opening::Reading;
+use bytes_files::{FileFault, read_whole};
+use bytes_streams::{Source, ToWriter};
+use machine_graphics::Graphics;
+use operate_console::{Manner, Operated, Script, Terminal, operate};
+use operate_sitting::{Cutter, NothingKept, Sitting};
+use program_call::{NewJournal, Operating};
+use program_run::RunFault;
+use program_sessions::{HoldFault, durability_of, tell_cut};
+use room_alone::{Keeper, KeptRoom, NoKeeper};
+use room_files::{
+    Durability, JournalFile, KeepFault, MadeJournal, TakenUp, create_journal, keep_room,
+    take_up_journal, take_up_room,
+};
+use std::fs::File;
+use std::io;
+use std::marker::Brand;
+use std::rt::Files;
+
+/// What standard input and output are.
+#[derive(Clone, Copy, Debug, PartialEq, Eq)]
+pub struct Ends {
+    /// Whether a person types at standard input.
+    pub is_typed: bool,
+    /// Whether standard output shows colours.
+    pub has_colours: bool,
+}
+
+/// How a person is spoken to.
+fn manner_of(ends: Ends, echo: bool, limit: u32) -> Manner
+    ensures prompts { result.prompts ≡ ends.is_typed }
+    ensures limit { result.limit ≡ limit_at ends.is_typed limit }
+{
+    Manner {
+        prompts: ends.is_typed,
+        echo: echo && !ends.is_typed,
+        colour: ends.has_colours,
+        limit: if ends.is_typed { None } else { Some(limit) },
+    }
+}
+
+/// The lines of a file that come first, if one is named.
+///
+/// # Errors
+///
+/// `Run`, as `run` reports a file that can't be read.
+fn first_lines(
+    rt: &(impl Files + AllocGlobal),
+    name: Option<String>,
+) -> Result<Option<Script>, OperateFault>
+    ensures { IfErr result (λ why. why ≢ OperateFault.Faulty) }
+{
+    let Some(name) = name else {
+        return Ok(None);
+    };
+    match read_whole(rt, name.as_str()) {
+        Ok(text) => match Vec::from_slice(rt.alloc(), name.as_bytes()) {
+            Ok(name) => Ok(Some(Script { name, text })),
+            Err(_) => Err(OperateFault::Run(RunFault::Memory)),
+        },
+        Err(FileFault::Memory) => Err(OperateFault::Run(RunFault::Memory)),
+        Err(fault) => Err(OperateFault::Run(RunFault::File(name, fault))),
+    }
+}
+
+/// What a person has next to the room.
+#[derive(Drop)]
+struct Console {
+    manner: Manner,
+    graphics: Option<Graphics>,
+    first: Option<Script>,
+}
+
+/// Greets, and answers the lines of a person at a room, which a cutter's keeper keeps in the file of this name.
+///
+/// # Errors
+///
+/// `Run` for memory, `Hold` for how it ended, or `Faulty`.
+fn answer<
+    R: Files<File = File> + Print + Eprint + AllocGlobal,
+    K: Keeper + Drop,
+    C: Cutter<K>,
+    I: Source + Terminal,
+>(
+    rt: &R,
+    room: KeptRoom<K>,
+    around: Around,
+    cutter: &mut C,
+    kept: &str,
+    console: Console,
+    reader: &mut I,
+) -> Result<(), OperateFault> {
+    let Around {
+        program,
+        hand,
+        greeting,
+    } = around;
+    let Console {
+        manner,
+        graphics,
+        first,
+    } = console;
+    let mut sitting = match Sitting::new(rt.alloc(), room) {
+        Ok(sitting) => sitting,
+        Err(_) => return Err(OperateFault::Run(RunFault::Memory)),
+    };
+    if sitting.hold(hand).is_err() {
+        return Err(OperateFault::Run(RunFault::Memory));
+    }
+    let mut desk = FileDesk::new(rt, graphics, kept);
+    let mut writer = ToWriter::new(io::writer(rt));
+    let Operated { end, faults, .. } = operate(
+        rt.alloc(),
+        sitting,
+        &program,
+        &manner,
+        greeting.as_slice(),
+        first,
+        &mut desk,
+        cutter,
+        reader,
+        &mut writer,
+    );
+    ended(end, faults > 0 && !manner.prompts)
+}
+
+/// Keeps a room in a new file, and answers the lines of a person at it.
+fn answer_in_new<R: Files<File = File> + Print + Eprint + AllocGlobal, I: Source + Terminal>(
+    rt: &R,
+    begun: Begun,
+    journal: NewJournal,
+    console: Console,
+    reader: &mut I,
+) -> Result<(), OperateFault> {
+    let NewJournal { file, sync } = journal;
+    let Ok(label) = file.clone() else {
+        return Err(OperateFault::Run(RunFault::Memory));
+    };
+    let Begun { room, around } = begun;
+    let MadeJournal { file, name } = match create_journal(rt, file, durability_of(sync)) {
+        Ok(made) => made,
+        Err(fault) => return Err(OperateFault::Hold(HoldFault::Kept(fault))),
+    };
+    let kept = match keep_room::<Brand, JournalFile>(rt.alloc(), room, file) {
+        Ok(kept) => kept,
+        // The file has no journal.
+        Err(fault) => {
+            let fault = KeepFault::of_text(name.remove(rt), fault);
+            return Err(OperateFault::Hold(HoldFault::Kept(fault)));
+        }
+    };
+    let mut cutter = FileCutter::new(rt, label.as_str());
+    answer(
+        rt,
+        kept,
+        around,
+        &mut cutter,
+        label.as_str(),
+        console,
+        reader,
+    )
+}
+
+/// Goes on with the journal of a file, in the same file.
+fn go_on<R: Files<File = File> + Print + Eprint + AllocGlobal, I: Source + Terminal>(
+    rt: &R,
+    file: String,
+    source: Option<String>,
+    reading: Reading,
+    console: Console,
+    reader: &mut I,
+) -> Result<(), OperateFault> {
+    let Ok(label) = file.clone() else {
+        return Err(OperateFault::Run(RunFault::Memory));
+    };
+    let TakenUp {
+        room,
+        file,
+        cut,
+        ..
+    } = match take_up_journal(rt, file, Durability::System) {
+        Ok(taken) => taken,
+        Err(fault) => return Err(OperateFault::Hold(HoldFault::Kept(fault))),
+    };
+    tell_cut(rt, cut);
+    let around = around_again(rt, &room, label.as_str(), source, reading)?;
+    // What the file had before is unknown, and so is what it has.
+    let kept = take_up_room::<Brand, JournalFile>(rt.alloc(), room, file);
+    let mut cutter = FileCutter::new(rt, label.as_str());
+    answer(
+        rt,
+        kept,
+        around,
+        &mut cutter,
+        label.as_str(),
+        console,
+        reader,
+    )
+}
+
+/// Answers the lines of a person at a new machine, or at that of a journal. If it is Ok, all lines were done that came
+/// before `quit` or the end of the input; and if no person types them, none had a fault.
+///
+/// # Errors
+///
+/// `Size`; `Run` or `Hold` as `run` and `console` report it; `NoLabels`; or `Faulty`, as above.
+pub fn operate_at<R: Files<File = File> + Print + Eprint + AllocGlobal, I: Source + Terminal>(
+    rt: &R,
+    asked: Operating,
+    ends: Ends,
+    reader: &mut I,
+) -> Result<(), OperateFault> {
+    let Operating {
+        file,
+        start,
+        cards,
+        switches,
+        journal,
+        resumed,
+        language,
+        graphics,
+        source_graphics,
+        size,
+        script,
+        echo,
+        limit,
+        features,
+    } = asked;
+    let reading = Reading {
+        language,
+        decks: graphics,
+        source: source_graphics,
+        size,
+        features,
+    };
+    let console = Console {
+        manner: manner_of(ends, echo, limit),
+        graphics,
+        first: first_lines(rt, script)?,
+    };
+    if let Some(resumed) = resumed {
+        return go_on(rt, resumed, file, reading, console, reader);
+    }
+    let begun = begin(rt, file, start, cards, switches, reading)?;
+    match journal {
+        Some(journal) => answer_in_new(rt, begun, journal, console, reader),
+        None => {
+            let Begun { room, around } = begun;
+            let kept = KeptRoom::new(room, NoKeeper);
+            answer(rt, kept, around, &mut NothingKept, "", console, reader)
+        }
+    }
+}
