@@ -491,9 +491,9 @@ class LongRuns(Browser):
 
     def test_it_pauses_when_the_journal_is_nearly_full(self):
         self.begin(0)
-        # In turn: a look that is under way puts its own picture there first.
-        self.page.value("""inTurn(async () => {
-            look = async () => true, view.picture = {...view.picture, after: 95000};
+        # No look is asked for from here on; one that is under way puts its own picture there first.
+        self.page.value("""look = async () => true, inTurn(async () => {
+            view.picture = {...view.picture, after: 95000};
             return 0;
         })""")
         self.shows("it pauses", "run === null && byId('said-words').textContent.startsWith('Paused after')")
