@@ -1,6 +1,6 @@
 //! A person's console, from its files to its end.
-ghost use Rattle.std.specs.Prelude.{◌≡◌, ◌≢◌, IfErr};
-ghost use Rattle.program_operate.specs.Outcome.{limit_at};
+ghost use Rattle.std.specs.Prelude.{◌≡◌, ◌≢◌, ◌&&◌, nat_lt, not, Err, IfErr, OnOk};
+ghost use Rattle.program_operate.specs.Outcome.{Sat, limit_at, outcome};
 
 use crate::beginning::{Around, Begun, around_again, begin};
 use crate::cutter::FileCutter;
@@ -9,8 +9,10 @@ use crate::fault::{OperateFault, ended};
 use crate::opening::Reading;
 use bytes_files::{FileFault, read_whole};
 use bytes_streams::{Source, ToWriter};
+use devices_1401::Card;
 use machine_graphics::Graphics;
-use operate_console::{Manner, Operated, Script, Terminal, operate};
+use operate_console::{Desk, Manner, Operated, Script, Terminal, operate};
+use operate_program::Program;
 use operate_sitting::{Cutter, NothingKept, Sitting};
 use program_call::{NewJournal, Operating};
 use program_run::RunFault;
@@ -20,6 +22,7 @@ use room_files::{
     Durability, JournalFile, KeepFault, MadeJournal, TakenUp, create_journal, keep_room,
     take_up_journal, take_up_room,
 };
+use std::alloc::Global;
 use std::fs::File;
 use std::io;
 use std::marker::Brand;
@@ -79,6 +82,81 @@ struct Console {
     first: Option<Script>,
 }
 
+/// A sitting at a room, with these cards in hand.
+///
+/// # Errors
+///
+/// `Run` for memory.
+fn sit_down<K: Keeper + Drop>(
+    alloc: Global,
+    room: KeptRoom<K>,
+    hand: Vec<Card>,
+) -> Result<Sitting<K>, OperateFault>
+    ensures { IfErr result (λ why. why ≢ OperateFault.Faulty) }
+{
+    let mut sitting = match Sitting::new(alloc, room) {
+        Ok(sitting) => sitting,
+        Err(_) => return Err(OperateFault::Run(RunFault::Memory)),
+    };
+    match sitting.hold(hand) {
+        Ok(()) => Ok(sitting),
+        Err(_) => Err(OperateFault::Run(RunFault::Memory)),
+    }
+}
+
+/// What the end of a sitting means for the program.
+///
+/// # Errors
+///
+/// As those of `ended`.
+fn outcome_of<K: Keeper + Drop>(operated: Operated<K>, is_typed: bool) -> Result<(), OperateFault>
+    ensures { result ≡ outcome (nat_lt 0 operated.faults && not is_typed) operated.end }
+{
+    let Operated { end, faults, .. } = operated;
+    ended(end, faults > 0 && !is_typed)
+}
+
+/// Greets, and answers the lines of a person at a sitting, after those of a file.
+///
+/// # Errors
+///
+/// As those of `ended`.
+#[tactic(auto, using(crate::proofs::OutcomeLemmas::sat))]
+fn answer_lines<
+    R: Print + AllocGlobal,
+    K: Keeper + Drop,
+    C: Cutter<K>,
+    D: Desk,
+    I: Source + Terminal,
+>(
+    rt: &R,
+    sitting: Sitting<K>,
+    program: &Program,
+    manner: &Manner,
+    greeting: &[u8],
+    first: Option<Script>,
+    desk: &mut D,
+    cutter: &mut C,
+    reader: &mut I,
+) -> Result<(), OperateFault>
+    ensures { Sat manner.now.prompts manner.now.limit result }
+{
+    let mut writer = ToWriter::new(io::writer(rt));
+    let operated = operate(
+        rt.alloc(),
+        sitting,
+        program,
+        manner,
+        greeting,
+        first,
+        desk,
+        cutter,
+        reader,
+        &mut writer,
+    );
+    outcome_of(operated, manner.prompts)
+}
+
 /// Greets, and answers the lines of a person at a room, which a cutter's keeper keeps in the file of this name.
 ///
 /// # Errors
@@ -97,7 +175,10 @@ fn answer<
     kept: &str,
     console: Console,
     reader: &mut I,
-) -> Result<(), OperateFault> {
+) -> Result<(), OperateFault>
+    ensures ok { OnOk result (Sat console.manner.prompts console.manner.limit result) }
+    ensures faulty { result ≡ Err OperateFault.Faulty → Sat console.manner.prompts console.manner.limit result }
+{
     let Around {
         program,
         hand,
@@ -108,17 +189,13 @@ fn answer<
         graphics,
         first,
     } = console;
-    let mut sitting = match Sitting::new(rt.alloc(), room) {
+    let sitting = match sit_down(rt.alloc(), room, hand) {
         Ok(sitting) => sitting,
-        Err(_) => return Err(OperateFault::Run(RunFault::Memory)),
+        Err(fault) => return Err(fault),
     };
-    if sitting.hold(hand).is_err() {
-        return Err(OperateFault::Run(RunFault::Memory));
-    }
     let mut desk = FileDesk::new(rt, graphics, kept);
-    let mut writer = ToWriter::new(io::writer(rt));
-    let Operated { end, faults, .. } = operate(
-        rt.alloc(),
+    answer_lines(
+        rt,
         sitting,
         &program,
         &manner,
@@ -127,9 +204,7 @@ fn answer<
         &mut desk,
         cutter,
         reader,
-        &mut writer,
-    );
-    ended(end, faults > 0 && !manner.prompts)
+    )
 }
 
 /// Keeps a room in a new file, and answers the lines of a person at it.
@@ -139,7 +214,10 @@ fn answer_in_new<R: Files<File = File> + Print + Eprint + AllocGlobal, I: Source
     journal: NewJournal,
     console: Console,
     reader: &mut I,
-) -> Result<(), OperateFault> {
+) -> Result<(), OperateFault>
+    ensures ok { OnOk result (Sat console.manner.prompts console.manner.limit result) }
+    ensures faulty { result ≡ Err OperateFault.Faulty → Sat console.manner.prompts console.manner.limit result }
+{
     let NewJournal { file, sync } = journal;
     let Ok(label) = file.clone() else {
         return Err(OperateFault::Run(RunFault::Memory));
@@ -177,7 +255,10 @@ fn go_on<R: Files<File = File> + Print + Eprint + AllocGlobal, I: Source + Termi
     reading: Reading,
     console: Console,
     reader: &mut I,
-) -> Result<(), OperateFault> {
+) -> Result<(), OperateFault>
+    ensures ok { OnOk result (Sat console.manner.prompts console.manner.limit result) }
+    ensures faulty { result ≡ Err OperateFault.Faulty → Sat console.manner.prompts console.manner.limit result }
+{
     let Ok(label) = file.clone() else {
         return Err(OperateFault::Run(RunFault::Memory));
     };
@@ -217,7 +298,11 @@ pub fn operate_at<R: Files<File = File> + Print + Eprint + AllocGlobal, I: Sourc
     asked: Operating,
     ends: Ends,
     reader: &mut I,
-) -> Result<(), OperateFault> {
+) -> Result<(), OperateFault>
+    ensures ok { OnOk result (Sat ends.is_typed (limit_at ends.is_typed asked.limit) result) }
+    ensures faulty { result ≡ Err OperateFault.Faulty
+        → Sat ends.is_typed (limit_at ends.is_typed asked.limit) result }
+{
     let Operating {
         file,
         start,
