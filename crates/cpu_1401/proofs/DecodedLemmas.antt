@@ -11,6 +11,7 @@ use Rattle.bcd_1401.specs.Character.{zone_of}
 use Rattle.bcd_1401.specs.declared.cell.Cell.{Cell}
 use Rattle.core_1401.specs.Address.{effective_at, indexed_by, value_of}
 use Rattle.core_1401.specs.EightCells.{AreEightCells, codes_at}
+use Rattle.core_1401.specs.Field.{next_mark_from}
 use Rattle.core_1401.specs.Storage.{Storage, blank, cell_at}
 use Rattle.cpu_1401.specs.declared.decoded.Address.{Address}
 use Rattle.cpu_1401.specs.declared.decoded.Decoded.{Decoded}
@@ -67,7 +68,7 @@ same_cells s t at to codes marks s_in t_in a b =
     }
 
 -- one of them by its place
-same_at : (s t : Storage) (at to i p q : ℕ) → Alike s t at to → i < 8 → p ≡ at + i → q ≡ to + i
+pub same_at : (s t : Storage) (at to i p q : ℕ) → Alike s t at to → i < 8 → p ≡ at + i → q ≡ to + i
     → cell_at s p ≡ cell_at t q
 same_at s t at to i p q alike lt e f = ap (cell_at s) e ∙ alike.cells i lt ∙ ap (cell_at t) (sym f)
 
@@ -91,13 +92,9 @@ same_first (suc n) (x ∷ xs) (y ∷ ys) in_xs in_ys same =
     let first : x.mark ≡ y.mark = same 0 (omega arith) in
     ap (λ (c : Bool). min (suc n) (cond (not c) (1 + k) 0)) first ∙ counted n k l y.mark rest
 
--- the length of an instruction is that of its cells
-same_length : (s t : Storage) (at to : ℕ) (operation : Operation) → Alike s t at to → longest_at s operation at ≤ 8
-    → length_at s operation at ≡ length_at t operation to
-same_length s t at to operation alike most =
-    let fifth : cell_at s (at + 4) ≡ cell_at t (to + 4) = alike.cells 4 (omega arith) in
-    let longest : longest_at s operation at ≡ longest_at t operation to =
-    ap (λ (cell : Cell). (form_of operation).longest cell.char) fifth in
+-- the next word mark is looked for among eight cells
+pub same_next : (s t : Storage) (at to : ℕ) → Alike s t at to → min 8 (next_mark_from s at) ≡ min 8 (next_mark_from t to)
+same_next s t at to alike =
     let in_s : 7 ≤ length (drop (at + 1) s) = omega (arith, length-drop (at + 1) s, alike.s_inside) in
     let in_t : 7 ≤ length (drop (to + 1) t) = omega (arith, length-drop (to + 1) t, alike.t_inside) in
     let first =
@@ -105,10 +102,19 @@ same_length s t at to operation alike most =
     (λ i lt. ap (λ (cell : Cell). cell.mark) (get_or-drop (at + 1) s i blank
     ∙ same_at s t at to (i + 1) (at + 1 + i) (to + 1 + i) alike (omega (arith, lt)) (omega arith) (omega arith)
     ∙ sym (get_or-drop (to + 1) t i blank))) in
-    omega (arith, first, longest, most)
+    omega (arith, first)
+
+-- the length of an instruction is that of its cells
+same_length : (s t : Storage) (at to : ℕ) (operation : Operation) → Alike s t at to → longest_at s operation at ≤ 8
+    → length_at s operation at ≡ length_at t operation to
+same_length s t at to operation alike most =
+    let fifth : cell_at s (at + 4) ≡ cell_at t (to + 4) = alike.cells 4 (omega arith) in
+    let longest : longest_at s operation at ≡ longest_at t operation to =
+    ap (λ (cell : Cell). (form_of operation).longest cell.char) fifth in
+    omega (arith, same_next s t at to alike, longest, most)
 
 -- and so is each of its addresses
-same_address : (s t : Storage) (at to k : ℕ) (address : Address) → Alike s t at to → k + 2 < 8
+pub same_address : (s t : Storage) (at to k : ℕ) (address : Address) → Alike s t at to → k + 2 < 8
     → IsAddress s (at + k) address → IsAddress t (to + k) address
 same_address s t at to k address alike lt is =
     let h : cell_at s (at + k) ≡ cell_at t (to + k) = alike.cells k (omega (arith, lt)) in

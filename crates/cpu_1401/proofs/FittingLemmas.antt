@@ -2,7 +2,7 @@
 use Rattle.std.proofs.Common.{◌≡◌, ◌≢◌, ℕ, zero, suc, ◌+◌, ◌-◌, ◌%◌, ◌<◌, ◌⊎◌, ◌&&◌, min, Bool, true, false, length, Option, None}
 use Rattle.std.proofs.Common.{Some, refl, sym, ◌∙◌, ap, arith, inl, inr, subst}
 use Rattle.std.proofs.lemmas.Bool.{and_from, cases_Bool, false≢true, lt-ltb}
-use Rattle.std.specs.Prelude.{IfSome, if◌then◌else◌, is_some, slice_index}
+use Rattle.std.specs.Prelude.{if◌then◌else◌, is_some, slice_index}
 use Rattle.bcd_1401.specs.Graphic.{graphics}
 use Rattle.core_1401.specs.Address.{addresses}
 use Rattle.core_1401.specs.Field.{next_mark_from}
@@ -45,7 +45,7 @@ nothing_kept d t none =
     by false = refl
 
 -- nor by a branch that was refused
-refused_keeps_nothing : (d : ℕ) (t : Stepped) (why : Stop) → t.stop ≡ Some why → keeping d t ≡ t
+pub refused_keeps_nothing : (d : ℕ) (t : Stepped) (why : Stop) → t.stop ≡ Some why → keeping d t ≡ t
 refused_keeps_nothing d t why e =
     ap (λ (found : Option Stop). if is_some found then t else record t {
       state = record t.state { chained = if t.state.features.lengths then d else t.state.chained };
@@ -61,34 +61,14 @@ alike_but_for_d d t = by (is_some t.stop)
     by true = record { stop = refl; state = refl }
     by false = record { stop = refl; state = refl }
 
--- a step that was refused by its operation, and kept nothing
-refused_kept : (by : Bool) (d : ℕ) (t : Stepped) (why : Stop) → (if by then keeping d t else t).stop ≡ Some why
-    → (if by then keeping d t else t) ≡ t
-refused_kept true d t why e = refused_keeps_nothing d t why (sym (alike_but_for_d d t).stop ∙ e)
-refused_kept false d t why e = refl
-
-refused_so : (s : State) (operation : Operation) (this : Instruction) (why : Stop)
-    → step s ≡ perform operation this s → (perform_keeping operation this s).state ≡ s
-    → (perform_keeping operation this s).stop ≡ Some why → step s ≡ stopped why s
-refused_so s operation this why does same stop =
-    let kept_as : perform_keeping operation this s ≡ perform operation this s =
-    refused_kept (is_by_cell operation this.len) this.d (perform operation this s) why stop in
-    does
-    ∙ ap (λ (state : State). let t : Stepped = record {
-      state = state;
-      stop = (perform operation this s).stop;
-    } in t) (sym (ap (λ (t : Stepped). t.state) kept_as) ∙ same)
-    ∙ ap (λ (o : Option Stop). let t : Stepped = record { state = s; stop = o } in t)
-    (sym (ap (λ (t : Stepped). t.stop) kept_as) ∙ stop)
-
--- the same of any stop but a halt, which leaves the machine as it was
-pub refused_unless_halt : (s next : State) (operation : Operation) (this : Instruction) (found : Option Stop)
-    → step s ≡ perform operation this s → found ≡ (perform_keeping operation this s).stop
-    → next ≡ (perform_keeping operation this s).state → IfSome found (λ why. why ≢ stop.Halt → next ≡ s)
-    → IfSome found (λ why. why ≢ stop.Halt → step s ≡ stopped why s)
-refused_unless_halt s next _ this None does stop state same = tt
-refused_unless_halt s next operation this (Some why) does stop state same =
-    λ no_halt. refused_so s operation this why does (sym state ∙ same no_halt) (sym stop)
+-- nor by any operation
+pub refused_operation : (s : State) (operation : Operation) (this : Instruction) (why : Stop)
+    → perform operation this s ≡ stopped why s → perform_keeping operation this s ≡ stopped why s
+refused_operation s operation this why e = ap (kept operation this) e ∙ by (is_by_cell operation this.len)
+  where
+    by : (is_kept : Bool) → (if is_kept then keeping this.d (stopped why s) else stopped why s) ≡ stopped why s
+    by true = refl
+    by false = refl
 
 -- a step that is carried out without features, with what a branch keeps
 kept_step : (s : State) (operation : Operation) (len : ℕ) (own : Instruction) → own.len ≡ len

@@ -4,6 +4,7 @@ mod CompareExamples
 mod CardsExamples
 pub mod CardsAndPrinterLemmas
 pub mod ChainingLemmas
+pub mod DecodedFittedLemmas
 pub mod DecodedLemmas
 pub mod ExampleCells
 mod FetchedExamples

@@ -2,6 +2,7 @@ pub mod Branch
 pub mod CardsAndPrinter
 pub mod Chaining
 pub mod Decoded
+pub mod DecodedFitted
 pub mod Fetched
 pub mod FieldStep
 pub mod Fitting

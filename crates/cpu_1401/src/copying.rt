@@ -22,7 +22,7 @@ impl Machine {
         self.overflow = other.overflow;
         self.switches = other.switches;
         self.devices.copy_from(&other.devices);
-        self.features = other.features;
+        self.fitted.copy_from(&other.fitted);
         self.chained = other.chained;
     }
 

@@ -58,7 +58,7 @@ impl Machine {
     }
 
     /// The address that the three characters from this place on spell, if there are such.
-    fn address(&self, at: u16, is_there: bool) -> Address
+    pub(crate) fn address(&self, at: u16, is_there: bool) -> Address
         requires { is_there ≡ true → at + 2 < length self.now.storage }
         ensures { is_there ≡ true → IsAddress self.now.storage at result }
     {

@@ -1,6 +1,7 @@
 //! The instruction at a place, by its cells.
 ghost use Rattle.std.specs.Prelude.{◌≡◌, ◌+◌, ◌<◌, ◌≤◌, length, take};
 ghost use Rattle.core_1401.specs.Address.{addresses};
+ghost use Rattle.core_1401.specs.Storage.{cell_at};
 ghost use Rattle.cpu_1401.specs.Fetched.{cells_at, instruction_at, longest_instruction, longest_of, next_instruction};
 ghost use Rattle.machine_operations.specs.Operation.{operation_of};
 
@@ -62,6 +63,8 @@ pub(crate) fn count_at(core: &Core, at: u16) -> u16
     ensures most { result ≤ longest_instruction }
     ensures inside { at + result ≤ length core.now }
     ensures bound { at + result ≤ addresses }
+    ensures near { longest_of (operation_of (cell_at core.now at).char) (cell_at core.now (at + 4)).char
+        ≤ longest_instruction }
 {
     let fifth = if core.size() - at > 4 {
         core.get(at + 4).char

@@ -1,13 +1,18 @@
 //! What features make of an instruction that the machine wouldn't carry out without them.
-ghost use Rattle.std.specs.Prelude.{◌≡◌, ◌≢◌, ◌+◌, ◌<◌, ◌≤◌, false, length, nat_le, Some, IfSome, if◌then◌else◌};
-ghost use Rattle.core_1401.specs.Address.{addresses, effective_at};
+ghost use Rattle.std.specs.Prelude.{◌≡◌, ◌≢◌, ◌+◌, ◌<◌, ◌≤◌, false, length, None, Some, IfSome};
+ghost use Rattle.core_1401.specs.Address.{addresses};
 ghost use Rattle.cpu_1401.specs.Branch.{go_on};
 ghost use Rattle.cpu_1401.specs.Chaining.{again};
+ghost use Rattle.cpu_1401.specs.Decoded.{IsAddress};
+ghost use Rattle.cpu_1401.specs.DecodedFitted.{SaysFitted};
 ghost use Rattle.cpu_1401.specs.Fitting.{after_second, fitted_at, fitted_instruction, fitted_step, perform_fitted};
 ghost use Rattle.cpu_1401.specs.FittingLaw.{FittingLaw};
 ghost use Rattle.cpu_1401.specs.Step.{step};
 ghost use Rattle.cpu_1401.specs.Stepped.{stopped};
+ghost use Rattle.machine_operations.specs.declared.fitted.Fitted.{Fitted};
 
+use crate::decoded::Address;
+use crate::decoded_fitted::DecodedFitted;
 use crate::fetched::count_at;
 use crate::instruction::Instruction;
 use crate::machine::Machine;
@@ -21,98 +26,130 @@ use machine_panel::Stop;
 use machine_products::{modify_address, move_record};
 
 impl Machine {
-    /// Carries out the instruction at the I register by a feature that claims it. If none does, this is the stop: that
-    /// of a machine without features.
-    #[cold]
-    #[inline(never)]
-    #[tactic(auto, using(crate::proofs::FittingLemmas::unclaimed_step, crate::proofs::FittingLemmas::claimed_step))]
-    pub(crate) fn step_by_feature(&mut self, stop: Stop) -> Option<Stop>
-        requires refused { step self.old ≡ stopped stop self.old }
-        requires no_halt { stop ≢ Stop.Halt }
-        requires no_limit { stop ≢ Stop.Limit }
+    /// Carries out the instruction at the I register, which a feature claims.
+    #[inline(always)]
+    #[tactic(auto, using(crate::proofs::DecodedFittedLemmas::says_fitted_step))]
+    pub(crate) fn step_by_feature(&mut self, said: &DecodedFitted) -> Option<Stop>
+        requires says { SaysFitted self.old.storage self.old.i self.old.features said.now }
+        requires own { said.now.fitted ≢ Fitted.OnCell }
         ensures stop { result ≡ (fitted_step self.old).stop }
         ensures state { self.new ≡ (fitted_step self.old).state }
         ensures unchanged { IfSome result (λ why. why ≢ Stop.Halt → self.new ≡ self.old) }
         ensures limit { result ≢ Some Stop.Limit }
         ensures size { length self.new.storage ≡ length self.old.storage }
     {
-        let Some(fitted) = self.fitted_at() else {
-            return Some(stop);
-        };
-        let this = self.fitted_instruction();
-        self.perform_fitted(fitted, this, stop)
+        let this = self.fitted_instruction(said);
+        self.perform_fitted(said.fitted, this)
     }
 
-    /// What a feature makes of the instruction at the I register, if one begins there and a feature claims it.
-    fn fitted_at(&self) -> Option<Fitted>
-        ensures value { result ≡ fitted_at self.now }
-        ensures inside { IfSome result (λ fitted. self.now.i < length self.now.storage) }
+    /// Decodes the instruction at the I register if a feature claims it, and keeps it; `None` if none does, or if it
+    /// leaves it as it is. A machine without features refuses the instruction with this stop.
+    #[inline(never)]
+    pub(crate) fn decode_claimed(&mut self, stop: Stop) -> Option<DecodedFitted>
+        requires refused { step self.old ≡ stopped stop self.old }
+        ensures says { IfSome result (λ said. SaysFitted self.old.storage self.old.i self.old.features said) }
+        ensures own { IfSome result (λ said. said.fitted ≢ Fitted.OnCell) }
+        ensures none { result ≡ None → fitted_step self.old ≡ stopped stop self.old }
+        ensures same { self.new ≡ self.old }
+    {
+        let Some(said) = self.decode_fitted() else {
+            return None;
+        };
+        if said.fitted == Fitted::OnCell {
+            return None;
+        }
+        self.fitted.keep(&self.core, self.i, &said);
+        Some(said)
+    }
+
+    /// What the instruction at the I register says, if one begins there and a feature claims it.
+    fn decode_fitted(&self) -> Option<DecodedFitted>
+        ensures some { IfSome result (λ said. SaysFitted self.now.storage self.now.i self.now.features said) }
+        ensures none { result ≡ None → fitted_at self.now ≡ None }
     {
         if !self.begins() {
             return None;
         }
         let graphic = self.core.get(self.i).char.graphic();
         let len = count_at(&self.core, self.i);
-        fitted_in(self.features, graphic, u32::from(len))
+        match fitted_in(self.fitted.features(), graphic, u32::from(len)) {
+            Some(fitted) => {
+                let (a, b) = self.spelled(len);
+                Some(DecodedFitted {
+                    fitted,
+                    len,
+                    d: self.core.get(self.i + len - 1).char,
+                    a,
+                    b,
+                })
+            }
+            None => None,
+        }
+    }
+
+    /// The addresses that an instruction of this length spells: two, or one for both.
+    fn spelled(&self, len: u16) -> (Address, Address)
+        requires { self.now.i + len ≤ length self.now.storage }
+        ensures a { 4 ≤ len → IsAddress self.now.storage (self.now.i + 1) result.0 }
+        ensures b { 7 ≤ len → IsAddress self.now.storage (self.now.i + 4) result.1 }
+        ensures only { 4 ≤ len → len < 7 → IsAddress self.now.storage (self.now.i + 1) result.1 }
+    {
+        let a = self.address(self.i + 1, len >= 4);
+        if len >= 7 {
+            (a, self.address(self.i + 4, true))
+        } else {
+            (a, a)
+        }
     }
 
     /// The instruction at the I register, which takes its addresses as an addition does.
-    fn fitted_instruction(&self) -> Instruction
-        requires { self.now.i < length self.now.storage }
+    #[inline(always)]
+    pub(crate) fn fitted_instruction(&self, said: &DecodedFitted) -> Instruction
+        requires says { SaysFitted self.now.storage self.now.i self.now.features said.now }
         ensures value { result ≡ fitted_instruction self.now }
         ensures a { result.a < addresses }
         ensures b { result.b < addresses }
         ensures next { result.next < addresses }
     {
-        let len = count_at(&self.core, self.i);
-        let (a, b) = self.both_addresses(len);
+        let (a, b) = self.fitted_addresses(said);
+        let beyond = self.i + said.len;
+        let next = if beyond < ADDRESSES {
+            beyond
+        } else {
+            beyond - ADDRESSES
+        };
         Instruction {
-            len,
+            len: said.len,
             a,
             b,
-            next: (self.i + len) % ADDRESSES,
-            d: self.core.get(self.i + len - 1).char,
+            next,
+            d: said.d,
         }
     }
 
-    /// The addresses of an instruction of this length: two, or one for both, or the registers as they stand.
-    fn both_addresses(&self, len: u16) -> (u16, u16)
-        requires { self.now.i + len ≤ length self.now.storage }
-        ensures a { result.0 ≡ (if nat_le 4 len then effective_at self.now.storage (self.now.i + 1) else self.now.a) }
-        ensures b { result.1 ≡ (if nat_le 7 len then effective_at self.now.storage (self.now.i + 4)
-            else (if nat_le 4 len then effective_at self.now.storage (self.now.i + 1) else self.now.b)) }
+    /// The addresses of an instruction: those that it spells, or the registers as they stand.
+    #[inline(always)]
+    fn fitted_addresses(&self, said: &DecodedFitted) -> (u16, u16)
+        requires says { SaysFitted self.now.storage self.now.i self.now.features said.now }
+        ensures a { result.0 ≡ (fitted_instruction self.now).a }
+        ensures b { result.1 ≡ (fitted_instruction self.now).b }
         ensures range { (result.0 < addresses) × (result.1 < addresses) }
     {
-        if len < 4 {
+        if said.len < 4 {
             return (self.a, self.b);
         }
-        let a = self.effective(self.i + 1);
-        let b = if len < 7 {
-            a
-        } else {
-            self.effective(self.i + 4)
-        };
+        let a = self.core.indexed(said.a.value, said.a.register);
+        let b = self.core.indexed(said.b.value, said.b.register);
         (a, b)
     }
 
-    /// The address that the three characters from a place on stand for.
-    fn effective(&self, at: u16) -> u16
-        requires { at + 2 < length self.now.storage }
-        ensures value { result ≡ effective_at self.now.storage at }
-        ensures range { result < addresses }
-    {
-        let (value, register) = self.core.decode_at(at);
-        self.core.indexed(value, register)
-    }
-
-    /// Does what a feature makes of an instruction; what it leaves as it is has this stop.
-    fn perform_fitted(&mut self, fitted: Fitted, this: Instruction, stop: Stop) -> Option<Stop>
+    /// Does what a feature makes of an instruction that it doesn't leave as it is.
+    #[inline(always)]
+    pub(crate) fn perform_fitted(&mut self, fitted: Fitted, this: Instruction) -> Option<Stop>
+        requires own { fitted ≢ Fitted.OnCell }
         requires a { this.a < addresses }
         requires b { this.b < addresses }
         requires next { this.next < addresses }
-        requires refused { step self.old ≡ stopped stop self.old }
-        requires no_halt { stop ≢ Stop.Halt }
-        requires no_limit { stop ≢ Stop.Limit }
         ensures stop { result ≡ (perform_fitted fitted this self.old).stop }
         ensures state { self.new ≡ (perform_fitted fitted this self.old).state }
         ensures unchanged { IfSome result (λ why. why ≢ Stop.Halt → self.new ≡ self.old) }
@@ -120,7 +157,7 @@ impl Machine {
         ensures size { length self.new.storage ≡ length self.old.storage }
     {
         match fitted {
-            Fitted::OnCell => Some(stop),
+            Fitted::OnCell => unreachable!(),
             Fitted::OnBits => self.branch_on_bits(this),
             Fitted::CharacterAgain => self.branch_on_character(self.again(this)),
             Fitted::CellAgain => self.branch_on_cell(self.again(this)),
@@ -154,7 +191,7 @@ impl Machine {
     fn again(&self, this: Instruction) -> Instruction
         ensures { result ≡ again this self.now }
     {
-        let d = if self.features.lengths {
+        let d = if self.fitted.features().lengths {
             self.chained
         } else {
             Char::BLANK
@@ -171,7 +208,7 @@ impl Machine {
         ensures state { self.new ≡ (perform_fitted Fitted.BitsAgain this self.old).state }
         ensures size { length self.new.storage ≡ length self.old.storage }
     {
-        if !self.features.lengths {
+        if !self.fitted.features().lengths {
             return Some(Stop::Length);
         }
         self.branch_on_bits(self.again(this))

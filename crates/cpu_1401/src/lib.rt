@@ -22,7 +22,10 @@ mod decoding;
 pub mod fetched;
 mod instruction;
 
-// what features make of an instruction
+// what features make of an instruction, and the decoded ones that are cached
+mod decoded_fitted;
+mod fitted_cache;
+mod fitted_entry;
 pub mod fitting;
 
 // a step, and a run of them

@@ -5,6 +5,7 @@ ghost use Rattle.cpu_1401.specs.State.{IsInRange, fitted_with, power_on, regs_of
 ghost use Rattle.devices_1401.specs.Movement.{pending_of};
 
 use crate::decode_cache::DecodeCache;
+use crate::fitted_cache::FittedCache;
 use bcd_1401::{Cell, Char};
 use core_1401::{Core, CoreFault};
 use devices_1401::{Devices, Movement};
@@ -28,7 +29,7 @@ pub struct Machine {
     pub(crate) overflow: bool,
     pub(crate) switches: [bool; 7],
     pub(crate) devices: Devices,
-    pub(crate) features: Features,
+    pub(crate) fitted: FittedCache,
     /// The d-character of the last branch by a cell. Without the lengths nothing asks for it, and contracts see a blank.
     pub(crate) chained: Char,
 }
@@ -53,8 +54,8 @@ impl Model for Machine {
       overflow = m.overflow;
       switches = m.switches;
       devices = m.devices;
-      features = m.features;
-      chained = if m.features.lengths then m.chained else 0;
+      features = m.fitted;
+      chained = if m.fitted.lengths then m.chained else 0;
     } };
 
     ghost invariant = { λ m.
@@ -79,6 +80,9 @@ impl Machine {
         let Ok(cache) = DecodeCache::none(alloc, size) else {
             return Err(CoreFault::Memory);
         };
+        let Ok(fitted) = FittedCache::none(alloc) else {
+            return Err(CoreFault::Memory);
+        };
         Ok(Machine {
             core,
             cache,
@@ -91,7 +95,7 @@ impl Machine {
             overflow: false,
             switches: [false; 7],
             devices,
-            features: Features::NONE,
+            fitted,
             chained: Char::BLANK,
         })
     }
@@ -100,17 +104,17 @@ impl Machine {
     pub fn fit(&mut self, features: Features)
         ensures { self.new ≡ fitted_with features self.old }
     {
-        if !self.features.lengths {
+        if !self.fitted.features().lengths {
             self.chained = Char::BLANK;
         }
-        self.features = features;
+        self.fitted.fit(features);
     }
 
     /// What the machine is fitted with.
     pub fn features(&self) -> Features
         ensures { result ≡ self.now.features }
     {
-        self.features
+        self.fitted.features()
     }
 
     /// Core storage.

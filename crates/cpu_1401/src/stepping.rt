@@ -44,25 +44,6 @@ impl Machine {
         ensures limit { result ≢ Some Stop.Limit }
         ensures size { length self.new.storage ≡ length self.old.storage }
     {
-        match self.step_unless_refused() {
-            None => None,
-            Some(stop) => self.unless_claimed(stop),
-        }
-    }
-
-    /// The same, but an instruction that a machine without features refuses is left as it is. What a feature makes of it
-    /// is asked only then, so a step that goes on costs no more with features than without.
-    #[inline(always)]
-    fn step_unless_refused(&mut self) -> Option<Stop>
-        ensures on { result ≡ None → (fitted_step self.old).stop ≡ None }
-        ensures state { result ≡ None → self.new ≡ (fitted_step self.old).state }
-        ensures halt { result ≡ Some Stop.Halt → (fitted_step self.old).stop ≡ Some Stop.Halt }
-        ensures halt_state { result ≡ Some Stop.Halt → self.new ≡ (fitted_step self.old).state }
-        ensures refused { IfSome result (λ why. why ≢ Stop.Halt → step self.old ≡ stopped why self.old) }
-        ensures same { IfSome result (λ why. why ≢ Stop.Halt → self.new ≡ self.old) }
-        ensures limit { result ≢ Some Stop.Limit }
-        ensures size { length self.new.storage ≡ length self.old.storage }
-    {
         let machine = &*self;
         let fetched = match machine.cache.find_ready(&machine.core, machine.i) {
             Some(said) => {
@@ -71,86 +52,104 @@ impl Machine {
             }
             None => match self.fetch() {
                 Ok(fetched) => fetched,
-                Err(stop) => return Some(stop),
+                Err(outcome) => return outcome,
             },
         };
         self.perform_fetched(fetched)
     }
 
-    /// What a step that was refused, or halted, comes to: a feature may claim what was refused.
-    #[cold]
-    #[inline(never)]
-    fn unless_claimed(&mut self, stop: Stop) -> Option<Stop>
-        requires refused { stop ≢ Stop.Halt → step self.old ≡ stopped stop self.old }
-        requires no_limit { stop ≢ Stop.Limit }
-        ensures halt { stop ≡ Stop.Halt → result ≡ Some Stop.Halt }
-        ensures halt_state { stop ≡ Stop.Halt → self.new ≡ self.old }
-        ensures stop { stop ≢ Stop.Halt → result ≡ (fitted_step self.old).stop }
-        ensures state { stop ≢ Stop.Halt → self.new ≡ (fitted_step self.old).state }
-        ensures unchanged { IfSome result (λ why. why ≢ Stop.Halt → self.new ≡ self.old) }
-        ensures limit { result ≢ Some Stop.Limit }
-        ensures size { length self.new.storage ≡ length self.old.storage }
-    {
-        if stop == Stop::Halt {
-            return Some(stop);
-        }
-        self.step_by_feature(stop)
-    }
-
-    /// The operation and the instruction at the I register, cached or decoded, or why it can't be carried out: what
-    /// is asked if no addresses are ready.
+    /// The operation and the instruction at the I register, cached or decoded: what is asked if no addresses are ready.
+    /// If it can't be carried out, or a feature has carried it out, it is what the step comes to. Features are asked
+    /// only if no plain instruction is cached, so a step by a cached one costs no more with features than without.
     #[inline(always)]
-    #[tactic(auto, using(crate::proofs::DecodedLemmas::says_step))]
-    fn fetch(&mut self) -> Result<(Operation, Instruction), Stop>
+    #[tactic(auto, using(crate::proofs::FittingLemmas::refused_operation))]
+    fn fetch(&mut self) -> Result<(Operation, Instruction), Option<Stop>>
         ensures ok { IfOk result (λ fetched. fitted_step self.old ≡ perform_keeping fetched.0 fetched.1 self.old) }
-        ensures plain { IfOk result (λ fetched. step self.old ≡ perform fetched.0 fetched.1 self.old) }
         ensures a { IfOk result (λ fetched. fetched.1.a < addresses) }
         ensures b { IfOk result (λ fetched. fetched.1.b < addresses) }
         ensures next { IfOk result (λ fetched. fetched.1.next < addresses) }
         ensures places { IfOk result (λ fetched.
             HasPlaces fetched.0 fetched.1.a fetched.1.b (length self.old.storage)) }
-        ensures err { IfErr result (λ stop. step self.old ≡ stopped stop self.old) }
-        ensures no_halt { IfErr result (λ stop. stop ≢ Stop.Halt) }
-        ensures no_limit { IfErr result (λ stop. stop ≢ Stop.Limit) }
-        ensures same { self.new ≡ self.old }
+        ensures same { IfOk result (λ fetched. self.new ≡ self.old) }
+        ensures stop { IfErr result (λ stop. stop ≡ (fitted_step self.old).stop) }
+        ensures state { IfErr result (λ stop. self.new ≡ (fitted_step self.old).state) }
+        ensures unchanged { IfErr result (λ stop. IfSome stop (λ why. why ≢ Stop.Halt → self.new ≡ self.old)) }
+        ensures limit { IfErr result (λ stop. stop ≢ Some Stop.Limit) }
+        ensures size { length self.new.storage ≡ length self.old.storage }
     {
         let machine = &*self;
         match machine.cache.find(&machine.core, machine.i) {
             Some(said) => {
                 let next = machine.i + said.len;
-                machine.with_places(said.operation, machine.instruction(said, next))
+                match machine.with_places(said.operation, machine.instruction(said, next)) {
+                    Ok(fetched) => Ok(fetched),
+                    Err(stop) => Err(Some(stop)),
+                }
             }
             None => self.fetch_anew(),
         }
     }
 
-    /// The operation and the instruction at the I register, decoded anew, or why it can't be carried out. It stands
-    /// between a step and the decoding so that a step makes room for the result only if it decodes.
+    /// The same, if no plain instruction is cached. It stands between a step and the decoding so that a step makes room
+    /// for the result only if it decodes.
     #[inline(always)]
-    fn fetch_anew(&mut self) -> Result<(Operation, Instruction), Stop>
+    fn fetch_anew(&mut self) -> Result<(Operation, Instruction), Option<Stop>>
         ensures ok { IfOk result (λ fetched. fitted_step self.old ≡ perform_keeping fetched.0 fetched.1 self.old) }
-        ensures plain { IfOk result (λ fetched. step self.old ≡ perform fetched.0 fetched.1 self.old) }
         ensures a { IfOk result (λ fetched. fetched.1.a < addresses) }
         ensures b { IfOk result (λ fetched. fetched.1.b < addresses) }
         ensures next { IfOk result (λ fetched. fetched.1.next < addresses) }
         ensures places { IfOk result (λ fetched.
             HasPlaces fetched.0 fetched.1.a fetched.1.b (length self.old.storage)) }
-        ensures err { IfErr result (λ stop. step self.old ≡ stopped stop self.old) }
-        ensures no_halt { IfErr result (λ stop. stop ≢ Stop.Halt) }
-        ensures no_limit { IfErr result (λ stop. stop ≢ Stop.Limit) }
-        ensures same { self.new ≡ self.old }
+        ensures same { IfOk result (λ fetched. self.new ≡ self.old) }
+        ensures stop { IfErr result (λ stop. stop ≡ (fitted_step self.old).stop) }
+        ensures state { IfErr result (λ stop. self.new ≡ (fitted_step self.old).state) }
+        ensures unchanged { IfErr result (λ stop. IfSome stop (λ why. why ≢ Stop.Halt → self.new ≡ self.old)) }
+        ensures limit { IfErr result (λ stop. stop ≢ Some Stop.Limit) }
+        ensures size { length self.new.storage ≡ length self.old.storage }
     {
-        let fetched = self.instruction_anew()?;
-        Ok(fetched)
+        match self.instruction_anew() {
+            Ok(fetched) => Ok(fetched),
+            Err(stop) => Err(stop),
+        }
     }
 
     /// The same, apart from a step.
     #[cold]
     #[inline(never)]
-    #[tactic(auto, using(crate::proofs::DecodedLemmas::says_step))]
-    fn instruction_anew(&mut self) -> Result<(Operation, Instruction), Stop>
+    fn instruction_anew(&mut self) -> Result<(Operation, Instruction), Option<Stop>>
         ensures ok { IfOk result (λ fetched. fitted_step self.old ≡ perform_keeping fetched.0 fetched.1 self.old) }
-        ensures plain { IfOk result (λ fetched. step self.old ≡ perform fetched.0 fetched.1 self.old) }
+        ensures a { IfOk result (λ fetched. fetched.1.a < addresses) }
+        ensures b { IfOk result (λ fetched. fetched.1.b < addresses) }
+        ensures next { IfOk result (λ fetched. fetched.1.next < addresses) }
+        ensures places { IfOk result (λ fetched.
+            HasPlaces fetched.0 fetched.1.a fetched.1.b (length self.old.storage)) }
+        ensures same { IfOk result (λ fetched. self.new ≡ self.old) }
+        ensures stop { IfErr result (λ stop. stop ≡ (fitted_step self.old).stop) }
+        ensures state { IfErr result (λ stop. self.new ≡ (fitted_step self.old).state) }
+        ensures unchanged { IfErr result (λ stop. IfSome stop (λ why. why ≢ Stop.Halt → self.new ≡ self.old)) }
+        ensures limit { IfErr result (λ stop. stop ≢ Some Stop.Limit) }
+        ensures size { length self.new.storage ≡ length self.old.storage }
+    {
+        let machine = &*self;
+        let said = match machine.fitted.find(&machine.core, machine.i) {
+            Some(said) => *said,
+            None => match self.decoded_instruction() {
+                Ok(fetched) => return Ok(fetched),
+                Err(stop) => match self.decode_claimed(stop) {
+                    Some(said) => said,
+                    None => return Err(Some(stop)),
+                },
+            },
+        };
+        Err(self.step_by_feature(&said))
+    }
+
+    /// The operation and the instruction at the I register, decoded anew, or why a machine without features can't carry
+    /// it out.
+    #[inline(never)]
+    #[tactic(auto, using(crate::proofs::DecodedLemmas::says_step))]
+    fn decoded_instruction(&mut self) -> Result<(Operation, Instruction), Stop>
+        ensures ok { IfOk result (λ fetched. fitted_step self.old ≡ perform_keeping fetched.0 fetched.1 self.old) }
         ensures a { IfOk result (λ fetched. fetched.1.a < addresses) }
         ensures b { IfOk result (λ fetched. fetched.1.b < addresses) }
         ensures next { IfOk result (λ fetched. fetched.1.next < addresses) }

@@ -6,6 +6,7 @@ mod DivisionLemmas
 mod ExampleCells
 mod FigureLemmas
 mod LawLemmas
+mod MagnitudeLemmas
 mod NumberLemmas
 mod OutsideLemmas
 mod PartLemmas

@@ -1,7 +1,7 @@
 -- Records moved from left to right (A24-1403, "Move Characters to Record Mark or Group Mark-Word Mark", from memory; the
 -- refusals, and what a record that is moved into itself becomes, are own).
-use Rattle.std.specs.Prelude.{ℕ, ◌+◌, ◌-◌, ◌%◌, ◌==◌, ◌&&◌, ◌||◌, max, nat_le, nat_lt, Bool, Option, Some, None, map}
-use Rattle.std.specs.Prelude.{Ok, Err, length, position, option_map, if◌then◌else◌}
+use Rattle.std.specs.Prelude.{◌≡◌, ℕ, ◌+◌, ◌-◌, ◌%◌, ◌==◌, ◌<◌, ◌&&◌, ◌||◌, max, nat_le, nat_lt, Bool, false, Option, Some, None}
+use Rattle.std.specs.Prelude.{List, Ok, Err, length, map, position, option_map, slice_index_or, if◌then◌else◌}
 use Rattle.std.specs.List.{range_with_len}
 use Rattle.bcd_1401.specs.declared.cell.Cell.{Cell}
 use Rattle.core_1401.specs.Address.{addresses}
@@ -26,11 +26,25 @@ record_source a b i = if nat_lt a b then a + i % (b - a) else a + i
 abbrev pub record_char : Storage → ℕ → ℕ → ℕ → ℕ
 record_char storage a b i = (cell_at storage (record_source a b i)).char
 
--- whether that character is the last: a record mark, or a group mark that comes from a place with a word mark
+-- whether a character that comes from a place is the last: a record mark, or a group mark if the place has a word mark
+abbrev pub ends_record : Storage → ℕ → ℕ → Bool
+ends_record storage char at = (char == record_mark) || ((char == group_mark) && (cell_at storage at).mark)
+
+-- whether the i-th character is
 abbrev pub is_record_end : Storage → ℕ → ℕ → ℕ → Bool
-is_record_end storage a b i =
-    (record_char storage a b i == record_mark)
-    || ((record_char storage a b i == group_mark) && (cell_at storage (a + i)).mark)
+is_record_end storage a b i = ends_record storage (record_char storage a b i) (a + i)
+
+-- no character at one of the n places from one up is the last there
+abbrev pub NoneEnds : Storage → ℕ → ℕ → Type 0
+NoneEnds storage at n = (i : ℕ) → i < n → ends_record storage (cell_at storage (at + i)).char (at + i) ≡ false
+
+-- whether a character is a record mark or a group mark
+abbrev pub is_mark : ℕ → Bool
+is_mark char = (char == record_mark) || (char == group_mark)
+
+-- none of the n characters from one up in a list is
+abbrev pub AreNoMarks : List ℕ → ℕ → ℕ → Type 0
+AreNoMarks chars at n = (i : ℕ) → i < n → is_mark (slice_index_or chars (at + i) 0) ≡ false
 
 -- how many places there are from either address up to the end of core
 abbrev pub places_above : Storage → ℕ → ℕ → ℕ

@@ -6,8 +6,8 @@ ghost use Rattle.fields_1401.specs.Outcome.{CarriesOut};
 ghost use Rattle.fields_1401.specs.Places.{marks_of};
 ghost use Rattle.machine_products.specs.AddressSums.{value_down, address_sum, with_address, address_sum_at};
 
-use crate::registers::registers;
-use core_1401::{ADDRESSES, Core, decode, encode};
+use crate::registers::{registers, within_addresses};
+use core_1401::{Core, decode, encode};
 use fields_1401::{Done, FieldStop, step_down};
 
 /// Adds the address in the three places that end at a to the one in the three places that end at b, modulo 16,000. The
@@ -30,7 +30,7 @@ pub fn modify_address(core: &mut Core, a: u16, b: u16) -> Result<Done, FieldStop
     if !has_three(core, a) || !has_three(core, b) {
         return Err(FieldStop::Address);
     }
-    let sum = (value_down(core, a) + value_down(core, b)) % ADDRESSES;
+    let sum = within_addresses(value_down(core, a) + value_down(core, b));
     put_address(core, b, sum);
     Ok(registers(step_down(a, 3), step_down(b, 3)))
 }

@@ -10,6 +10,7 @@
 
 mod digits;
 mod lengths;
+mod numbers;
 mod registers;
 mod signs;
 
@@ -17,11 +18,11 @@ mod signs;
 pub mod address_sums;
 pub mod records;
 
-// fields multiplied
+// fields multiplied: the places, then as numbers or column by column
 mod factors;
 pub mod products;
 
-// fields divided: the lengths of both, the places, then digit by digit
+// fields divided: the lengths of both, the places, then as numbers or digit by digit
 mod division;
 pub mod quotients;
 mod subtraction;

@@ -1,5 +1,5 @@
 //! The registers that an operation leaves.
-ghost use Rattle.std.specs.Prelude.{◌≡◌, ◌<◌, ◌≤◌};
+ghost use Rattle.std.specs.Prelude.{◌≡◌, ◌*◌, ◌%◌, ◌<◌, ◌≤◌};
 ghost use Rattle.core_1401.specs.Address.{addresses};
 ghost use Rattle.fields_1401.specs.Outcome.{registers_of};
 ghost use Rattle.machine_products.specs.Records.{above_by};
@@ -14,7 +14,20 @@ pub(crate) fn step_up(at: u16, by: u16) -> u16
     ensures value { result ≡ above_by at by }
     ensures range { result < addresses }
 {
-    (at + by) % ADDRESSES
+    within_addresses(at + by)
+}
+
+/// A sum of two addresses, modulo 16,000.
+pub(crate) fn within_addresses(sum: u16) -> u16
+    requires { sum < 2 * addresses }
+    ensures value { result ≡ sum % addresses }
+    ensures range { result < addresses }
+{
+    if sum < ADDRESSES {
+        sum
+    } else {
+        sum - ADDRESSES
+    }
 }
 
 /// The registers afterwards, and no indicator.

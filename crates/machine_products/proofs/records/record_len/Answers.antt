@@ -1,7 +1,12 @@
 -- The first character that ends the record gives its length.
 use Rattle.std.proofs.Common.{arith, ◌∙◌, sym}
-use Rattle.machine_products.proofs.RecordLemmas.{record_ends, record_goes_on}
+use Rattle.machine_products.proofs.RecordLemmas.{none_before, record_ends, record_goes_on}
 use Rattle.machine_products.proofs.records.record_len.Goals as goal
+
+pub loop-i-init : goal.loop-i-init
+loop-i-init c =
+    none_before c.args.core.now c.args.a c.args.b c.count_before_repeated.result c.count_before_end-first.result
+    c.count_before_end-first.ensures.most c.count_before_repeated.ensures.own c.count_before_end-first.ensures.before
 
 pub returns-then-is_record_end-clause-value : goal.returns-then-is_record_end-clause-value
 returns-then-is_record_end-clause-value c =

@@ -2,7 +2,7 @@
 use Rattle.std.proofs.Common.{◌≡◌, length}
 use Rattle.fields_1401.specs.Places.{marks_of}
 use Rattle.machine_products.specs.Records.{record_moved}
-use Rattle.machine_products.proofs.records.move_up.Given as goal
+use Rattle.machine_products.proofs.records.move_repeating.Given as goal
 
 abbrev pub invariant-loop-i : goal.invariant-loop-i
 invariant-loop-i l = record {
