@@ -17,11 +17,10 @@ from pathlib import Path
 
 sys.dont_write_bytecode = True
 from tests.chains import DOUBTFUL, SIMH
-from tests.support import free_ports
+from tests.support import PORTS_TRIED, SECONDS, at_a_port, free_ports
 
 TOP = Path(__file__).resolve().parent.parent
 PROGRAM = Path(os.environ.get("IBM1401", TOP / "crates/ibm1401/out/ibm1401"))
-SECONDS = 120
 MISUSE = 2
 
 # A source that both languages take, one that the wider language alone takes, and one with two faults.
@@ -62,6 +61,9 @@ HIGH = """\
 """
 # A card that branches to a place beyond a small core.
 DECK = "BV00\n"
+# A reel with a record of the characters AB^ and a tape mark, and one with the record of that card.
+REEL = "\3\0\0\0" "12\x10\0" "\3\0\0\0" "\0\0\0\0"
+OF_DECK = "P\0\0\0" "2\x15\n\n" + 76 * "\0" + "P\0\0\0" "\0\0\0\0"
 # A program that multiplies 12 by 34.
 TIMES = """\
                ORG  400
@@ -89,7 +91,7 @@ class Room:
         self.path = Path(folder.name)
         texts = {"source": SOURCE, "wide": WIDE, "faulty": FAULTY, "job": JOB, "high": HIGH, "journal": JOURNAL}
         texts.update({"marked": MARKED, "simhs": SIMHS, "plus": "A+B\n", "lines": "evaluate 400\n", "times": TIMES})
-        for name, text in {**texts, "cards": "FIRST\nSECOND\n", "deck": DECK}.items():
+        for name, text in {**texts, "cards": "FIRST\nSECOND\n", "deck": DECK, "reel": REEL}.items():
             (self.path / name).write_text(text)
         shutil.copy(TOP / "examples/five_and_five.image", self.path / "image")
         (self.path / "folder").mkdir()
@@ -188,6 +190,20 @@ ROWS = [
     ("disassemble --load --size 1400 deck", "", 1, "", "ibm1401: the deck isn't loaded: NOMARK at 1500\n", {}),
     ("disassemble --load --graphics simh deck", "", 0, "00001*BV00     B    1500\n01500          END  1500\n", "", {}),
     ("disassemble --graphics simh deck", "", MISUSE, "", None, {}),
+    ("reel reel", "", 0, "000001 00003 AB^\n000002 TAPE MARK\nRECORDS 1 TAPE MARKS 1 CHARACTERS 3\n", "", {}),
+    ("reel --even-parity reel", "", 0,
+     "000001 00003 AB \n000002 TAPE MARK\nRECORDS 1 TAPE MARKS 1 CHARACTERS 3\n", "", {}),
+    ("reel --deck new reel", "", 0, "", "", {"new": "AB^\n"}),
+    ("reel --deck new --even-parity reel", "", 0, "", "", {"new": "AB\n"}),
+    ("reel --from-deck -o new deck", "", 0, "", "", {"new": OF_DECK}),
+    ("reel --from-deck --output new --even-parity deck", "", 0, "", "",
+     {"new": OF_DECK[:8] + 76 * "\x10" + OF_DECK[84:]}),
+    ("reel --from-deck --graphics fortran -o new plus", "", 0, "", "",
+     {"new": "P\0\0\0" "102" + 77 * "\0" + "P\0\0\0" "\0\0\0\0"}),
+    ("reel --from-deck deck", "", MISUSE, "", None, {}),
+    ("reel --graphics simh reel", "", MISUSE, "", None, {}),
+    ("reel -o new reel", "", MISUSE, "", None, {}),
+    ("reel --from-deck -o new --deck other deck", "", MISUSE, "", None, {}),
     ("run --load --image new deck", "", 1, "", None, {"new": "IMAGE2 04000\n00001 04 ~BV00\nEND 01500\n"}),
     ("run --image new job", "", MISUSE, "", None, {}),
     ("run --cards plus --punch new job", "", 0, "A+B\n", PLUS + HALTED, {"new": "A+B\n"}),
@@ -280,7 +296,8 @@ ROWS = [
 # The calls that read a file. What those of an image or a source alone say is shorter, and as old as they are.
 UNREAD = [
     "assemble FILE", "load FILE", "serve --port 1401 --seats 1 --image FILE",
-    "disassemble FILE", "disassemble --load FILE", "run FILE", "run --load FILE", "run --cards FILE job",
+    "disassemble FILE", "disassemble --load FILE", "reel FILE", "reel --deck new FILE", "reel --from-deck -o new FILE",
+    "run FILE", "run --load FILE", "run --cards FILE job",
     "serve --port 1401 --seats 1 --cards FILE",
     "operate FILE", "operate --load FILE", "operate --cards FILE job", "operate --resume FILE", "operate --do FILE",
     "journal FILE", "journal --check FILE", "resume FILE", "resume --journal new FILE",
@@ -293,20 +310,26 @@ class Served:
     """The program serving at free ports, from its first line on."""
 
     def __init__(self, test, room, words, environment=()):
-        self.test, self.port = test, free_ports(4)
-        words = words.replace("PORT", str(self.port)).replace("PAGE", str(self.port + 1)).split()
+        self.test = test
         pipes = dict.fromkeys(("stdin", "stdout", "stderr"), subprocess.PIPE)
-        self.process = subprocess.Popen([PROGRAM, *words], cwd=room.path, env={**os.environ, **dict(environment)},
-                                        text=True, **pipes)
-        test.addCleanup(self.stop)
-        test.assertEqual(self.process.stdout.readline(), "READY\n")
+        for _ in range(PORTS_TRIED):
+            self.port = free_ports(4)
+            named = words.replace("PORT", str(self.port)).replace("PAGE", str(self.port + 1)).split()
+            self.process = subprocess.Popen([PROGRAM, *named], cwd=room.path, env={**os.environ, **dict(environment)},
+                                            text=True, **pipes)
+            test.addCleanup(self.stop, self.process)
+            first = self.process.stdout.readline()
+            # Somebody else may have taken a port meanwhile.
+            if first or self.process.stderr.read() != "ibm1401: port refused\n":
+                break
+        test.assertEqual(first, "READY\n")
 
-    def stop(self):
+    def stop(self, process):
         """Ends the program if it hasn't ended."""
-        self.process.kill()
-        for each in (self.process.stdin, self.process.stdout, self.process.stderr):
+        process.kill()
+        for each in (process.stdin, process.stdout, process.stderr):
             each.close()
-        self.process.wait(SECONDS)
+        process.wait(SECONDS)
 
     def say(self, lines):
         """What a new console is answered until its connection ends."""
@@ -432,11 +455,12 @@ class Options(unittest.TestCase):
 
     def test_no_file_is_left_if_a_new_journal_cannot_begin(self):
         for words in ("console --journal new", "load --journal new image", "resume --journal new journal",
-                      "operate --journal new", f"serve --port {free_ports(1)} --seats 1 --journal new"):
+                      "operate --journal new", "serve --port PORT --seats 1 --journal new"):
             with self.subTest(words):
                 room = Room(self)
-                ran = subprocess.run([PROGRAM, *words.split()], cwd=room.path, stdin=subprocess.DEVNULL,
-                                     capture_output=True, timeout=SECONDS, check=False, preexec_fn=refuse_writes)
+                ran = at_a_port(lambda port: subprocess.run(
+                    [PROGRAM, *words.replace("PORT", str(port)).split()], cwd=room.path, stdin=subprocess.DEVNULL,
+                    capture_output=True, timeout=SECONDS, check=False, preexec_fn=refuse_writes))
                 self.assertEqual((ran.returncode, (room.path / "new").exists()), (1, False), ran.stderr)
 
     def test_a_page_is_at_its_own_port(self):

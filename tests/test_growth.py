@@ -116,6 +116,27 @@ class Growth(ProgramTest):
 
         self.each(disassemble, "memory refused")
 
+    def test_a_listing_of_a_reel(self):
+        reel, deck = self.folder / "reel", EXAMPLES / "sales.cards"
+        self.expect("the reel", program("reel", "--from-deck", deck, "-o", reel))
+        whole = program("reel", reel).stdout
+
+        def lists(how):
+            return written_end(program("reel", reel, **how), whole, [MEMORY])
+
+        self.each(lists, "memory refused")
+
+    def test_a_deck_of_a_reel_and_a_reel_of_a_deck(self):
+        reel, deck = self.folder / "reel", EXAMPLES / "sales.cards"
+        self.expect("the reel", program("reel", "--from-deck", deck, "-o", reel))
+        for words in ["--deck", "/dev/stdout", reel], ["--from-deck", "-o", "/dev/stdout", deck]:
+            whole = program("reel", *words).stdout
+
+            def makes(how, words=words, whole=whole):
+                return written_end(program("reel", *words, **how), whole, [MEMORY])
+
+            self.each(makes, "memory refused")
+
     def hold_run(self, language):
         """A subtest: what went out of a run is a beginning of the paper, and the end is reported in any case."""
         sales = EXAMPLES / "sales.source"

@@ -11,8 +11,10 @@ from pathlib import Path
 sys.dont_write_bytecode = True
 TOP = Path(__file__).resolve().parent.parent
 PROGRAM = Path(os.environ.get("IBM1401", TOP / "crates/ibm1401/out/ibm1401"))
-COMMANDS = ["console", "assemble", "load", "disassemble", "run", "operate", "serve", "journal", "resume"]
+COMMANDS = ["console", "assemble", "load", "disassemble", "reel", "run", "operate", "serve", "journal", "resume"]
 HELP = [["--help"], ["-h"], ["help"]]
+# The most processor time that an answer takes: a proof takes minutes.
+AT_ONCE = 10
 HELP += [words for name in COMMANDS for words in ([name, "--help"], [name, "-h"], ["help", name])]
 
 
@@ -57,7 +59,7 @@ class FreshClone(unittest.TestCase):
             with self.subTest(" ".join(words)):
                 answered, seconds = self.launch(words)
                 self.assertEqual(answered, said(PROGRAM, words))
-                self.assertLess(seconds, 1)
+                self.assertLess(seconds, AT_ONCE)
         self.assertFalse((self.room / "called").exists(), "the toolchain was called")
 
     def test_the_version_is_answered_with_the_program_s_first_line_and_at_once(self):
@@ -66,7 +68,7 @@ class FreshClone(unittest.TestCase):
                 answered, seconds = self.launch(words)
                 first = said(PROGRAM, words)[1].splitlines()[0]
                 self.assertEqual(answered, (0, f"{first}\nnot proved and built here yet\n", ""))
-                self.assertLess(seconds, 1)
+                self.assertLess(seconds, AT_ONCE)
         self.assertFalse((self.room / "called").exists(), "the toolchain was called")
 
     def test_any_other_call_needs_the_program(self):

@@ -2,6 +2,8 @@
 use Rattle.std.specs.Prelude.{ℕ, ⊤, Result, Ok, Err}
 use Rattle.program_assemble.specs.declared.fault.AssembleFault.{AssembleFault}
 use Rattle.program_assemble.specs.declared.fault.AssembleFault.TheVariants as assemble
+use Rattle.program_reel.specs.declared.fault.ReelFault.{ReelFault}
+use Rattle.program_reel.specs.declared.fault.ReelFault.TheVariants as reel
 use Rattle.program_run.specs.declared.fault.RunFault.{RunFault}
 use Rattle.program_run.specs.declared.fault.RunFault.TheVariants as job
 use Rattle.ibm1401.specs.declared.fault.Fault.{Fault}
@@ -21,6 +23,17 @@ assemble_status assemble.Memory = 1
 assemble_status assemble.Output = 1
 assemble_status (assemble.Unwritten name) = 1
 assemble_status (assemble.OneFile first second) = 2
+
+-- the status after a fault of `reel`
+abbrev pub reel_status : ReelFault → ℕ
+reel_status (reel.File name why) = 1
+reel_status (reel.Reel why) = 1
+reel_status (reel.Record number) = 1
+reel_status reel.Full = 1
+reel_status reel.Memory = 1
+reel_status reel.Output = 1
+reel_status (reel.Unwritten name) = 1
+reel_status (reel.OneFile first second) = 2
 
 -- the status after a fault of `run`
 abbrev pub job_status : RunFault → ℕ
@@ -43,6 +56,7 @@ status_of (fault.Usage refusal) = 2
 status_of fault.Output = 1
 status_of fault.Memory = 1
 status_of (fault.Assemble why) = assemble_status why
+status_of (fault.Reel why) = reel_status why
 status_of (fault.Run why) = job_status why
 status_of (fault.Hopper name count) = 1
 status_of (fault.Hold why) = 1

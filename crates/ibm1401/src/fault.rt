@@ -5,6 +5,7 @@ ghost use Rattle.ibm1401.specs.Status.{run_status, status_of};
 use clap::Error as Refusal;
 use program_assemble::AssembleFault;
 use program_operate::OperateFault;
+use program_reel::ReelFault;
 use program_rooms::OpenFault;
 use program_run::RunFault;
 use program_sessions::HoldFault;
@@ -35,6 +36,9 @@ pub enum Fault {
     /// A source isn't assembled, or an image isn't listed, or what is made of it isn't written.
     #[error("{0}")]
     Assemble(AssembleFault),
+    /// A reel isn't listed, or what is made of it, or what it is made of, isn't read or written.
+    #[error("{0}")]
+    Reel(ReelFault),
     /// A run of a program with its deck was refused, broke off, or ended otherwise than by a halt.
     #[error("{0}")]
     Run(RunFault),
@@ -62,8 +66,10 @@ impl Fault {
             Fault::Assemble(AssembleFault::OneFile(..)) | Fault::Run(RunFault::OneFile(..)) => {
                 MISUSED
             }
+            Fault::Reel(ReelFault::OneFile(..)) => MISUSED,
             Fault::Output | Fault::Memory => FAILED,
             Fault::Assemble(_) | Fault::Run(_) | Fault::Hopper(..) => FAILED,
+            Fault::Reel(_) => FAILED,
             Fault::Hold(_) | Fault::Open(_) | Fault::Operate(_) => FAILED,
         }
     }

@@ -22,8 +22,9 @@ use bytes_files::hold_closed_streams;
 use machine_graphics::Graphics;
 use program_arguments::read_call;
 use program_assemble::{assemble_file, check_size, disassemble_deck, disassemble_file};
-use program_call::{Call, Operating, Seating};
+use program_call::{Call, Operating, Parity, ReelTask, Reeling, Seating};
 use program_operate::operate_at;
+use program_reel::{check_names, list_reel, write_reel, write_reel_deck};
 use program_rooms::{machine_of, open_room, open_seats};
 use program_run::{read_cards, run_file};
 use program_sessions::{hold_session, journal_file};
@@ -80,6 +81,7 @@ fn run<
                 size,
             },
         ) => list_deck(rt, file, graphics, size),
+        Ok(Call::Reel(asked)) => reel(rt, asked),
         Ok(Call::Run(job)) => run_file(rt, terminals.error_output(), job).map_err(Fault::Run),
         Ok(Call::Operate(asked)) => operate(rt, terminals, asked),
         Ok(Call::Serve(service)) => open_room(rt, service).map_err(Fault::Open),
@@ -107,6 +109,36 @@ fn list_deck<R: Files + Print + Eprint + AllocGlobal>(
     check_size(size).map_err(Fault::Assemble)?;
     let cards = read_cards(rt, file, asked).map_err(Fault::Run)?;
     disassemble_deck(rt, &cards, size).map_err(Fault::Assemble)
+}
+
+/// Lists a reel, makes a deck of it, or makes it of a deck.
+fn reel<R: Files + Print + Eprint + AllocGlobal>(rt: &R, asked: Reeling) -> Result<(), Fault> {
+    let Reeling {
+        file,
+        task,
+        graphics,
+        parity,
+    } = asked;
+    match task {
+        ReelTask::List => list_reel(rt, file, parity).map_err(Fault::Reel),
+        ReelTask::IntoDeck(out) => {
+            write_reel_deck(rt, file, out, graphics, parity).map_err(Fault::Reel)
+        }
+        ReelTask::FromDeck(out) => make_reel(rt, file, out, graphics, parity),
+    }
+}
+
+/// Makes a reel of the deck of a file.
+fn make_reel<R: Files + Print + Eprint + AllocGlobal>(
+    rt: &R,
+    file: String,
+    out: String,
+    asked: Option<Graphics>,
+    parity: Parity,
+) -> Result<(), Fault> {
+    check_names(rt, file.as_str(), out.as_str()).map_err(Fault::Reel)?;
+    let cards = read_cards(rt, file, asked).map_err(Fault::Run)?;
+    write_reel(rt, &cards, out, parity).map_err(Fault::Reel)
 }
 
 /// Opens a room whose seats are taken again. What it begins with is read before the ports are asked for.

@@ -17,8 +17,13 @@ use Rattle.program_call.specs.declared.call.Opening.{Opening}
 use Rattle.program_call.specs.declared.call.Opening.TheVariants as opening
 use Rattle.program_call.specs.declared.call.Operating.{Operating}
 use Rattle.program_call.specs.declared.call.Operators.{Operators}
+use Rattle.program_call.specs.declared.call.Parity.{Parity}
+use Rattle.program_call.specs.declared.call.Parity.TheVariants as parity
 use Rattle.program_call.specs.declared.call.Product.{Product}
 use Rattle.program_call.specs.declared.call.Product.TheVariants as product
+use Rattle.program_call.specs.declared.call.ReelTask.{ReelTask}
+use Rattle.program_call.specs.declared.call.ReelTask.TheVariants as task
+use Rattle.program_call.specs.declared.call.Reeling.{Reeling}
 use Rattle.program_call.specs.declared.call.Resuming.{Resuming}
 use Rattle.program_call.specs.declared.call.Seating.{Seating}
 use Rattle.program_call.specs.declared.call.PlainService.{PlainService}
@@ -272,6 +277,40 @@ IsDisassembled found file asked =
     × (asked ≡ disassemble_call deck name (graphics_in (first_value found (codes "graphics"))) size)
     × (string_bytes name ≡ file) × IsFlagIn found (codes "load") deck × IsNumberOr 16 found (codes "size") 4000 size
 
+-- what is done with a file of `reel`: it is a deck or not, and these names are given; without a name for its reel,
+-- which clap lets nobody leave out, a deck is read as a reel
+abbrev pub reel_task : Bool → Option (String Global) → Option (String Global) → ReelTask
+reel_task true (Some output) deck = task.FromDeck output
+reel_task true None deck = task.List
+reel_task false output (Some deck) = task.IntoDeck deck
+reel_task false output None = task.List
+
+abbrev pub IsReelTask : Found → ReelTask → Type 0
+IsReelTask found asked =
+    (is_deck : Bool) × (output : Option (String Global)) × (deck : Option (String Global))
+    × (asked ≡ reel_task is_deck output deck)
+    × IsFlagIn found (codes "from-deck") is_deck
+    × IsNameIn found (codes "output") output
+    × IsNameIn found (codes "deck") deck
+
+abbrev pub parity_of : Bool → Parity
+parity_of false = parity.Odd
+parity_of true = parity.Even
+
+abbrev pub IsParityIn : Found → Parity → Type 0
+IsParityIn found asked =
+    (is_even : Bool) × (asked ≡ parity_of is_even) × IsFlagIn found (codes "even-parity") is_even
+
+-- `reel` of a file
+pub record IsReeling (found : Found) (name : List ℕ) (asked : Reeling) : Type 0 where
+  pub file : string_bytes asked.file ≡ name
+  pub task : IsReelTask found asked.task
+  pub graphics : asked.graphics ≡ graphics_in (first_value found (codes "graphics"))
+  pub parity : IsParityIn found asked.parity
+
+abbrev pub IsReel : Found → List ℕ → Call → Type 0
+IsReel found file asked = (reeling : Reeling) × (asked ≡ call.Reel reeling) × IsReeling found file reeling
+
 -- a session on a machine of 4,000 places, whose journal isn't kept
 abbrev pub bare_call : Call
 bare_call = call.Console (record { opening = opening.PowerOn 4000 no_features; journal = None })
@@ -290,6 +329,7 @@ pub record IsOfFile (name : List ℕ) (found : Found) (file : List ℕ) (asked :
   pub assemble : name ≡ codes "assemble" → IsAssembled found file asked
   pub load : name ≡ codes "load" → IsLoad found file asked
   pub disassemble : name ≡ codes "disassemble" → IsDisassembled found file asked
+  pub reel : name ≡ codes "reel" → IsReel found file asked
   pub run : name ≡ codes "run" → IsRun found file asked
   pub journal : name ≡ codes "journal" → IsShown found file asked
   pub resume : name ≡ codes "resume" → IsResumed found file asked

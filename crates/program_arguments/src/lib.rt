@@ -18,6 +18,7 @@ mod graphics;
 mod journals;
 mod languages;
 mod operating;
+mod reeling;
 mod running;
 mod serving;
 mod sizes;
@@ -27,7 +28,7 @@ mod switches;
 pub mod reading;
 
 pub use program_call::{
-    Assembling, Call, DEFAULT_SIZE, Job, NewJournal, Opening, Operating, Operators, PlainService,
-    Product, Reported, Resuming, Seating, Showing, Start, Tables,
+    Assembling, Call, DEFAULT_SIZE, Job, NewJournal, Opening, Operating, Operators, Parity,
+    PlainService, Product, ReelTask, Reeling, Reported, Resuming, Seating, Showing, Start, Tables,
 };
 pub use reading::read_call;

@@ -12,6 +12,7 @@ use crate::journals::{
 };
 use crate::operating::{operate, operate_call};
 use crate::options::{Argument, FREE, Kind};
+use crate::reeling::{reel, reel_call};
 use crate::running::{run, run_call};
 use crate::serving::{operators_in, serve, serve_call};
 use crate::sizes::{SIZE, SizeTexts, size_in};
@@ -127,6 +128,7 @@ fn put_each<'a>(
         assemble(),
         load(),
         disassemble(),
+        reel(),
         run(),
         operate(),
         serve(),
@@ -207,6 +209,7 @@ fn file_call(alloc: Global, name: &str, options: &ArgMatches<'_>, file: &str) ->
     match name {
         "assemble" => assemble_call(alloc, options, file),
         "load" => load_call(alloc, options, file),
+        "reel" => reel_call(alloc, options, file),
         "run" => run_call(alloc, options, file),
         "journal" => journal_call(alloc, options, file),
         "resume" => resume_call(alloc, options, file),

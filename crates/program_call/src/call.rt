@@ -129,6 +129,39 @@ pub struct Seating {
     pub renewal: Option<u16>,
 }
 
+/// Which parity the characters of a tape have.
+#[derive(Clone, Copy, Debug, PartialEq, Eq)]
+pub enum Parity {
+    /// Odd: each character is on tape as it is.
+    Odd,
+    /// Even: bit A alone stands for a blank, which would have no bit.
+    Even,
+}
+
+/// What is done with a reel of tape.
+#[derive(Debug, Drop, PartialEq, Eq)]
+pub enum ReelTask {
+    /// It is listed on standard output.
+    List,
+    /// A deck is made of it, and written to the file of this name.
+    IntoDeck(String),
+    /// It is made of a deck, and written to the file of this name.
+    FromDeck(String),
+}
+
+/// A reel of tape that is listed, made a deck, or made of one.
+#[derive(Debug, Drop, PartialEq, Eq)]
+pub struct Reeling {
+    /// The name of the file that is read: that of the reel, or of the deck that becomes a reel.
+    pub file: String,
+    /// What is done.
+    pub task: ReelTask,
+    /// The chain whose graphics the deck has or gets; without one it is this machine's.
+    pub graphics: Option<Graphics>,
+    /// Which parity the tape has.
+    pub parity: Parity,
+}
+
 /// How a program is started.
 #[derive(Clone, Copy, Debug, PartialEq, Eq)]
 pub enum Start {
@@ -266,6 +299,8 @@ pub enum Call {
         /// How many places core storage has.
         size: u16,
     },
+    /// A reel of tape, listed, made a deck, or made of one.
+    Reel(Reeling),
     /// A program run to its end.
     Run(Job),
     /// A person's console.

@@ -13,7 +13,8 @@ pub mod call;
 pub mod sizes;
 
 pub use call::{
-    Assembling, Call, DEFAULT_SIZE, Job, NewJournal, Opening, Operating, Operators, PlainService,
-    Product, Reported, Resuming, Seating, Session, Showing, Start, Tables,
+    Assembling, Call, DEFAULT_SIZE, Job, NewJournal, Opening, Operating, Operators, Parity,
+    PlainService, Product, ReelTask, Reeling, Reported, Resuming, Seating, Session, Showing, Start,
+    Tables,
 };
 pub use sizes::{is_refused, size_for};

@@ -1,0 +1,5 @@
+pub mod CountLemmas
+pub mod PutsLemmas
+pub mod ReelListingLemmas
+pub mod DeckLemmas
+mod ReelExamples

@@ -1,0 +1,67 @@
+-- What is put into a page part by part is put as a whole.
+use Rattle.std.proofs.Common.{◌≡◌, ℕ, Bool, List, [], ◌++◌, Option, Result, Ok, Err, append_assoc, append-nil, ap}
+use Rattle.std.proofs.Common.{sym, ◌∙◌}
+use Rattle.std.proofs.Common.{inl, inr, subst}
+use Rattle.std.specs.Prelude.{⊤, IsTrue}
+use Rattle.bytes_pages.proofs.SentLemmas.{part_before, part_then, sent_before, sent_more, sent_part, sent_rest}
+use Rattle.bytes_pages.proofs.SentLemmas.{sent_then}
+use Rattle.bytes_pages.specs.Page.{Sent}
+use Rattle.bytes_streams.specs.Sink.{AppendsPart}
+use Rattle.bytes_streams.specs.declared.failure.Failed.{Failed}
+use Rattle.program_reel.specs.Did.{Wrote}
+use Rattle.program_reel.specs.Writing.{Puts}
+use Rattle.program_reel.specs.declared.fault.ReelFault.{ReelFault}
+
+-- a part was put, and then another
+pub puts_then : (old between new : Option (List ℕ)) (failed : Bool) (page first next more less : List ℕ)
+    (outcome : Result ⊤ Failed) → Sent old between (page ++ first) next
+    → Puts between new failed (next ++ more) less outcome → Puts old new failed (page ++ (first ++ more)) less outcome
+puts_then old between new failed page first next more less (Ok _) one other =
+    sent_then old between new page first next more less one other
+puts_then old between new failed page first next more less (Err _) one other =
+    (part_then old between new page first next more one other.0, other.1)
+
+-- a write failed at the first part
+pub puts_failed : (old new : Option (List ℕ)) (failed : Bool) (page first more less : List ℕ)
+    (outcome : Result ⊤ Failed) (why : Failed) → outcome ≡ Err why
+    → AppendsPart old new (page ++ first) × IsTrue failed → Puts old new failed (page ++ (first ++ more)) less outcome
+puts_failed old new failed page first more less outcome why is part =
+    rw is (rw (← append_assoc page first more) (part_before old new (page ++ first) more part.0), part.1)
+
+-- one part more was put of a text, and this was left of it
+pub step_sent : (old between new : Option (List ℕ)) (whole page first rest more next : List ℕ)
+    → Sent old between whole (page ++ rest) → rest ≡ first ++ more → Sent between new (page ++ first) next
+    → Sent old new whole (next ++ more)
+step_sent old between new whole page first rest more next sent split one =
+    sent_more old between new whole (page ++ rest) (next ++ more) sent
+    (subst (λ text. Sent between new text (next ++ more))
+    (append_assoc page first more ∙ ap (λ text. page ++ text) (sym split))
+    (sent_before between new (page ++ first) next more one))
+
+-- a write failed at that part
+pub step_failed : (old between new : Option (List ℕ)) (failed : Bool) (whole page first rest more less : List ℕ)
+    (outcome : Result ⊤ Failed) (why : Failed) → outcome ≡ Err why → Sent old between whole (page ++ rest)
+    → rest ≡ first ++ more → AppendsPart between new (page ++ first) × IsTrue failed
+    → Puts old new failed whole less outcome
+step_failed old between new failed whole page first rest more less outcome why is sent split part =
+    rw is (
+      sent_part old between new whole (page ++ rest) sent
+          (subst (λ text. AppendsPart between new text)
+          (append_assoc page first more ∙ ap (λ text. page ++ text) (sym split))
+          (part_before between new (page ++ first) more part.0)),
+      part.1,
+    )
+
+-- nothing more was left
+pub step_end : (old new : Option (List ℕ)) (whole page rest : List ℕ) → Sent old new whole (page ++ rest) → rest ≡ []
+    → Sent old new whole page
+step_end old new whole page rest sent none =
+    subst (λ left. Sent old new whole left) (ap (λ text. page ++ text) none ∙ append-nil page) sent
+
+-- what was left was written
+pub wrote_rest : (old between new : Option (List ℕ)) (failed : Bool) (text left : List ℕ) (outcome : Result ⊤ ReelFault)
+    → Sent old between text left → Wrote left between new failed outcome → Wrote text old new failed outcome
+wrote_rest old between new failed text left outcome sent (inl done) =
+    inl (done.0, sent_rest old between new text left sent done.1)
+wrote_rest old between new failed text left outcome sent (inr part) =
+    inr (part.0, sent_part old between new text left sent part.1, part.2)

@@ -1,0 +1,115 @@
+//! The subcommand `reel`, from file to file.
+
+use crate::decks::reel_deck;
+use crate::fault::ReelFault;
+use crate::listing::write_reel_listing;
+use crate::reels::deck_reel;
+use bytes_files::{FileFault, WriteFault, is_one_file, put_whole, read_whole};
+use bytes_streams::ToWriter;
+use job_runner::CardList;
+use machine_graphics::{Graphics, in_theirs};
+use program_call::Parity;
+use std::alloc::Global;
+use std::io;
+use std::rt::Files;
+
+/// The bytes of a reel's file.
+///
+/// # Errors
+///
+/// `File`, with the name as it was given; else `Memory`.
+fn read_reel_file(rt: &(impl Files + AllocGlobal), name: String) -> Result<Vec<u8>, ReelFault> {
+    match read_whole(rt, name.as_str()) {
+        Ok(bytes) => Ok(bytes),
+        Err(FileFault::Memory) => Err(ReelFault::Memory),
+        Err(fault) => Err(ReelFault::File(name, fault)),
+    }
+}
+
+/// The fault of two names that lead to one file.
+fn one_file(alloc: Global, first: &str, second: &str) -> ReelFault {
+    match (
+        String::from_str(alloc, first),
+        String::from_str(alloc, second),
+    ) {
+        (Ok(first), Ok(second)) => ReelFault::OneFile(first, second),
+        _ => ReelFault::Memory,
+    }
+}
+
+/// Looks at the names of the file that is read and of the file that is written.
+///
+/// # Errors
+///
+/// `OneFile` if they lead to one file, or `Memory`.
+pub fn check_names<R: Files + AllocGlobal>(rt: &R, file: &str, out: &str) -> Result<(), ReelFault> {
+    match is_one_file(rt, file, out) {
+        Ok(false) => Ok(()),
+        Ok(true) => Err(one_file(rt.alloc(), file, out)),
+        Err(_) => Err(ReelFault::Memory),
+    }
+}
+
+/// Writes a text to the file of this name, whole or not at all; or to standard output, if the name is its.
+fn put_file(
+    rt: &(impl Files + Print + AllocGlobal),
+    name: String,
+    text: &[u8],
+) -> Result<(), ReelFault> {
+    match put_whole(rt, name.as_str(), text) {
+        Ok(()) => Ok(()),
+        Err(WriteFault::Memory) => Err(ReelFault::Memory),
+        Err(WriteFault::Unwritten) => Err(ReelFault::Unwritten(name)),
+    }
+}
+
+/// Writes the listing of the reel of a file to standard output.
+///
+/// # Errors
+///
+/// `File` if the file can't be read, `Reel` if it has no reel's text, and `Memory`; nothing is written then. `Output`
+/// if the listing isn't written, or a part of it alone.
+pub fn list_reel<R: Files + Print + AllocGlobal>(
+    rt: &R,
+    file: String,
+    parity: Parity,
+) -> Result<(), ReelFault> {
+    let text = read_reel_file(rt, file)?;
+    let mut writer = ToWriter::new(io::writer(rt));
+    write_reel_listing(rt.alloc(), text.as_slice(), parity, &mut writer)
+}
+
+/// Writes the deck of the reel of a file, in the graphics of the chain that is asked for, to the file named `out`.
+///
+/// # Errors
+///
+/// `OneFile` if both names lead to one file; `File` if the reel can't be read, `Reel` if the file has no reel's text,
+/// and `Record` if a record is longer than a card; `Unwritten` if the deck isn't written; or `Memory`.
+pub fn write_reel_deck<R: Files + Print + AllocGlobal>(
+    rt: &R,
+    file: String,
+    out: String,
+    asked: Option<Graphics>,
+    parity: Parity,
+) -> Result<(), ReelFault> {
+    check_names(rt, file.as_str(), out.as_str())?;
+    let text = read_reel_file(rt, file)?;
+    let deck = reel_deck(rt.alloc(), text.as_slice(), parity)?;
+    let deck = in_theirs(asked, deck);
+    put_file(rt, out, deck.as_slice())
+}
+
+/// Writes the reel of a deck to the file of this name.
+///
+/// # Errors
+///
+/// `Full` if the deck is longer than a reel, `Unwritten` if the reel isn't written, or `Memory`.
+pub fn write_reel<R: Files + Print + AllocGlobal>(
+    rt: &R,
+    cards: &CardList,
+    out: String,
+    parity: Parity,
+) -> Result<(), ReelFault> {
+    let text = deck_reel(rt.alloc(), cards, parity)?;
+    put_file(rt, out, text.as_slice())
+}
