@@ -44,22 +44,31 @@ class Chromium:
 
     def call(self, method, session=None, **params):
         """The result of a call, once it has come."""
-        self.number += 1
-        message = {"id": self.number, "method": method, "params": params}
-        if session:
-            message["sessionId"] = session
-        os.write(self.out, json.dumps(message).encode() + b"\0")
+        return self.call_all(method, session, params)[0]
+
+    def call_all(self, method, session, *asked):
+        """The results of calls with these parameters, once all have come. The browser has all of them at once, so
+        nothing that the caller waits for is between two of them."""
+        first, messages, results = self.number + 1, [], {}
+        for params in asked:
+            self.number += 1
+            message = {"id": self.number, "method": method, "params": params}
+            if session:
+                message["sessionId"] = session
+            messages.append(json.dumps(message).encode() + b"\0")
+        os.write(self.out, b"".join(messages))
         late = time.monotonic() + SECONDS
-        while time.monotonic() < late:
+        while len(results) < len(asked):
             answered = self.read(late - time.monotonic())
             if answered is None:
-                break
-            if answered.get("id") == self.number:
+                raise TimeoutError(method)
+            if first <= answered.get("id", 0) <= self.number:
                 if "error" in answered:
                     raise RuntimeError(f"{method}: {answered['error']}")
-                return answered["result"]
-            self.events.append(answered)
-        raise TimeoutError(method)
+                results[answered["id"]] = answered["result"]
+            else:
+                self.events.append(answered)
+        return [results[number] for number in sorted(results)]
 
     def read(self, seconds):
         """The next message, or None if none comes within this time."""
@@ -76,7 +85,11 @@ class Chromium:
     def end(self):
         """Ends the browser."""
         self.process.terminate()
-        self.process.wait()
+        try:
+            self.process.wait(SECONDS)
+        except subprocess.TimeoutExpired:
+            self.process.kill()
+            self.process.wait()
         os.close(self.out)
         os.close(self.come)
         self.profile.cleanup()
@@ -146,9 +159,9 @@ class Page:
         }})(document.getElementById('{element}'))""")
         if not isinstance(at, list) or not at[2]:
             return False
-        for kind in "mouseMoved", "mousePressed", "mouseReleased":
-            more = {} if kind == "mouseMoved" else {"button": "left", "clickCount": 1}
-            self.call("Input.dispatchMouseEvent", type=kind, x=at[0], y=at[1], **more)
+        place, button = {"x": at[0], "y": at[1]}, {"button": "left", "clickCount": 1}
+        self.browser.call_all("Input.dispatchMouseEvent", self.session, {"type": "mouseMoved", **place},
+                              {"type": "mousePressed", **place, **button}, {"type": "mouseReleased", **place, **button})
         return True
 
     def tab_to(self, element, most=150):

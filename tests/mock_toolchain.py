@@ -1,7 +1,8 @@
 """A mock of the toolchain, which proves nothing and notes what it is asked to prove.
 
-The environment says what it does: VERSION is its own, CALLS the file that gets each crate's name, WHILE the seconds that
-a proof takes, FAILS the crate that isn't proved, and CHANGED the crate whose source changes meanwhile."""
+The environment says what it does: VERSION is its own, CALLS the file that gets each crate's name, WHILE the seconds
+that a proof takes, HELD a file that keeps each proof from its end as long as it is there, FAILS the crate that isn't
+proved, and CHANGED the crate whose source changes meanwhile."""
 import os
 
 VERSION = "mock"
@@ -17,6 +18,7 @@ COMMANDS = {
 done
 echo "$crate" >> "$CALLS"
 sleep "$WHILE"
+while [ -e "$HELD" ]; do sleep 0.1; done
 [ "$crate" != "$FAILS" ] || exit 1
 [ "$crate" != "$CHANGED" ] || { sleep 0.1; echo "// changed" >> src/lib.rt; }
 case $made in
@@ -35,5 +37,5 @@ def make_toolchain(folder, **env):
     for command, text in COMMANDS.items():
         (commands / command).write_text(f"#!/bin/sh\n{text}\n")
         (commands / command).chmod(0o755)
-    usual = {"VERSION": VERSION, "CALLS": str(folder / "calls"), "WHILE": "0", "FAILS": "", "CHANGED": ""}
+    usual = {"VERSION": VERSION, "CALLS": str(folder / "calls"), "WHILE": "0", "HELD": "", "FAILS": "", "CHANGED": ""}
     return {**os.environ, "PATH": f"{commands}:{os.environ['PATH']}", **usual, **env}

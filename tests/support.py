@@ -33,13 +33,18 @@ TRIALS = Path(os.environ.get("TRIALS", TOP / "crates/tests_allocation/out/tests_
 PAGE = subprocess.run([TOP / "page/embed", "--show"], stdout=subprocess.PIPE, check=True).stdout
 MOST_BYTES = 16_777_216
 MOST_ENTRIES = 100_000
-# How long a test waits for a run to end, and for one reply.
-SECONDS = 120
-REPLY_SECONDS = 20
+# How long a test waits for a run to end, and for one reply. Each says only that the program hangs: a host with much to
+# do may take a hundred times as long as a quiet one.
+SECONDS = 300
+REPLY_SECONDS = 150
 # How long a wait pauses before it looks again.
 PAUSE = 0.02
 # How many ports are tried, where somebody else has just taken one.
 PORTS_TRIED = 20
+# How often steps are taken that have to be done within some seconds, where the host was too slow for them.
+MOST_TRIALS = 10
+# A page closes a connection whose request doesn't come within a second. A request that takes no longer is heard.
+IN_TIME = 0.5
 # The ports that are handed out: those of the module, which the runner sets, beginning by chance.
 FIRST_PORT, LAST_PORT = map(int, os.environ.get("IBM1401_PORTS", "20000 31999").split())
 BEGIN_AT = random.randint(FIRST_PORT, LAST_PORT)
@@ -83,6 +88,16 @@ def program(*words, lines=b"", **how):
 def shell(text, *words, **how):
     """Runs a line of bash in which $0 is the program and $1, $2, .. are the words."""
     return run(["bash", "-c", text, PROGRAM, *words], **how)
+
+
+def at_a_port(call, many=1):
+    """The run that a call of a port returns, which is the first of so many free ones in a row. Another port is tried if
+    somebody else has taken this one meanwhile."""
+    for _ in range(PORTS_TRIED):
+        ran = call(free_ports(many))
+        if ran.stderr != b"ibm1401: port refused\n":
+            break
+    return ran
 
 
 def repository(folder):
@@ -153,11 +168,36 @@ class ProgramTest(unittest.TestCase):
                 (made / each.name).symlink_to(PROGRAM if each == LAUNCHER else each)
         return made
 
+    # What the subtests of a trial have found, while one is made.
+    found = None
+
     def check(self, name, wrong):
         """A subtest that fails with what is wrong, a text or a list of texts, if anything is."""
+        text = wrong and f"{caller()}: {wrong if isinstance(wrong, str) else '; '.join(map(str, wrong))}"
+        if self.found is not None:
+            self.found.append((name, text))
+        else:
+            self.report(name, text)
+
+    def report(self, name, text):
+        """A subtest that fails with this text, if there is one."""
         with self.subTest(name):
-            if wrong:
-                self.fail(f"{caller()}: {wrong if isinstance(wrong, str) else '; '.join(map(str, wrong))}")
+            if text:
+                self.fail(text)
+
+    def trial(self, steps, seconds):
+        """The subtests of steps that are right only if they take no longer than this, or the part of them whose time
+        they return: if something is wrong, and it took longer, the host was too slow, and they are taken again."""
+        for _ in range(MOST_TRIALS):
+            begun, self.found = time.monotonic(), []
+            try:
+                took = steps()
+            finally:
+                found, self.found = self.found, None
+            if (took or time.monotonic() - begun) <= seconds or not any(text for _, text in found):
+                break
+        for name, text in found:
+            self.report(name, text)
 
     def same(self, name, found, wanted):
         """A subtest: a value is the wanted one. A wanted text that ends in '...' is its beginning."""
@@ -387,8 +427,12 @@ class Server:
     def settle(self, handles):
         """Waits until the program has this many handles open and each of its threads waits for something."""
         def has_settled():
-            tasks = Path(f"/proc/{self.process.pid}/task").iterdir()
-            states = [(task / "stat").read_text().rpartition(")")[2].split()[0] for task in tasks]
+            try:
+                tasks = Path(f"/proc/{self.process.pid}/task").iterdir()
+                states = [(task / "stat").read_text().rpartition(")")[2].split()[0] for task in tasks]
+            except OSError:
+                # A thread has ended meanwhile.
+                return False
             return self.handles() == handles and set(states) == {"S"}
 
         if not wait_until(has_settled):
@@ -457,15 +501,19 @@ class Server:
 
 
 class Requests:
-    """How many requests were made, and how many of them a page has closed without a response."""
+    """How many requests were made, and how many of them a page has closed without a response though they came in
+    time."""
 
     made = 0
     silent = 0
+    # Whether the last one was sent in time.
+    in_time = False
 
 
 def exchange(port, request):
     """All that comes back for these bytes, which are the last that are sent."""
-    response = b""
+    response, begun = b"", time.monotonic()
+    Requests.in_time = False
     try:
         with socket.create_connection(("127.0.0.1", port), timeout=REPLY_SECONDS) as connection:
             try:
@@ -473,6 +521,7 @@ def exchange(port, request):
                 connection.shutdown(socket.SHUT_WR)
             except OSError:
                 pass
+            Requests.in_time = time.monotonic() - begun < IN_TIME
             while more := connection.recv(1 << 16):
                 response += more
     except OSError as late:
@@ -489,7 +538,7 @@ def ask(port, request):
         response = exchange(port, request)
         if response or time.monotonic() > late:
             return response
-        Requests.silent += 1
+        Requests.silent += Requests.in_time
         time.sleep(PAUSE)
 
 

@@ -7,8 +7,12 @@ import unittest
 from tests.chromium import NARROW, OTHER_NAME, WIDE, Chromium, Page
 from tests.support import EXAMPLES, ProgramTest, wait_until
 
-# How many looks make up ten minutes, at four a second.
+# How many looks make up ten minutes, at four a second, and how many are asked for at a time.
 LOOKS = 2_400
+LOOKS_AT_A_TIME = 50
+# How many seconds a test of a hold may take: a hold lasts for a minute, and ends when its page doesn't look for some
+# seconds.
+QUICK = 10
 TELEPHONE = (360, 740)
 BEAMER = (1920, 950)
 
@@ -39,15 +43,22 @@ class Browser(ProgramTest):
         return page
 
     def open_page(self, seat=1):
-        """The page of a seat, which has seen the machine."""
+        """The page of a seat, which has seen the machine. It runs no deck by itself, however long nobody touches it."""
         page = self.open(self.served.address(seat))
         self.check(f"the page of seat {seat} sees the machine", "" if page.is_ready() else "it doesn't")
+        page.value("IDLE.attractMs = 1e9, 0")
         self.pages.append(page)
         return page
 
     def shows(self, name, expression, wanted=True, page=None):
         """A subtest: an expression in the page comes to a value."""
         self.same(name, (page or self.page).until(expression, wanted), wanted)
+
+    def complains_once(self, page, status):
+        """A subtest: the browser itself reports a line that was refused with this status, and the page nothing else."""
+        wait_until(lambda: page.value("0") == 0 and page.complaints())
+        self.same("one complaint, of that line", [status in each for each in page.complaints()], [True])
+        self.pages.remove(page)
 
 
 class Window(Browser):
@@ -91,7 +102,8 @@ class DeckToPaper(Browser):
         self.shows("the load key", "byId('said-words').textContent === TEXTS.said.load")
         self.shows("the next instruction is shown", "byId('next').textContent.startsWith('SW')")
         self.shows("and lit", "document.querySelectorAll('#grid td.next').length", 7)
-        self.page.value("byId('pace').selectedIndex = 1")
+        # At this pace the rest of it takes more than ten seconds.
+        self.page.value("byId('pace').selectedIndex = 0")
         self.page.click("run-key")
         self.shows("lines are printed while the program runs", "run !== null && view.paper.length > 3")
         self.page.value("byId('pace').selectedIndex = FASTEST")
@@ -144,7 +156,9 @@ class TwoPages(Browser):
         """The page says so, and so do the keys that would act in the middle of it."""
         second = self.open_page(2)
         second.value("say('DEPOSIT 0500 ~B500~.').then(() => say('START 0500'))")
-        self.shows("it is at work", "byId('others').textContent",
+        # The page says so for some seconds after the last command: as long as it hasn't said so, that is now.
+        now = "view.others.at = view.others.began = performance.now()"
+        self.shows("it is at work", f"view.others.count > 0 && ({now}, drawOthers(), byId('others').textContent)",
                    "Seat 2 is at work (START), on this machine too.")
         second.value("byId('pace').selectedIndex = 1, pressRun(), 0")
         runs = "Seat 2 runs a program: LOAD, RUN, STEP and START AT would act in the middle of it."
@@ -164,8 +178,11 @@ class TwoPages(Browser):
         second = self.open_page(2)
         self.page.value("byId('find-at').value = '0700', byId('find').requestSubmit()")
         self.shows("the place is chosen", "byId('cell').textContent.startsWith('0700')")
-        count = "glowed += core.cells[110].getAnimations().length"
-        self.page.value(f"window.glowed = 0, setInterval(() => {{ {count}; }}, 20)")
+        self.page.value("""window.glowed = 0, window.animated = Element.prototype.animate,
+            Element.prototype.animate = function (...how) {
+                glowed += this === core.cells[110];
+                return animated.apply(this, how);
+            }, 0""")
         second.value("say('DEPOSIT 0710 Z')")
         self.shows("it glows", "glowed > 0")
         reduced = [{"name": "prefers-reduced-motion", "value": "reduce"}]
@@ -185,15 +202,21 @@ class TwoPages(Browser):
         self.shows("a line with the count of a picture is", line.format(1), "OK", window)
         self.page.value("inTurn(look)")
         self.shows("the first window of the seat goes on too", line.format(2), "OK")
-        # The browser itself reports the line that was refused.
-        self.same("one complaint, of that line", ["409" in each for each in window.complaints()], [True])
-        self.pages.remove(window)
+        self.complains_once(window, "409")
 
 
 class Holding(Browser):
     """A page holds the machine for a minute: the keys of the others are off, and say why."""
 
     def test_a_hold(self):
+        """It lasts for a minute, in which all of this is seen."""
+        self.trial(self.hold_and_release, QUICK)
+
+    def hold_and_release(self):
+        """Subtests: seat 2 holds the machine of a new room, and releases it."""
+        self.served = self.room("serve", seats=2, pages=True, consoles=False)
+        self.pages.clear()
+        self.page = self.open_page()
         second = self.open_page(2)
         notice = "byId('notice').hidden ? '' : byId('notice-words').textContent"
         second.click("hold-key")
@@ -214,9 +237,7 @@ class Holding(Browser):
         self.shows("it ends", "byId('notice').hidden && !isOff(byId('load-key')) && byId('load-key').title",
                    self.page.value("TEXTS.loadTitle"))
         self.shows("the other page goes on", "say('START 0003').then(outcome => outcome.reply)", "OK")
-        # The browser itself reports the line that was refused.
-        self.same("one complaint, of that line", ["423" in each for each in self.page.complaints()], [True])
-        self.pages.remove(self.page)
+        self.complains_once(self.page, "423")
 
     def test_a_run_of_another_page_stops(self):
         second = self.open_page(2)
@@ -401,14 +422,18 @@ class Amounts(Browser):
         self.page.click("ask-yes")
 
     def test_tearing_off_is_stopped(self):
-        """Each request is slowed down here, to leave time to press the key."""
+        """The first request for lines is sent here, and the second one when the key has been pressed."""
         self.print_lines(400)
-        self.page.value("window.asked = fetch, fetch = (...all) => (all[0] === '/lines' ? delay(500) : "
-                        "Promise.resolve()).then(() => asked(...all)), 0")
+        self.page.value("""window.asked = fetch, window.maySend = 1, fetch = async (...all) => {
+            while (all[0] === '/lines' && maySend === 0) await delay(20);
+            if (all[0] === '/lines') maySend--;
+            return asked(...all);
+        }, 0""")
         self.tear_off()
         words = "/^[1-9][0-9]* of 400 lines taken$/.test(byId('torn-words').textContent)"
         self.shows("it is shown how far it is", words)
         self.page.click("take-stop")
+        self.page.value("maySend = Infinity, 0")
         self.shows("it is stopped", "taking === null && torn.length > 0 && torn.length < 400 "
                    "&& torn.length + view.paper.length", 400)
 
@@ -491,7 +516,7 @@ class LongRuns(Browser):
 
     def test_it_pauses_when_the_journal_is_nearly_full(self):
         self.begin(0)
-        # No look is asked for from here on; one that is under way puts its own picture there first.
+        # No look is asked for from here on; a look that is under way puts its own picture there first.
         self.page.value("""look = async () => true, inTurn(async () => {
             view.picture = {...view.picture, after: 95000};
             return 0;
@@ -549,15 +574,17 @@ class Words(Browser):
         self.shows("all steps", "byId('said-reply').textContent", "STOP 02 HALT STEPS 7 I 00038")
         self.shows("no instruction is next", "view.picture.next = ' ', drawPanel(), byId('next').textContent "
                    "=== TEXTS.nextEnded")
-        self.shows("nor on another page", "view.ended = null, drawPanel(), byId('next').textContent === TEXTS.nextNone")
-        self.shows("nothing is said of a program", "welcomeWords() === TEXTS.said.welcome")
+        self.shows("nor on another page", "view.ended = null, view.picture.next = ' ', drawPanel(), "
+                   "byId('next').textContent === TEXTS.nextNone")
+        self.shows("nothing is said of a program", "view.picture.next = ' ', welcomeWords() === TEXTS.said.welcome")
 
     def test_a_full_journal(self):
-        self.page.value("view.picture.after = JOURNAL_NEARLY, drawBanner(), drawKeys()")
-        self.shows("it is nearly full", "byId('banner').hidden", False)
-        self.shows("unless another room follows", "renewal.mode = 'ON', bannerText()", "")
-        self.page.value("view.picture.after = JOURNAL_ENTRIES, renewal.mode = 'OFF', drawBanner(), drawKeys()")
-        self.shows("the keys are off", "isOff(byId('load-key')) && byId('banner').textContent === TEXTS.full")
+        """Each expression has its own number of entries, since the next look has the machine's."""
+        nearly = "view.picture.after = JOURNAL_NEARLY, drawBanner(), drawKeys()"
+        self.shows("it is nearly full", f"renewal.mode = 'OFF', {nearly}, byId('banner').hidden", False)
+        self.shows("unless another room follows", f"renewal.mode = 'ON', {nearly}, bannerText()", "")
+        full = "view.picture.after = JOURNAL_ENTRIES, renewal.mode = 'OFF', drawBanner(), drawKeys()"
+        self.shows("the keys are off", f"{full}, isOff(byId('load-key')) && byId('banner').textContent === TEXTS.full")
 
     def test_a_name_is_not_left_out(self):
         """The last step of the guide is done by a card with a name, and that card is the one to print."""
@@ -754,10 +781,13 @@ class Looking(Browser):
 
     def test_ten_minutes_leave_the_journal_as_it_was(self):
         count = self.served.after()
-        self.shows(f"{LOOKS} looks are answered", f"""(async () => {{
-            for (let n = 0; n < {LOOKS}; n++) if (!(await inTurn(look))) return n;
-            return true;
-        }})()""")
+        looks = f"""(async () => {{
+            let seen = 0;
+            while (seen < {LOOKS_AT_A_TIME} && await inTurn(look)) seen++;
+            return seen;
+        }})()"""
+        seen = [self.page.value(looks) for _ in range(LOOKS // LOOKS_AT_A_TIME)]
+        self.same(f"{LOOKS} looks are answered", seen, [LOOKS_AT_A_TIME] * (LOOKS // LOOKS_AT_A_TIME))
         self.unchanged("the machine", self.served, count)
 
 
@@ -804,7 +834,8 @@ class Unplugged(Browser):
 
     def test_it_is_reported_in_words(self):
         """A line that was on its way isn't sent again."""
-        self.page.value("window.polls = look, look = async () => false, 0")
+        # No look is asked for from here on; a look that is under way ends first.
+        self.page.value("window.polls = look, look = async () => false, inTurn(async () => 0)")
         self.served.kill()
         self.page.value("say('START 0003') && 0")
         self.shows("a line that got no answer", "byId('log').textContent.includes(TEXTS.lostAsking)")

@@ -11,7 +11,7 @@ sys.dont_write_bytecode = True
 from tests.mock_toolchain import make_toolchain
 
 TOP = Path(__file__).resolve().parent.parent
-SECONDS = 60
+SECONDS = 300
 
 # A program over three libraries; two of them need nothing of each other.
 CRATES = {"low": "", "left": " low", "right": " low thiserror", "ibm1401": " left right"}

@@ -1,22 +1,31 @@
 """Lines, decks, images and sources of chance: whatever comes, each answer is one of those that there are.
 
-Half of what is given is a damaged copy of an example. One seed is always the same, and another is drawn each time and
-named where a test fails: CHANCE_SEED=n python3 -m unittest tests.test_chance tries that one again."""
+Half of what is given is a damaged copy of an example. One seed is always the same, and another is made of the sources,
+so each change of them tries something else, and the same sources are tried alike everywhere. CHANCE_SEED=n python3 -m
+unittest tests.test_chance tries another one."""
 import os
 import random
 import re
 import socket
 import struct
 import unittest
+import zlib
 
 from tests.session_texts import GRAPHICS
 from tests.source_texts import read_sources
 from tests.chains import DOUBTFUL, SIMH
-from tests.support import EXAMPLES, TESTS, ProgramTest, program
+from tests.support import EXAMPLES, TESTS, TOP, ProgramTest, program
 
 OLD_DECKS = [each.text.encode() for file in ("old_decks.txt", "literals.txt")
              for each in read_sources((TESTS / "sources" / file).read_text())]
-SEEDS = 1401, int(os.environ.get("CHANCE_SEED", random.SystemRandom().randrange(1 << 32)))
+
+def seed_of_sources():
+    """A seed that is another one for other sources."""
+    texts = (each.read_bytes() for each in sorted((TOP / "crates").glob("*/src/**/*.rt")))
+    return zlib.crc32(b"".join(texts))
+
+
+SEEDS = 1401, int(os.environ.get("CHANCE_SEED", seed_of_sources()))
 
 ONE = f"[{re.escape(GRAPHICS)}]"
 STOPS = "LIMIT HALT READER FORMS STACKER NOMARK OPCODE LENGTH ADDRESS OVERLAP CARRIAGE NOTFITTED DCHAR".split()
@@ -240,7 +249,7 @@ def wrong_room(chance, room):
 
 
 class Chance(ProgramTest):
-    """What chance brings, for a seed that stays and for another one each time."""
+    """What chance brings, for a seed that stays and for that of the sources."""
 
     def attempt(self, times, attempt):
         """A subtest for each seed: this many attempts, until something is wrong."""

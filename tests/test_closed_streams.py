@@ -2,7 +2,7 @@
 import os
 import subprocess
 
-from tests.support import EXAMPLES, PROGRAM, SECONDS, ProgramTest, free_ports, shell
+from tests.support import EXAMPLES, PROGRAM, SECONDS, ProgramTest, at_a_port, shell
 
 LINES = b"DEPOSIT 0700 ~999\nEXAMINE 0700 3\nQUIT\n"
 REPLIES = b"OK\n~999\nBYE\n"
@@ -144,7 +144,10 @@ class ClosedStreamsTest(ProgramTest):
 
     def closed_room(self, words, closed):
         """A room that is opened with a stream closed, on a free port, until it ends or listens: how it ended."""
-        port = free_ports(1)
+        return at_a_port(lambda port: self.closed_room_at(port, words, closed))
+
+    def closed_room_at(self, port, words, closed):
+        """The same at this port."""
         call = f'exec "$0" {words} --port {port} --seats 1 {closed}'
         pipes = {"stdin": subprocess.DEVNULL, "stdout": subprocess.PIPE, "stderr": subprocess.PIPE}
         with subprocess.Popen(["bash", "-c", call, PROGRAM, self.folder / "room"], **pipes) as ran:

@@ -3,6 +3,9 @@ import unittest
 
 from tests.support import SECONDS, ProgramTest
 
+# How many runs are asked for: more than end before a room is closed.
+RUNS = 5_000
+
 
 class Closing(ProgramTest):
     """Lines of standard input that close a room, and what is in progress then."""
@@ -29,13 +32,13 @@ class Closing(ProgramTest):
         with room.console() as console:
             self.same("a loop", console.say(b"DEPOSIT 0500 ~B500~.\nSTART 0500\n"), b"OK\nOK\n")
             console.settimeout(SECONDS)
-            console.sendall(b"RUN 1000000\n" * 200)
+            console.sendall(b"RUN 1000000\n" * RUNS)
             first = console.recv(1 << 16)
             room.type(b"QUIT\n")
             replies = first + console.hear()
         runs = replies.count(b"STOP 01 LIMIT STEPS 1000000 I 00500\n")
         self.same("whole replies", replies, b"STOP 01 LIMIT STEPS 1000000 I 00500\n" * runs)
-        self.check("not all runs were begun", "" if 0 < runs < 200 else f"{runs} were")
+        self.check("not all runs were begun", "" if 0 < runs < RUNS else f"{runs} were")
         self.expect("the room", room.end(b""), 0, f"{room.ready}JOURNAL {2 + runs}\n")
 
 

@@ -9,6 +9,8 @@ NAMES = ("ADA LOVELACE", "GRACE HOPPER", "HEDY LAMARR", "KATHERINE JOHNSON", "MA
          "ALAN TURING", "KONRAD ZUSE")
 LIT = "[...document.querySelectorAll('.lit')].map(element => element.id).join()"
 PRINTED = "view.paper.map(line => line.text).join('|')"
+# Whether a program runs by itself; none follows it then.
+ONE_MORE = "run !== null && (IDLE.attractMs = 1e9) > 0"
 
 
 class Visitors(Browser):
@@ -174,8 +176,8 @@ class StartAfresh(Browser):
     def test_others_at_work_are_named(self):
         second = self.open_page(2)
         second.value("say('FEED A CARD')")
-        self.shows("the other's command is seen", "othersAtWork()")
-        self.page.value("pressAfresh() && 0")
+        self.shows("the other's command is seen", "view.others.count", 1)
+        self.page.value("view.others.at = performance.now(), pressAfresh() && 0")
         self.shows("the question names them", "byId('ask-text').textContent === TEXTS.afreshOthers")
 
 
@@ -185,8 +187,7 @@ class Attract(Browser):
     def test_it_runs_until_somebody_touches_it(self):
         self.page.value("Object.assign(IDLE, {attractMs: 0, pauseMs: 0, seatMs: 0}), PROGRAMS[0].alone = false, 0")
         self.shows("the guide says so", "byId('guide-now').textContent === TEXTS.guide.attract")
-        self.shows("a program runs", "run !== null")
-        self.page.value("IDLE.attractMs = 1e9, 0")
+        self.shows("a program runs", ONE_MORE)
         self.page.mouse("load-key")
         self.shows("a touch ends it and clears the machine", "!attract.on && isClear(view.picture)")
         self.shows("the guide begins", LIT, "feed-key")
@@ -205,8 +206,7 @@ class Attract(Browser):
         second = self.open_page(2)
         self.page.value("PROGRAMS.forEach(program => program.alone = program.name === 'listing'), 0")
         self.page.value("Object.assign(IDLE, {attractMs: 0, pauseMs: 0, seatMs: 0}), 0")
-        self.shows("a program runs", "run !== null")
-        self.page.value("IDLE.attractMs = 1e9, 0")
+        self.shows("a program runs", ONE_MORE)
         second.value("say('SWITCH G ON')")
         self.shows("it stops", "run === null && !attract.on")
         self.shows("the guide steps aside", "guide.state", "aside")

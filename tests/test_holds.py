@@ -1,14 +1,22 @@
 """A page that holds the machine for a minute: meanwhile no other page gives it lines."""
+import threading
 import time
 import unittest
 
-from tests.support import EXAMPLES, body, status, wait_until
+from tests.support import EXAMPLES, MOST_TRIALS, body, status, wait_until
 from tests.test_page_lines import NAME
 from tests.test_page_requests import PageTest
 
 # How long a hold lasts, and after how many seconds without its page it ends; a clock in whole seconds makes it shorter.
 HELD = 60
 GONE = 5
+# Within this time nothing of that ends, and neither does it where pages look as often.
+QUICK = GONE - 2
+# How exact a clock in whole seconds is, and how often a page looks.
+EXACT = 2
+LOOK = 0.25
+# How many windows of a page look: on a host with much to do the looks of one may come late.
+LOOKERS = 8
 PICTURE = "/picture?core=0&paper=0"
 
 
@@ -30,6 +38,10 @@ class Holds(PageTest):
         return room.ask(seat, path=PICTURE, fields={"Origin": room.address(seat)})[0]
 
     def test_lines_of_other_pages_are_kept_off(self):
+        self.trial(self.keep_off_others, QUICK)
+
+    def keep_off_others(self):
+        """Subtests: seat 2 of a new room holds the machine, and releases it."""
         room = self.pages(3)
         self.same("nobody holds the machine", room.ask(1, path="/hold"), (200, b"HOLD FREE\nLAST NONE\nTAKEN\nBEGAN PLAIN\n"))
         self.same("seat 2 holds it", self.ask(room, 2), (200, b"HOLD 2 FOR 60\nLAST NONE\nTAKEN\nBEGAN PLAIN\n"))
@@ -60,6 +72,10 @@ class Holds(PageTest):
         return "" if found in texts else f"it is {found!r}"
 
     def test_who_may_hold_it(self):
+        self.trial(self.ask_to_hold, QUICK)
+
+    def ask_to_hold(self):
+        """Subtests: requests to hold the machine of a new room, and which of them do."""
         room = self.pages(2)
         for name, fields, wanted in [
             ("nobody's page", {"Origin": ""}, 403), ("a foreign page", {"Origin": "http://museum.example"}, 403),
@@ -81,6 +97,10 @@ class Holds(PageTest):
         self.ended(room, "the room", 0)
 
     def test_foreign_lines_are_refused_as_without_a_hold(self):
+        self.trial(self.send_foreign_lines, QUICK)
+
+    def send_foreign_lines(self):
+        """Subtests: lines of others, and requests for another page, while seat 1 holds the machine of a new room."""
         room = self.pages(2)
         self.ask(room, 1)
         for name, fields, wanted, text in [
@@ -101,18 +121,51 @@ class Holds(PageTest):
         gone = wait_until(lambda: self.holder(room) == "HOLD FREE")
         took = time.monotonic() - begun
         self.check("a page that is gone holds it no more", "" if gone and took > GONE - 1 else f"after {took:.1f} s")
+        for _ in range(MOST_TRIALS):
+            wrong, is_certain = self.hold_to_its_end(room)
+            if is_certain or not wrong:
+                break
+        self.check("it ends after a minute", wrong)
+        self.ended(room, "the room", 0)
+
+    def hold_to_its_end(self, room):
+        """Has seat 1 hold the machine until that ends by itself: what is wrong with its length, and whether the page
+        looked, and asked again, early enough for that to be certain."""
         begun = time.monotonic()
         self.same("seat 1 holds it again", self.ask(room, 1)[0], 200)
-        while self.holder(room) == "HOLD 1" and time.monotonic() - begun < HELD + GONE:
-            self.look(room, 1)
+        held = seen = time.monotonic()
+        looks, is_over = [(begun, held)], threading.Event()
+        lookers = [threading.Thread(target=self.look_again, args=(room, looks, is_over)) for _ in range(LOOKERS)]
+        for looker in lookers:
+            looker.start()
+        is_certain = True
+        while seen - held < HELD + EXACT:
+            asked = time.monotonic()
+            if self.holder(room) != "HOLD 1":
+                break
+            seen = asked
             # Asking again doesn't make it longer.
             self.ask(room, 2)
-            if time.monotonic() - begun > HELD / 2 and self.holder(room) == "HOLD 1":
+            if HELD / 2 < time.monotonic() - begun < HELD - GONE:
                 self.ask(room, 1)
-            time.sleep(0.25)
-        took = time.monotonic() - begun
-        self.check("it ends after a minute", "" if HELD - 2 < took < HELD + 2 else f"after {took:.1f} s")
-        self.ended(room, "the room", 0)
+                is_certain &= time.monotonic() - begun < HELD - EXACT
+            time.sleep(LOOK)
+        least, most = seen - held, time.monotonic() - begun
+        is_over.set()
+        for looker in lookers:
+            looker.join()
+        self.ask(room, 2, "/release")
+        looks.sort(key=lambda look: look[1])
+        gaps = [after - before for (before, _), (_, after) in zip(looks, looks[1:])]
+        wrong = "" if least < HELD + EXACT and most > HELD - EXACT else f"after {least:.1f} to {most:.1f} s"
+        return wrong, is_certain and max(gaps) < GONE - EXACT
+
+    def look_again(self, room, looks, is_over):
+        """Has the page of seat 1 look again and again until it is over, and notes each look's beginning and end."""
+        while not is_over.wait(LOOK):
+            begun = time.monotonic()
+            self.look(room, 1)
+            looks.append((begun, time.monotonic()))
 
     def test_seats_that_are_taken(self):
         room = self.room("serve", seats=3, pages=True)

@@ -1,5 +1,6 @@
 """Requests that nobody's page sends, and requests that are damaged, at each place or by chance: no command comes of
 them."""
+import contextlib
 import random
 import re
 import unittest
@@ -10,6 +11,8 @@ from tests.support import PAGE, ProgramTest, ask, exchange, status
 DAMAGES = b"\0\t\n\r %&/09:;=a\xff"
 # How many requests are damaged by chance, and from which seed they are made.
 DAMAGED = 4_000
+# How many connections have a thread at once, at most.
+MOST_INSIDE = 64
 SEED = 1401
 # How much more memory the program may have after these requests, in kilobytes.
 MORE_KILOBYTES = 4_096
@@ -165,7 +168,18 @@ class Hostile(ProgramTest):
         last digits can come to be there, and then it is as good as the page's own."""
         room, chance, found = self.pages(2), random.Random(SEED), {}
         room.post(1, "START 2", 0)
-        before, memory, whole = room.after(), room.memory(), requests_to(room.page)
+        before, whole = room.after(), requests_to(room.page)
+        # As many threads as there may be have their memory before it is measured: on a host with much to do several
+        # requests are under way at once.
+        for request in whole:
+            connections = [room.connect() for _ in range(MOST_INSIDE)]
+            for connection in connections:
+                with contextlib.suppress(OSError):
+                    connection.sendall(request.encode())
+            for connection in connections:
+                connection.hear()
+                connection.close()
+        memory = room.memory()
         good = re.compile(rb"\r\nX-1401-Line:[ \t]*0*%d[ \t]*\r\n" % room.made(), re.IGNORECASE)
         for turn in range(DAMAGED):
             request = damaged(chance, whole[turn % len(whole)].encode())

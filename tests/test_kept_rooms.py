@@ -4,9 +4,10 @@ import resource
 import select
 import signal
 import socket
+import time
 import unittest
 
-from tests.support import SECONDS, UNWRITTEN, ProgramTest, wait_until
+from tests.support import SECONDS, UNWRITTEN, ProgramTest, ask, status, wait_until
 
 # A journal's file may have the head and one entry of this test, and only a part of the next.
 MOST_BYTES = 50
@@ -16,14 +17,6 @@ def limited():
     """Refuses to let a file grow beyond the limit, as a full disk does."""
     signal.signal(signal.SIGXFSZ, signal.SIG_IGN)
     resource.setrlimit(resource.RLIMIT_FSIZE, (MOST_BYTES, MOST_BYTES))
-
-
-def hear(console):
-    """All that a connection sends until it ends."""
-    heard = b""
-    while piece := console.recv(4096):
-        heard += piece
-    return heard
 
 
 def say(console, line):
@@ -50,14 +43,23 @@ class AnEntryThatIsNotKept(ProgramTest):
         self.addCleanup(console.close)
         return console
 
+    def seated(self, line, reply):
+        """A connection that has a seat, and whose line has this reply: it comes again while no seat is free."""
+        late = time.monotonic() + SECONDS
+        while True:
+            console = self.console()
+            heard = say(console, line)
+            if heard != b"FULL\n" or time.monotonic() > late:
+                break
+        self.assertEqual(heard, reply)
+        return console
+
     def ask(self, seat, head, body=b""):
-        """The status and the body of a seat's page's answer to a request."""
+        """The status and the body of a seat's page's answer to a request. It is made again while nothing comes back."""
         port = self.pages[seat - 1]
         fields = f"Host: 127.0.0.1:{port}\r\nOrigin: http://127.0.0.1:{port}\r\nContent-Length: {len(body)}\r\n"
-        with socket.create_connection(("127.0.0.1", port), timeout=SECONDS) as page:
-            page.sendall(head.replace("\n", f" HTTP/1.1\r\n{fields}", 1).encode() + b"\r\n" + body)
-            answer = hear(page)
-        return int(answer.split()[1]), answer.partition(b"\r\n\r\n")[2]
+        answer = ask(port, head.replace("\n", f" HTTP/1.1\r\n{fields}", 1).encode() + b"\r\n" + body)
+        return status(answer), answer.partition(b"\r\n\r\n")[2]
 
     def picture(self, seat):
         """The answer to a request for a picture."""
@@ -83,8 +85,7 @@ class AnEntryThatIsNotKept(ProgramTest):
 
     def test_the_seat_of_an_entry_that_is_not_kept_can_be_taken_again_and_looked_from(self):
         self.fail_at_a_console()
-        again = self.console()
-        self.assertEqual(say(again, b"GLANCE 0700\n"), b"AFTER 1 A\n")
+        again = self.seated(b"GLANCE 0700\n", b"AFTER 1 A\n")
         self.assertEqual(say(again, b"DEPOSIT 0700 C\n"), b"FAULT 4 UNKEPT\n")
         self.assertEqual(say(again, b"GLANCE 0700\n"), b"AFTER 1 A\n")
 

@@ -1,6 +1,7 @@
 """The launcher: what it runs, and how it proves and builds what isn't built, with a mock of the toolchain."""
 import os
 import re
+import select
 import shutil
 import signal
 import subprocess
@@ -130,7 +131,13 @@ class Building(ProgramTest):
 
     def test_two_launchers_at_once(self):
         """One of them builds, and the other waits."""
-        both = [self.start("load", env={"WHILE": "0.1"}) for _ in range(2)]
+        held = self.folder / "held"
+        held.touch()
+        both = [self.start("load", env={"HELD": str(held)}) for _ in range(2)]
+        said = [one.stderr for one in both]
+        heard = wait_until(lambda: select.select(said, [], [], 0)[0] == said)
+        self.check("each says something", "" if heard else "one doesn't")
+        held.unlink()
         written = [one.communicate(timeout=SECONDS) for one in both]
         self.proved("each crate is proved once", self.names)
         self.same("both run", [output for output, _ in written], [b"load\n"] * 2)
@@ -173,7 +180,7 @@ class Building(ProgramTest):
             self.calls.unlink()
             (self.folder / "crates" / self.names[0] / "src/lib.rt").write_text("")
             how = {"start_new_session": True, "preexec_fn": hear_interruptions}
-            launcher = self.start("load", env={"WHILE": "20"}, **how)
+            launcher = self.start("load", env={"HELD": str(self.folder)}, **how)
             self.check(f"{by.name}: a crate is being proved", "" if wait_until(self.calls.exists) else "none is")
             os.killpg(launcher.pid, by)
             self.interrupted(by.name, launcher, kept)

@@ -9,13 +9,17 @@ import subprocess
 import unittest
 
 from tests.chromium import Chromium, Page
-from tests.support import EXAMPLES, PAGE, REPLY_SECONDS, ProgramTest, field, free_ports, run, status, wait_until
+from tests.support import (EXAMPLES, PAGE, PORTS_TRIED, REPLY_SECONDS, ProgramTest, field, free_ports, run, status,
+                           wait_until)
 
 NAME = "1401.museum.example"
 SEATS = 8
 PASSWORD = "punched card"
-# The addresses of the two ends of the cable.
-HERE, THERE = "10.140.1.1", "10.140.1.2"
+# The addresses of the two ends of the cable, of those that are set aside for tests of networks: others for each process.
+SUBNET = os.getpid() % (1 << 15) * 4
+HERE, THERE = (f"198.{18 + (SUBNET >> 16)}.{SUBNET >> 8 & 255}.{(SUBNET & 255) + end}" for end in (1, 2))
+# How long curl may take.
+LONG = str(REPLY_SECONDS)
 
 
 def command(name):
@@ -34,29 +38,46 @@ def second_host():
                   f"-n {name} addr add {THERE}/30 dev {cable[1]}", f"-n {name} link set {cable[1]} up",
                   f"-n {name} link set lo up"):
         if run([command("ip"), *words.split()]).returncode != 0:
-            run([command("ip"), "netns", "del", name])
+            part(name)
             return None
     return name
 
 
+def part(name):
+    """Takes a second host away. A cable is gone at once if it is taken away itself, and not with its host."""
+    run([command("ip"), "link", "del", f"{name}a"])
+    run([command("ip"), "netns", "del", name])
+
+
 @unittest.skipIf(not command("nginx") or not command("openssl") or not command("curl"),
                  "there is no nginx, no openssl or no curl")
-class Network(ProgramTest):
+class Proxied(ProgramTest):
     """A room of eight pages, and nginx in front of it."""
 
     def setUp(self):
-        self.first = free_ports(SEATS)
-        self.served = self.room("serve", seats=SEATS, pages=True, consoles=False, origin=self.outside(),
-                                outside=[self.outside(seat) for seat in range(1, SEATS + 1)])
         self.make_certificate()
         self.make_password()
-        (self.folder / "nginx.conf").write_text(self.configuration())
-        call = [command("nginx"), "-p", self.folder, "-e", self.folder / "error.log", "-c", self.folder / "nginx.conf"]
+        for _ in range(PORTS_TRIED):
+            self.first = free_ports(SEATS)
+            self.served = self.room("serve", seats=SEATS, pages=True, consoles=False, origin=self.outside(),
+                                    outside=[self.outside(seat) for seat in range(1, SEATS + 1)])
+            (self.folder / "nginx.conf").write_text(self.configuration())
+            self.start_nginx()
+            answers = wait_until(lambda: self.nginx.poll() is not None or self.fetch(1, "/")[0] == 200)
+            said = (self.folder / "error.log").read_text()
+            # Somebody else may have taken a port meanwhile.
+            if self.nginx.poll() is None or "Address already in use" not in said:
+                break
+        self.assertTrue(answers and self.nginx.poll() is None, said)
+
+    def start_nginx(self):
+        """Starts nginx, which ends with the test at the latest."""
+        log, configuration = self.folder / "error.log", self.folder / "nginx.conf"
+        log.unlink(missing_ok=True)
+        call = [command("nginx"), "-p", self.folder, "-e", log, "-c", configuration]
         self.nginx = subprocess.Popen(call, stdin=subprocess.DEVNULL)
         self.addCleanup(self.nginx.wait, REPLY_SECONDS)
         self.addCleanup(self.nginx.terminate)
-        answers = wait_until(lambda: self.fetch(1, "/")[0] == 200, REPLY_SECONDS)
-        self.assertTrue(answers, (self.folder / "error.log").read_text())
 
     def make_certificate(self):
         """A key and a certificate for the outside name, signed by nobody else."""
@@ -70,9 +91,15 @@ class Network(ProgramTest):
         made = run(["openssl", "passwd", "-6", PASSWORD]).stdout.decode().strip()
         (self.folder / "ibm1401.passwords").write_text(f"class:{made}\n")
 
+    # How many requests of one address nginx lets through.
+    rate = "50r/s"
+
     def configuration(self):
-        """The example, with the ports and the files of this test, in the least that nginx needs around it."""
+        """The example, with the ports and the files of this test, in the least that nginx needs around it. It waits
+        longer for a host with much to do."""
         text = (EXAMPLES / "nginx.conf").read_text().replace("/etc/nginx/", f"{self.folder}/")
+        self.assertEqual((text.count(f"rate={Proxied.rate};"), text.count(" 10s;")), (1, 3))
+        text = text.replace(f"rate={Proxied.rate};", f"rate={self.rate};").replace(" 10s;", f" {LONG}s;")
         for seat in range(SEATS):
             text = re.sub(rf"\b{8443 + seat}\b", str(self.first + seat), text)
             text = re.sub(rf"\b{8080 + seat};", f"{self.served.page + seat};", text)
@@ -90,7 +117,7 @@ class Network(ProgramTest):
         """The status and the body of a request by the outside name, made by curl, which checks the certificate."""
         port = self.first + seat - 1
         login = ["-u", user] if user else []
-        ran = run([*host, "curl", "-s", "--cacert", self.folder / "ibm1401.crt", "--max-time", "20", "--resolve",
+        ran = run([*host, "curl", "-s", "--cacert", self.folder / "ibm1401.crt", "--max-time", LONG, "--resolve",
                    f"{name}:{port}:{to}", *login, "-w", "\n%{http_code}", *words, f"{self.outside(seat, name)}{path}"])
         text, _, code = ran.stdout.rpartition(b"\n")
         return int(code or 0), text
@@ -104,6 +131,10 @@ class Network(ProgramTest):
     def machine_is(self, name, count):
         """A subtest: so many commands were carried out, by whatever seat."""
         self.same(name, self.served.after(), count)
+
+
+class Network(Proxied):
+    """Requests by the outside name, and from a second host."""
 
     def test_a_page_and_a_line_by_the_outside_name(self):
         self.same("the page", self.fetch(1, "/"), (200, PAGE))
@@ -159,30 +190,21 @@ class Network(ProgramTest):
 
     def test_an_address_without_tls_is_sent_on(self):
         port = self.first + 1
-        response = run(["curl", "-s", "-i", "--max-time", "20", "--resolve", f"{NAME}:{port}:127.0.0.1",
+        response = run(["curl", "-s", "-i", "--max-time", LONG, "--resolve", f"{NAME}:{port}:127.0.0.1",
                         f"http://{NAME}:{port}/"]).stdout
         self.same("it", (status(response), field(response, "Location")), (301, f"{self.outside(2)}/"))
-
-    def test_limits(self):
-        self.same("a line too long", self.post(1, "X" * 1025, self.outside())[0], 413)
-        self.same("a body too long", self.post(1, "X" * 16385, self.outside())[0], 413)
-        many = [word for _ in range(1000) for word in ("-o", "/dev/null", f"{self.outside()}/")]
-        ran = run(["curl", "-s", "-Z", "--parallel-max", "20", "--cacert", self.folder / "ibm1401.crt", "--resolve",
-                   f"{NAME}:{self.first}:127.0.0.1", "-w", "%{http_code}\n", *many])
-        codes = set(ran.stdout.decode().split())
-        self.check("a thousand without a password", "" if codes == {"401", "429"} else f"{codes}")
 
     def test_from_a_second_host(self):
         name = second_host()
         if name is None:
             self.skipTest("no second host can be made here")
-        self.addCleanup(run, [command("ip"), "netns", "del", name])
+        self.addCleanup(part, name)
         host = [command("ip"), "netns", "exec", name]
         self.same("the page", self.fetch(3, "/", to=HERE, host=host), (200, PAGE))
         self.same("a line", self.post(3, "DEPOSIT 0500 ~K", self.outside(3), to=HERE, host=host), (200, b"OK\n"))
         self.same("a wrong password", self.fetch(3, "/", to=HERE, host=host, user="class:x")[0], 401)
         self.same("a foreign origin", self.post(3, "RUN 1", "https://other.example", 1, to=HERE, host=host)[0], 403)
-        straight = run([*host, "curl", "-s", "--max-time", "5", f"http://{HERE}:{self.served.page}/"])
+        straight = run([*host, "curl", "-s", "--max-time", LONG, f"http://{HERE}:{self.served.page}/"])
         self.same("the loopback's port isn't reached", straight.returncode, 7)
         self.machine_is("what was carried out", 1)
 
@@ -191,7 +213,7 @@ class Network(ProgramTest):
         name = second_host()
         if name is None:
             self.skipTest("no second host can be made here")
-        self.addCleanup(run, [command("ip"), "netns", "del", name])
+        self.addCleanup(part, name)
         key = subprocess.run("openssl x509 -pubkey -noout | openssl pkey -pubin -outform der", shell=True, check=True,
                              input=(self.folder / "ibm1401.crt").read_bytes(), stdout=subprocess.PIPE).stdout
         trusted = base64.b64encode(hashlib.sha256(key).digest()).decode()
@@ -206,8 +228,24 @@ class Network(ProgramTest):
         self.same("its links", page.value("[...document.querySelectorAll('#seats a')].map(a => a.href).join(' ')"),
                   " ".join(links))
         page.value("say('DEPOSIT 0500 ~K')")
-        self.same("its line is carried out", wait_until(lambda: self.served.after() == 1, REPLY_SECONDS), True)
+        self.same("its line is carried out", wait_until(lambda: self.served.after() == 1), True)
         self.same("its complaints", page.complaints(), [])
+
+
+class Limits(Proxied):
+    """What nginx lets through of one address."""
+
+    rate = "1r/m"
+
+    def test_they_are_kept(self):
+        """However slow the host is, these requests are more than nginx lets through."""
+        self.same("a line too long", self.post(1, "X" * 1025, self.outside())[0], 413)
+        self.same("a body too long", self.post(1, "X" * 16385, self.outside())[0], 413)
+        many = [word for _ in range(1000) for word in ("-o", "/dev/null", f"{self.outside()}/")]
+        ran = run(["curl", "-s", "-Z", "--parallel-max", "20", "--cacert", self.folder / "ibm1401.crt", "--resolve",
+                   f"{NAME}:{self.first}:127.0.0.1", "-w", "%{http_code}\n", *many])
+        codes = set(ran.stdout.decode().split())
+        self.check("a thousand without a password", "" if codes == {"401", "429"} else f"{codes}")
 
 
 if __name__ == "__main__":

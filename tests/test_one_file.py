@@ -7,7 +7,7 @@ from pathlib import Path
 
 TOP = Path(__file__).resolve().parent.parent
 PROGRAM = Path(os.environ.get("IBM1401", TOP / "crates/ibm1401/out/ibm1401")).absolute()
-SECONDS = 120
+SECONDS = 300
 
 # Prints a line and halts.
 SOURCE = "               ORG  400\n     START     W\n               H\n               NOP\n               END  START\n"

@@ -1,4 +1,5 @@
 """A person's console at a terminal, by a pseudo-terminal: prompts, Enter and Ctrl-C in a run, settings, colours."""
+import contextlib
 import fcntl
 import os
 import pty
@@ -12,8 +13,9 @@ import subprocess
 import termios
 import time
 import unittest
+from pathlib import Path
 
-from tests.support import EXAMPLES, LAUNCHER, PROGRAM, REPLY_SECONDS, SECONDS, ProgramTest, program
+from tests.support import EXAMPLES, LAUNCHER, PROGRAM, REPLY_SECONDS, SECONDS, ProgramTest, program, wait_until
 
 PROMPT = b"1401> "
 SHELL = b"shell$ "
@@ -22,7 +24,41 @@ SIZE = struct.pack("HHHH", 24, 80, 0, 0)
 # A loop without an end.
 LOOP = b"deposit 600 ~A705704~B600~.\ndeposit 703 ~00~1\n"
 INTERRUPTED = re.compile(rb"interrupted after (\d+) steps")
+# A second and a part of it, in the unit in which the system counts a process's time.
+A_SECOND = os.sysconf("SC_CLK_TCK")
+A_WHILE = A_SECOND // 20
+# How often a run is stopped.
+TURNS = 10
 COLOURS = re.compile(rb"\x1b\[\d*m")
+
+
+def programs_of(process):
+    """What the system says of each process of the program that this one has started, or that it is: the fields from the
+    state on."""
+    fields, below, known = {}, {process}, set()
+    for folder in Path("/proc").iterdir():
+        if folder.name.isdigit():
+            with contextlib.suppress(OSError):
+                fields[int(folder.name)] = (folder / "stat").read_text().rpartition(")")[2].split()
+    while below != known:
+        known = set(below)
+        below |= {number for number in fields if int(fields[number][1]) in known}
+    found = []
+    for number in below & set(fields):
+        with contextlib.suppress(OSError):
+            found += [fields[number]] if Path(f"/proc/{number}/exe").samefile(PROGRAM) else []
+    return found
+
+
+def used_by(process):
+    """How much processor time the program has used that this process has started, or that it is."""
+    return sum(int(fields[11]) + int(fields[12]) for fields in programs_of(process))
+
+
+def is_at_work(process):
+    """Waits until that program is at work, and returns whether it comes to be."""
+    before = used_by(process)
+    return wait_until(lambda: used_by(process) > before + A_WHILE)
 
 
 class Seat:
@@ -75,6 +111,16 @@ class Seat:
         self.type(line + b"\n")
         return self.until(PROMPT)
 
+    def go(self, line):
+        """Types a line that begins a run, and waits until it goes on; false if it doesn't."""
+        self.type(line + b"\n")
+        return is_at_work(self.process.pid)
+
+    def comes_to_front(self):
+        """Waits until a job of the shell here has the terminal, and goes on; false if it doesn't."""
+        return wait_until(lambda: os.tcgetpgrp(self.master) != self.process.pid
+                          and "T" not in {fields[0] for fields in programs_of(self.process.pid)})
+
     def end(self):
         """Waits for the end, and returns the status."""
         late = time.monotonic() + SECONDS
@@ -97,6 +143,8 @@ class Pane:
     def __init__(self, command, folder, name):
         self.tmux = ["tmux", "-L", f"ibm1401-{os.getpid()}-{name}", "-f", "/dev/null"]
         subprocess.run([*self.tmux, "new-session", "-d", command], cwd=folder, check=True)
+        asked = [*self.tmux, "display-message", "-p", "#{pane_pid}"]
+        self.process = int(subprocess.run(asked, capture_output=True, check=True).stdout)
 
     def press(self, *keys):
         """Presses keys."""
@@ -171,26 +219,30 @@ class Terminal(ProgramTest):
         seat = self.seat("--journal", "kept")
         for line in LOOP.splitlines():
             seat.say(line)
-        seat.type(b"go 600\n")
-        time.sleep(0.5)
-        begun = time.monotonic()
+        self.assertTrue(seat.go(b"go 600"))
         steps = self.steps_of(seat.say(b""))
-        self.check("within a second", "" if time.monotonic() - begun < 1 else "later")
         runs = re.findall(r"\tRUN (\d+)\t", (self.desk / "kept").read_text())
         self.same("the journal has those runs", sum(map(int, runs)), steps)
-        seat.type(b"continue\n")
-        time.sleep(0.5)
-        self.check("it goes on from there", "" if self.steps_of(seat.say(b"")) > 0 else "it doesn't")
+        used = [self.used_after_enter(seat) for _ in range(TURNS)]
+        # A host with much to do lets it work on in some turns before the key comes.
+        self.check("within a second of its work", "" if min(used) < A_SECOND else f"{used}")
         seat.type(b"\x04")
         self.same("its status", seat.end(), 0)
         self.same("its journal", program("journal", "--check", self.desk / "kept").returncode, 0)
+
+    def used_after_enter(self, seat):
+        """A subtest: a run that was stopped goes on. How long the program works from the next Enter on."""
+        goes_on = seat.go(b"continue")
+        before = used_by(seat.process.pid)
+        steps = self.steps_of(seat.say(b""))
+        self.check("it goes on from there", "" if goes_on and steps > 0 else "it doesn't")
+        return used_by(seat.process.pid) - before
 
     def test_ctrl_c_through_the_launcher(self):
         seat = self.launched()
         for line in LOOP.splitlines():
             seat.say(line)
-        seat.type(b"go 600\n")
-        time.sleep(0.5)
+        self.assertTrue(seat.go(b"go 600"))
         seat.type(b"\x03")
         self.steps_of(seat.until(PROMPT))
         seat.type(b"exa\x03")
@@ -253,11 +305,10 @@ class Terminal(ProgramTest):
             shell.type(b"\x1a")
             self.assertIsNotNone(shell.until(SHELL), shell.shown)
             shell.type(b"fg\n")
-            time.sleep(0.5)
+            self.assertTrue(shell.comes_to_front(), shell.shown)
             shown = shell.say(b"evaluate 400") or shell.shown
             self.check(f"{by.name}: it answers", "" if b"400, spelled 400" in shown else shown)
-            shell.type(b"go 600\n")
-            time.sleep(0.5)
+            self.assertTrue(shell.go(b"go 600"))
             self.check(f"{by.name}: Enter stops a run", "" if self.steps_of(shell.say(b"")) > 0 else "it doesn't")
             shell.type(b"quit\n")
             self.assertIsNotNone(shell.until(SHELL), shell.shown)
@@ -291,8 +342,7 @@ class Terminal(ProgramTest):
         seat.read(0.3)
         seat.type(b"\n")
         self.assertIsNotNone(seat.until(b"400, spelled 400"), seat.shown)
-        seat.type(b"go 600\n")
-        time.sleep(0.5)
+        self.assertTrue(seat.go(b"go 600"))
         seat.type(b"\n")
         self.steps_of(seat.until(b"steps"))
         seat.type(b"quit\n")
@@ -309,7 +359,7 @@ class Terminal(ProgramTest):
             for line in [*LOOP.decode().splitlines(), "go 600"]:
                 pane.press("-l", line)
                 pane.press("Enter")
-            time.sleep(1)
+            self.assertTrue(is_at_work(pane.process), pane.shown())
             pane.press(key)
             self.check(f"{by.name}, {key}", "" if pane.has("interrupted after ") else pane.shown())
 
@@ -327,9 +377,7 @@ class Terminal(ProgramTest):
         os.close(seat.slave)
         os.close(seat.master)
         seat.slave = seat.master = None
-        begun = time.monotonic()
-        seat.process.wait(SECONDS)
-        self.check("it ends within a second", "" if time.monotonic() - begun < 1 else "later")
+        self.check("it ends", "" if wait_until(lambda: seat.process.poll() is not None) else "it doesn't")
 
 
 if __name__ == "__main__":

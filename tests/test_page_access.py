@@ -148,6 +148,7 @@ class Access(Browser):
     def test_reduced_motion(self):
         reduced = [{"name": "prefers-reduced-motion", "value": "reduce"}]
         self.page.call("Emulation.setEmulatedMedia", features=reduced)
+        self.shows("nothing moves any more", "document.getAnimations().length", 0)
         self.page.value("window.moved = 0, setInterval(() => { moved += document.getAnimations().length; }, 20)")
         self.work()
         self.shows("nothing moves", "moved", 0)

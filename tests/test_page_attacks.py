@@ -3,15 +3,20 @@ import multiprocessing
 import select
 import signal
 import socket
+import struct
 import time
 import unittest
 
-from tests.support import Server, body, status, wait_until
+from tests.support import MOST_TRIALS, Server, body, status, wait_until
 
 # How long, in seconds, an answer may take at most before a test gives up; and a good one among hostile clients. On a
-# quiet host it takes a tenth of that; one client after the other would hold it up for much longer.
-PATIENCE = 40
-SOON = 5
+# quiet host it takes a hundredth of that; one client after the other would hold it up for much longer.
+PATIENCE = 300
+SOON = 60
+# A page waits a second for each part of a request, and fifty milliseconds if others wait for its place. A request that
+# takes no longer is heard, and a request that was sent at once is answered.
+IN_TIME = 0.7
+AT_ONCE = 0.04
 # How many clients do harm at a time.
 HOSTILE = 200
 # When they are at work, the room has more handles open than this.
@@ -50,10 +55,19 @@ class Room(Server):
         return self.answer(self.request("POST /line", seat, text, fields), seat)
 
     def answer(self, request, seat=1):
-        """All that comes back for these bytes."""
-        with self.connect(seat) as connection:
-            connection.sendall(request)
-            return rest_of(connection)
+        """All that comes back for these bytes. They are sent again if they may have been late: then nothing does, or that
+        too many wait."""
+        while True:
+            begun, found = time.monotonic(), b""
+            with self.connect(seat) as connection:
+                try:
+                    connection.sendall(request)
+                    sent = time.monotonic()
+                    found = rest_of(connection)
+                except BrokenPipeError:
+                    sent = time.monotonic()
+            if sent - begun < AT_ONCE or status(found) not in (b"", 503):
+                return found
 
     def first_of_console(self):
         """What a new console is answered to EXAMINE 1, or b"FULL\\n" where there is no seat; then it leaves."""
@@ -157,16 +171,19 @@ class Seats(unittest.TestCase):
 
     def test_a_page_that_nobody_looks_at_for_a_minute_leaves_its_seat_when_all_others_are_taken(self):
         with Room(2) as room:
+            looked = time.monotonic()
             self.assertEqual(room.status_of(fields=[room.own()]), 200)
             with room.console() as second:
                 second.sendall(b"EXAMINE 1\n")
                 self.assertEqual(second.recv(100), b" \n")
                 self.assertEqual(room.first_of_console(), b"FULL\n", "the page has its seat")
-                late = time.monotonic() + 50
-                while time.monotonic() < late:
+                heard = []
+                while time.monotonic() < looked + 50:
                     room.status_of(fields=["Sec-Fetch-Site: cross-site"])
+                    said = room.first_of_console()
+                    heard += [said] if time.monotonic() < looked + 58 else []
                     time.sleep(0.5)
-                self.assertEqual(room.first_of_console(), b"FULL\n", "and still has after fifty seconds")
+                self.assertEqual({*heard}, {b"FULL\n"}, "and still has for nearly a minute")
                 given = wait_until(lambda: room.first_of_console() == b" \nBYE\n", PATIENCE)
                 self.assertTrue(given, "a console has it after a minute")
                 again = room.status_of(fields=[room.own()])
@@ -278,17 +295,22 @@ class Hostile(unittest.TestCase):
                 client.close()
 
 
+def sent_again(connection):
+    """How many packets a connection has sent again, that which opens it too: the last number of the first 104 bytes of
+    what the system says of it."""
+    return struct.unpack("100xI", connection.getsockopt(socket.IPPROTO_TCP, socket.TCP_INFO, 104))[0]
+
+
 class Queue(unittest.TestCase):
     """Connections that the room hasn't accepted yet."""
 
     def test_three_hundred_connections_at_once_wait_and_none_comes_again_after_a_second(self):
         with Room() as room:
             room.process.send_signal(signal.SIGSTOP)
-            begun = time.monotonic()
             waiting = [room.connect() for _ in range(300)] + [room.console() for _ in range(300)]
-            took = time.monotonic() - begun
+            again = [sent_again(connection) for connection in waiting]
             room.process.send_signal(signal.SIGCONT)
-            self.assertLess(took, 1, "a connection that finds no place tries again after a second at the earliest")
+            self.assertEqual({*again}, {0}, "a connection that finds no place asks again")
             for connection in waiting:
                 connection.close()
             self.assertEqual(room.status_of(), 200)
@@ -301,28 +323,45 @@ class Stopped(unittest.TestCase):
     def test_requests_that_are_waited_for_outlive_a_stop(self):
         with Room() as room:
             for length in (0.1, 1.5):
-                with self.subTest(length), room.connect() as nothing, room.connect() as half:
-                    request = room.request("GET /picture?core=0&paper=0")
-                    half.sendall(request[:20])
-                    time.sleep(0.2)
-                    room.process.send_signal(signal.SIGSTOP)
-                    time.sleep(length)
-                    room.process.send_signal(signal.SIGCONT)
-                    time.sleep(0.1)
-                    nothing.sendall(request)
-                    half.sendall(request[20:])
-                    self.assertEqual(status(rest_of(nothing)), 200)
-                    self.assertEqual(status(rest_of(half)), 200)
+                with self.subTest(length):
+                    for _ in range(MOST_TRIALS):
+                        answers, took = self.after_a_stop(room, length)
+                        if took < IN_TIME or answers == [200, 200]:
+                            break
+                    self.assertEqual(answers, [200, 200])
+
+    def after_a_stop(self, room, length):
+        """What two requests are answered during which the room is stopped for so long, and how long they took without
+        that."""
+        begun = time.monotonic()
+        with room.connect() as nothing, room.connect() as half:
+            request = room.request("GET /picture?core=0&paper=0")
+            half.sendall(request[:20])
+            time.sleep(0.2)
+            room.process.send_signal(signal.SIGSTOP)
+            stopped = time.monotonic()
+            time.sleep(length)
+            stopped = time.monotonic() - stopped
+            room.process.send_signal(signal.SIGCONT)
+            time.sleep(0.1)
+            try:
+                nothing.sendall(request)
+                half.sendall(request[20:])
+            except OSError:
+                pass
+            took = time.monotonic() - begun - stopped
+            return [status(rest_of(each)) for each in (nothing, half)], took
 
     def test_a_page_waits_a_second_for_each_part_and_no_longer(self):
         for name, sent in [("for the first byte", b""), ("for the rest", b"G")]:
-            with self.subTest(name), Room() as room, room.connect() as client:
+            with self.subTest(name), Room() as room:
                 begun = time.monotonic()
-                client.sendall(sent)
-                self.assertTrue(select.select([client], [], [], PATIENCE)[0])
+                with room.connect() as client:
+                    client.sendall(sent)
+                    self.assertTrue(select.select([client], [], [], PATIENCE)[0])
                 took = time.monotonic() - begun
                 self.assertGreater(took, 0.8)
-                self.assertLess(took, 8)
+                self.assertLess(took, SOON)
 
 
 if __name__ == "__main__":

@@ -2,13 +2,14 @@
 import base64
 import hashlib
 import re
+import time
 import unittest
 
-from tests.support import (EXAMPLES, PAGE, REPLY_SECONDS, TOP, ProgramTest, Requests, body, field, run, status)
+from tests.support import (EXAMPLES, PAGE, TOP, ProgramTest, Requests, body, field, run, status)
 
-# How many connections stay silent while a request is answered. A page waits a second for each: a reply would come too
-# late if it waited for one after the other.
-SILENT = 2 * REPLY_SECONDS
+# How many connections stay silent while a request is answered. A page waits a second for each: a reply would come after
+# so many seconds if it waited for one after the other.
+SILENT = 60
 # One request of this many may have to be made again, at most.
 SILENCES = 100
 
@@ -284,9 +285,12 @@ class Silent(PageTest):
 
     def test_a_picture_is_answered(self):
         room = self.pages(2)
+        since = time.monotonic()
         silent = [room.connect() for _ in range(SILENT)]
         response = room.get(1, "/picture?core=0&paper=0")
+        took = time.monotonic() - since
         self.same(f"with {SILENT} silent connections", status(response), 200)
+        self.check("before it could have waited for each", "" if took < SILENT else f"it took {took:.1f} s")
         begun = room.connect()
         begun.sendall(b"GET /picture HTTP/1.1\r\nHo")
         self.same("with half a request", status(room.get(1, "/picture?core=0&paper=0")), 200)

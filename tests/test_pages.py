@@ -5,15 +5,15 @@ import threading
 import time
 import unittest
 
-from tests.support import (EXAMPLES, PAGE, PAUSE, REPLY_SECONDS, SECONDS, ProgramTest, ask, at_most, free_ports, misuse,
-                           program, shell)
+from tests.support import (EXAMPLES, PAGE, PAUSE, SECONDS, ProgramTest, ask, at_a_port, at_most, misuse, program,
+                           shell)
 
 # How many idle connections a page may have without a delay, and how many at most. It waits a second for each: a reply
-# would come too late if it waited for one after the other.
-IDLE = 2 * REPLY_SECONDS
+# would come after so many seconds if it waited for one after the other.
+IDLE = 60
 MOST_WAITING = 64
 # How often is looked whether some connections are closed before others.
-TURNS = 10
+TURNS = 100
 TAKEN = b"a console sits at this seat\n"
 USAGE = "serve [OPTIONS] --seats <K> <--port <P>|--page <PORT>>"
 
@@ -98,9 +98,10 @@ class Idle(Pages):
 
     def test_they_delay_neither_the_first_request_nor_the_end(self):
         """A request would come only after longer than a reply may take if they were waited for one after the other."""
-        room = self.pages(1)
+        room, begun = self.pages(1), time.monotonic()
         idle = self.idle(room, IDLE)
         self.is_page(f"the first request of all, after {IDLE} idle connections", room.ask(1))
+        self.in_time(begun)
         self.ended(room, "a room ends though they stay", 0)
         heard = b"".join(each.hear() + b"/" for each in idle)
         self.same("each of them hears the end", heard, b"/" * IDLE)
@@ -108,8 +109,10 @@ class Idle(Pages):
     def test_they_are_closed(self):
         room = self.pages(1, consoles=False)
         self.is_page("a page alone", room.ask(1))
+        begun = time.monotonic()
         idle = self.idle(room, IDLE)
         self.is_page(f"a page after {IDLE} idle connections", room.ask(1))
+        self.in_time(begun)
         self.same("they are closed", [connection.hear() for connection in idle], [b""] * IDLE)
         self.ended(room, "the room", 0)
 
@@ -117,7 +120,10 @@ class Idle(Pages):
         """The others are still open then, if the host lets us look within the second that they have."""
         room = self.pages(1, consoles=False)
         self.is_page("a page alone", room.ask(1))
+        idle = []
         for _ in range(TURNS):
+            for connection in idle:
+                connection.close()
             idle = self.idle(room, MOST_WAITING + 6)
             oldest = [connection.hear() for connection in idle[:6]]
             others_ended = select.select(idle[6:], [], [], 0)[0]
@@ -133,8 +139,12 @@ class Idle(Pages):
         self.idle(room, IDLE)
         begun = time.monotonic()
         self.ended(room, "a room with idle connections", 0)
+        self.in_time(begun)
+
+    def in_time(self, begun):
+        """A subtest: it hasn't been so long since then that each connection could have been waited for."""
         took = time.monotonic() - begun
-        self.check("before it could have waited for each", "" if took < REPLY_SECONDS else f"it took {took:.1f} s")
+        self.check("before it could have waited for each", "" if took < IDLE else f"it took {took:.1f} s")
 
     def test_a_request_after_a_connection_that_drips(self):
         """It sends a byte now and then until the request is answered, or until it is closed."""
@@ -248,8 +258,8 @@ class Refused(Pages):
             ("no deck", none, b"", "no such file"),
         ]:
             deck.write_bytes(text)
-            words = ["--page", str(free_ports(2)), "--journal", kept, "--cards", path]
-            ran = program("serve", "--seats", "2", *words)
+            words = ["--seats", "2", "--journal", kept, "--cards", path]
+            ran = at_a_port(lambda port: program("serve", *words, "--page", str(port)), 2)
             self.expect(name, ran, 1, "", f"ibm1401: {path}: {fault}\n")
         self.check("no journal is made", "it is there" if kept.exists() else "")
 
@@ -261,8 +271,8 @@ class Ends(Pages):
         new = self.folder / "unheard.journal"
         for words in ["serve"], ["serve", "--journal", new]:
             for output in ">&-", "> /dev/full":
-                port = str(free_ports(1))
-                ran = shell(f'"$0" "$@" {output}', *words, "--seats", "1", "--page", port)
+                call = f'"$0" "$@" {output}'
+                ran = at_a_port(lambda port: shell(call, *words, "--seats", "1", "--page", str(port)))
                 self.expect(f"{' '.join(words[:2][1:])} {output}", ran, 1, "", "ibm1401: cannot write\n")
                 new.unlink(missing_ok=True)
 

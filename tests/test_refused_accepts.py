@@ -5,7 +5,7 @@ import socket
 import unittest
 
 from tests.preloaded import needs_compiler, preloading
-from tests.support import ProgramTest, wait_until
+from tests.support import SECONDS, ProgramTest, wait_until
 
 # What passes: the connection is gone, or the system is short of something.
 PASSING = ["ECONNABORTED", "EPROTO", "EAGAIN", "EINTR", "ENOBUFS", "ENOMEM", "EMFILE", "ENFILE", "ENETDOWN"]
@@ -33,7 +33,6 @@ class RefusedAccepts(ProgramTest):
             for times in 1, 3:
                 room = self.room("serve", "--keep-seats", seats=1, **refusing(name, times))
                 with room.console() as console:
-                    console.settimeout(10)
                     self.same(f"{name}, {times} times: a console", console.say(b"EXAMINE 0\n"), b" \n")
                 self.ended(room, f"{name}, {times} times: the room", 1)
 
@@ -44,8 +43,8 @@ class RefusedAccepts(ProgramTest):
 
     def test_a_failure_that_does_not_pass_closes_the_port(self):
         room = self.room("serve", "--keep-seats", seats=1, **refusing("ENOTSOCK", 1))
-        self.check("clients are refused", "" if wait_until(lambda: is_refused(room.port), 10) else "one connects")
-        reported = room.process.stderr.readline() if select.select([room.process.stderr], [], [], 10)[0] else b""
+        self.check("clients are refused", "" if wait_until(lambda: is_refused(room.port)) else "one connects")
+        reported = room.process.stderr.readline() if select.select([room.process.stderr], [], [], SECONDS)[0] else b""
         self.same("it is reported at once", reported, b"ibm1401: a port was closed; the room goes on\n")
         self.ended(room, "the room", 0, status=1, error="ibm1401: accept failed\n")
 
@@ -53,7 +52,6 @@ class RefusedAccepts(ProgramTest):
         for name in GONE:
             room = self.plain_room(1, **refusing(name, 1))
             with room.console() as console:
-                console.settimeout(10)
                 self.same(f"{name}: its console", console.say(b"EXAMINE 0\nQUIT\n"), b" \nBYE\n")
             self.ended(room, f"{name}: the room", 1)
 

@@ -5,7 +5,7 @@ import struct
 import time
 import unittest
 
-from tests.support import EXAMPLES, SECONDS, ProgramTest, a_port, at_most, program
+from tests.support import EXAMPLES, SECONDS, ProgramTest, at_a_port, program
 
 # How many times a port is looked at.
 PROBES = 20
@@ -125,7 +125,7 @@ class Ends(ProgramTest):
         self.ended(room, "the room", 0, b"quit\r\nQUIT\r\n")
 
     def test_an_input_that_is_at_its_end(self):
-        ran = program("serve", "--port", a_port(), "--seats", "1", "--keep-seats")
+        ran = at_a_port(lambda port: program("serve", "--port", str(port), "--seats", "1", "--keep-seats"))
         self.expect("the room", ran, 0, "READY\nJOURNAL 0\n")
 
     def test_an_input_that_cannot_be_read(self):
@@ -137,7 +137,7 @@ class Ends(ProgramTest):
             (["resume", path], 1),
         ]:
             inside = os.open("/", os.O_RDONLY)
-            ran = program(*words, "--port", a_port(), "--seats", "1", stdin=inside)
+            ran = at_a_port(lambda port: program(*words, "--port", str(port), "--seats", "1", stdin=inside))
             os.close(inside)
             name = " ".join(word for word in words if isinstance(word, str))
             self.expect(name, ran, 1, f"READY\nJOURNAL {journal}\n", "ibm1401: input failed\n")

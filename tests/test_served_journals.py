@@ -10,7 +10,7 @@ import threading
 import unittest
 
 from tests.preloaded import needs_compiler, preloading
-from tests.support import PROGRAM, SECONDS, UNWRITTEN, ProgramTest, a_port, program, shell, wait_until
+from tests.support import PROGRAM, SECONDS, UNWRITTEN, ProgramTest, at_a_port, program, shell, wait_until
 
 # How many served rooms are killed, and how many operators each of them has.
 KILLS = 200
@@ -143,7 +143,8 @@ class Unwritten(ProgramTest):
             ("resume --journal", ["resume", path, "--journal", newer]),
         ]:
             for output in (">&-", "> /dev/full"):
-                ran = shell(f'"$0" "$@" {output}', *words, "--seats", "1", "--port", a_port())
+                call = f'"$0" "$@" {output}'
+                ran = at_a_port(lambda port: shell(call, *words, "--seats", "1", "--port", str(port)))
                 self.expect(f"{name} {output}", ran, 1, "", "ibm1401: cannot write\n")
                 new.unlink(missing_ok=True)
                 newer.unlink(missing_ok=True)

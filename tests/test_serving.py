@@ -11,7 +11,7 @@ import threading
 import unittest
 
 from tests.limits import bounds_memory, within
-from tests.support import (EXAMPLES, MOST_ENTRIES, REPLY_SECONDS, SECONDS, TOP, ProgramTest, a_port, at_most,
+from tests.support import (EXAMPLES, MOST_ENTRIES, REPLY_SECONDS, SECONDS, TOP, ProgramTest, at_a_port, at_most,
                            difference, misuse, program, shell)
 
 
@@ -315,7 +315,7 @@ class Refused(ProgramTest):
                 self.expect(f"serve {words}", ran, 1, "", "ibm1401: port refused\n")
 
     def test_an_output_that_is_closed(self):
-        ran = shell('"$0" serve --port "$1" --seats 1 >&-', a_port())
+        ran = at_a_port(lambda port: shell('"$0" serve --port "$1" --seats 1 >&-', str(port)))
         self.expect("READY can't be written", ran, 1, "", "ibm1401: cannot write\n")
         room = self.plain_room(1)
         room.process.stdout.close()
@@ -329,7 +329,7 @@ class Refused(ProgramTest):
         room = self.plain_room(3, **how)
         with room.console() as one:
             # The next connection waits to be accepted, or finds the port closed by then.
-            with contextlib.suppress(ConnectionRefusedError):
+            with contextlib.suppress(ConnectionRefusedError, ConnectionResetError):
                 self.addCleanup(room.console().close)
             self.same("the first console goes on", one.say(b"EXAMINE 0\n"), b" \n")
             self.same("to its end", one.say(b"EXAMINE 0\nQUIT\n"), b" \nBYE\n")

@@ -5,7 +5,7 @@ import unittest
 
 from tests.chains import BUSINESS, FORMULAS, OURS
 from tests.jobs import COPY, ending
-from tests.support import EXAMPLES, TOP, ProgramTest, program, shell
+from tests.support import EXAMPLES, SECONDS, TOP, ProgramTest, program, shell
 
 PEER = shutil.which("i1401")
 
@@ -31,7 +31,7 @@ class Peer(ProgramTest):
 
     def peer(self, *lines):
         """What i1401 says to these lines."""
-        ran = subprocess.run([PEER], input="\n".join([*lines, "quit", ""]).encode(), capture_output=True, timeout=60)
+        ran = subprocess.run([PEER], input="\n".join([*lines, "quit", ""]).encode(), capture_output=True, timeout=SECONDS)
         return ran.stdout.decode()
 
     def test_what_it_punches(self):

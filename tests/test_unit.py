@@ -6,7 +6,7 @@ import shutil
 import subprocess
 import unittest
 
-from tests.support import EXAMPLES, PROGRAM, REPLY_SECONDS, Console, ProgramTest, a_port, run
+from tests.support import EXAMPLES, PORTS_TRIED, PROGRAM, REPLY_SECONDS, Console, ProgramTest, a_port, run
 
 UNIT = EXAMPLES / "ibm1401@.service"
 
@@ -21,26 +21,34 @@ def words_of(field, instance, state, unit=UNIT):
 class Unit(ProgramTest):
     """Rooms of the unit, with a folder of the test's own in place of /var/lib."""
 
-    def start(self):
-        """A room of the unit that is ready for consoles."""
-        self.port = a_port()
-        words = words_of("ExecStart", self.port, self.folder)
-        return self.start_words(words)
+    def start(self, prepare=lambda: subprocess.PIPE):
+        """A room of the unit that is ready for consoles; before that its port is prepared, which gives its input. It is
+        at another port if somebody else has taken this one meanwhile."""
+        for _ in range(PORTS_TRIED):
+            self.port = a_port()
+            (self.folder / "ibm1401").mkdir(exist_ok=True)
+            room, first = self.begin(prepare())
+            if first or room.stderr.read() != b"ibm1401: port refused\n":
+                break
+        self.same("it is ready", first, b"READY\n")
+        return room
 
-    def start_words(self, words, stdin=subprocess.PIPE):
-        """The same by this command line, with the program under test in place of the installed one."""
-        (self.folder / "ibm1401").mkdir(exist_ok=True)
+    def begin(self, stdin=subprocess.PIPE):
+        """A room of the instance that the port names, by the program under test in place of the installed one; and its
+        first line."""
+        words = words_of("ExecStart", self.port, self.folder)
         words = [str(PROGRAM) if word == "/usr/local/bin/ibm1401" else word for word in words]
         room = subprocess.Popen(words, stdin=stdin, stdout=subprocess.PIPE, stderr=subprocess.PIPE)
         self.addCleanup(lambda: [each.close() for each in (room.stdin, room.stdout, room.stderr) if each])
         self.addCleanup(room.wait, REPLY_SECONDS)
         self.addCleanup(room.kill)
-        self.same("it is ready", room.stdout.readline(), b"READY\n")
-        return room
+        return room, room.stdout.readline()
 
     def again(self):
         """A room of the same instance, started again."""
-        return self.start_words(words_of("ExecStart", self.port, self.folder))
+        room, first = self.begin()
+        self.same("it is ready again", first, b"READY\n")
+        return room
 
     def says(self, name, lines, replies):
         """A subtest: a console of the room is answered so."""
@@ -72,22 +80,27 @@ class Unit(ProgramTest):
 
     def test_a_journal_that_lost_its_text_is_begun_again(self):
         """As after a loss of power: an empty file, in which no command is."""
-        self.port = a_port()
-        (self.folder / "ibm1401").mkdir()
-        (self.folder / f"ibm1401/{self.port}.journal").touch()
-        room = self.again()
+
+        def prepare():
+            (self.folder / f"ibm1401/{self.port}.journal").touch()
+            return subprocess.PIPE
+
+        room = self.start(prepare)
         self.says("a new machine", b"DEPOSIT 0500 ~K\n", b"OK\n")
         self.same("its end", room.communicate(b"QUIT\n", REPLY_SECONDS)[0], b"JOURNAL 1\n")
 
     def test_it_is_stopped_through_the_pipe_of_its_socket(self):
-        self.port = a_port()
         pipe = re.search(r"^ListenFIFO=%t/(.*)$", (EXAMPLES / "ibm1401@.socket").read_text(), re.MULTILINE)[1]
-        path = self.folder / pipe.replace("%i", self.port)
-        os.mkfifo(path)
-        # systemd keeps both ends of it open.
-        both = os.open(path, os.O_RDWR)
-        self.addCleanup(os.close, both)
-        room = self.start_words(words_of("ExecStart", self.port, self.folder), both)
+
+        def prepare():
+            path = self.folder / pipe.replace("%i", self.port)
+            os.mkfifo(path)
+            # systemd keeps both ends of it open.
+            both = os.open(path, os.O_RDWR)
+            self.addCleanup(os.close, both)
+            return both
+
+        room = self.start(prepare)
         stop = words_of("ExecStop", self.port, self.folder)
         stopped = subprocess.Popen(stop, env={**os.environ, "MAINPID": str(room.pid)})
         self.addCleanup(stopped.wait, REPLY_SECONDS)

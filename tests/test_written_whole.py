@@ -9,7 +9,7 @@ from pathlib import Path
 
 TOP = Path(__file__).resolve().parent.parent
 PROGRAM = Path(os.environ.get("IBM1401", TOP / "crates/ibm1401/out/ibm1401")).absolute()
-SECONDS = 120
+SECONDS = 300
 
 SOURCE = "               ORG  400\n     START     H\n               NOP\n               END  START\n"
 
