@@ -11,7 +11,7 @@ use bytes_files::{FileFault, read_whole};
 use bytes_streams::{Source, ToWriter};
 use devices_1401::Card;
 use machine_graphics::Graphics;
-use operate_console::{Desk, Manner, Operated, Script, Terminal, operate};
+use operate_console::{Desk, Manner, OperateEnd, Operated, Script, Terminal, operate};
 use operate_program::Program;
 use operate_sitting::{Cutter, NothingKept, Sitting};
 use program_call::{NewJournal, Operating};
@@ -113,6 +113,17 @@ fn outcome_of<K: Keeper + Drop>(operated: Operated<K>, is_typed: bool) -> Result
     ensures { result ≡ outcome (nat_lt 0 operated.faults && not is_typed) operated.end }
 {
     let Operated { end, faults, .. } = operated;
+    outcome_at(end, faults, is_typed)
+}
+
+/// What this end means for the program, if so many lines had a fault.
+///
+/// # Errors
+///
+/// As those of `ended`.
+fn outcome_at(end: OperateEnd, faults: u32, is_typed: bool) -> Result<(), OperateFault>
+    ensures { result ≡ outcome (nat_lt 0 faults && not is_typed) end }
+{
     ended(end, faults > 0 && !is_typed)
 }
 
