@@ -149,9 +149,9 @@ class Page:
         """Presses a button of the page."""
         self.value(f"document.getElementById('{element}').click()")
 
-    def mouse(self, element):
+    def mouse(self, element, held=None):
         """Moves the mouse to an element, as a visitor who scrolls to it, and presses. What is pressed has to be the
-        element, and not something over it; False if it isn't."""
+        element, and not something over it; False if it isn't. `held` is called before the button is released."""
         at = self.value(f"""(element => {{
             element.scrollIntoView({{block: 'nearest', behavior: 'instant'}});
             const box = element.getBoundingClientRect(), x = box.x + box.width / 2, y = box.y + box.height / 2;
@@ -160,8 +160,13 @@ class Page:
         if not isinstance(at, list) or not at[2]:
             return False
         place, button = {"x": at[0], "y": at[1]}, {"button": "left", "clickCount": 1}
-        self.browser.call_all("Input.dispatchMouseEvent", self.session, {"type": "mouseMoved", **place},
-                              {"type": "mousePressed", **place, **button}, {"type": "mouseReleased", **place, **button})
+        events = [{"type": "mouseMoved", **place}, {"type": "mousePressed", **place, **button}]
+        if held:
+            self.browser.call_all("Input.dispatchMouseEvent", self.session, *events)
+            held()
+            events.clear()
+        events.append({"type": "mouseReleased", **place, **button})
+        self.browser.call_all("Input.dispatchMouseEvent", self.session, *events)
         return True
 
     def tab_to(self, element, most=150):

@@ -131,7 +131,7 @@ LAST_PLACE = "EXAMINE 1400\nQUIT\n"
 CELL = "EXAMINE 0500\nQUIT\n"
 SHOWN = ["1 seat 1  DEPOSIT 0500 ~A              OK\n", "2 seat 2  DEPOSIT 0500 ~B              OK\n",
          "3 seat 1  EXAMINE 0500 1               ~B\n"]
-EACH_FEATURE = "FIT MULTIPLY MOVE-RECORD MODIFY-ADDRESS BIT-TEST LENGTHS READ-PUNCH-RELEASE"
+EACH_FEATURE = "FIT MULTIPLY MOVE-RECORD MODIFY-ADDRESS BIT-TEST LENGTHS READ-PUNCH-RELEASE TAPES"
 TIMES_IMAGE = "IMAGE2 04000\n00400 15 ~@409414~.~12~34000\nEND 00400\n"
 TIMES_HALTED = f"ibm1401: HALT at 0407 (line 3, H) after 2 steps; {NONE}"
 WITHOUT_2 = "JOURNAL1 1400\n1\t1\tDEPOSIT 0500 ~A\tOK\n2\t1\tEXAMINE 0500 1\t~A\n3\t0\tEXAMINE 0500 1\t~A\n"
@@ -231,6 +231,14 @@ ROWS = [
     ("run --language ibm --fit multiply times", "", 0, "", TIMES_HALTED, {}),
     ("run --language ibm --fit lengths times", "", 1, "", None, {}),
     ("run --fit multiply,multiply job", "", MISUSE, "", None, {}),
+    ("run --tape 1=reel job", "", 1, "", NO_CARD.replace("punched", "punched, tape 1 at record 0 of 2"), {}),
+    ("run --tape 1=reel --tape 2=new:new job", "", 1, "",
+     NO_CARD.replace("punched", "punched, tape 1 at record 0 of 2, tape 2 at record 0 of 0"), {"new": ""}),
+    ("run --tape 1=reel --tape 1=:scratch job", "", MISUSE, "", None, {}),
+    ("run --tape 7=reel job", "", MISUSE, "", None, {}),
+    ("run --load-tape 1=reel", "", 1, "", "ibm1401: NOMARK at 0001: no word mark at 001 after 0 steps; "
+     + NONE.replace("punched", "punched, tape 1 at record 1 of 2"), {}),
+    ("run --load-tape 1=reel job", "", MISUSE, "", None, {}),
     ("assemble --language ibm --all times", "", 0, TIMES_IMAGE,
      "times:2:16: WARNING: this machine has no instruction of this operation and length\n", {}),
     ("assemble --language ibm --all --fit lengths,multiply times", "", 0, TIMES_IMAGE, "", {}),
@@ -297,7 +305,8 @@ ROWS = [
 UNREAD = [
     "assemble FILE", "load FILE", "serve --port 1401 --seats 1 --image FILE",
     "disassemble FILE", "disassemble --load FILE", "reel FILE", "reel --deck new FILE", "reel --from-deck -o new FILE",
-    "run FILE", "run --load FILE", "run --cards FILE job",
+    "run FILE", "run --load FILE", "run --cards FILE job", "run --tape 1=FILE job", "run --tape 2=FILE:ring job",
+    "run --load-tape 1=FILE",
     "serve --port 1401 --seats 1 --cards FILE",
     "operate FILE", "operate --load FILE", "operate --cards FILE job", "operate --resume FILE", "operate --do FILE",
     "journal FILE", "journal --check FILE", "resume FILE", "resume --journal new FILE",

@@ -16,7 +16,7 @@ HEAD = "| Bench | Figure | Ours | i1401 | Ratio | Date, commit |\n|---|---|---|-
 BEGIN, END = "<!-- benches/all --write begins here -->\n", "<!-- benches/all --write ends here -->\n"
 USAGE = """\
 usage: benches/all [--write] [NAME ..], or benches/all --names
-NAME is speed, cards, images, lines, operate, assembler, serve, waiting, pages, exhibit, crowd, rooms, journals, soak
+NAME is speed, cards, tapes, images, lines, operate, assembler, serve, waiting, pages, exhibit, crowd, rooms, journals, soak
 """
 # A mock of a bench. Its first figure is called after the word that it is run with.
 MOCK = '''\
@@ -174,10 +174,10 @@ class All(ProgramTest):
         self.same("its status", ran.returncode, 0)
         rows = [line.split(" | ")[:2] for line in ran.stdout.decode().splitlines() if ", lines a second | " in line]
         self.same("the benches", [f"{bench[2:]}: {figure.partition(',')[0]}" for bench, figure in rows], [
-            "speed: rate", "speed --count: rate --count", "speed --lines: rate --lines", "cards: rate", "images: rate",
-            "lines: rate", "operate: rate", "assembler: rate", "serve --journal: rate --journal", "waiting: rate",
-            "pages: rate", "crowd: rate", "rooms: rate", "journals: rate"])
-        self.has(ran.stderr.decode(), "\nbenches/cards, 4 of 16\n",
+            "speed: rate", "speed --count: rate --count", "speed --lines: rate --lines", "cards: rate", "tapes: rate",
+            "images: rate", "lines: rate", "operate: rate", "assembler: rate", "serve --journal: rate --journal",
+            "waiting: rate", "pages: rate", "crowd: rate", "rooms: rate", "journals: rate"])
+        self.has(ran.stderr.decode(), "\nbenches/cards, 4 of 17\n",
                  "\nLEFT OUT  benches/soak: it takes an hour, and runs if it is named\n")
 
     def test_what_is_printed_of_one_bench(self):

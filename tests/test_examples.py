@@ -4,8 +4,10 @@ import unittest
 
 from tests.support import EXAMPLES, ProgramTest, program
 
-# Examples that are tried elsewhere, by what a user does with them: systemd's units, operators who share a machine.
+# Examples that are tried elsewhere, by what a user does with them: systemd's units, operators who share a machine; and
+# the folder of programs for tapes.
 ELSEWHERE = {".service", ".socket", ".consoles", ".conf"}
+TAPES = EXAMPLES / "tapes"
 
 
 def examples(suffix):
@@ -18,9 +20,9 @@ class Examples(ProgramTest):
 
     def test_each_file_belongs_to_a_session_a_source_or_a_deck(self):
         known = {each.stem for suffix in (".console", ".source", ".deck") for each in examples(suffix)}
-        others = [each.name for each in sorted(EXAMPLES.iterdir()) if each.suffix not in ELSEWHERE]
+        files = [each for each in sorted(EXAMPLES.iterdir()) if each.suffix not in ELSEWHERE and each != TAPES]
         self.assertTrue(known)
-        self.assertEqual([], [each for each in others if each.split(".")[0].removesuffix("_version_1") not in known])
+        self.assertEqual([], [each for each in files if each.name.split(".")[0].removesuffix("_version_1") not in known])
 
     def test_sessions(self):
         """Each session, on the image of its name where there is one: its replies, to the byte, whatever is fitted."""

@@ -201,6 +201,17 @@ class Attract(Browser):
         self.shows("it clears the machine", "!attract.on && isClear(view.picture) && guide.state", "on")
         self.shows("the key that was touched does nothing", "byId('said-words').textContent === TEXTS.said.clear")
 
+    def test_a_hand_that_lifts_once_the_machine_is_clear(self):
+        """The click of its press reaches no key; that of the next press does."""
+        self.page.value("say('FEED LEFT').then(() => { guide.state = 'attract'; guide.draw(); }), 0")
+        self.shows("the guide asks for a touch", "byId('guide-now').textContent === TEXTS.guide.attract")
+        clear = "!attract.on && isClear(view.picture) && guide.state"
+        self.page.mouse("load-key", lambda: self.shows("the machine is clear before", clear, "on"))
+        self.page.value("inTurn(look)")
+        self.shows("the key that was touched does nothing", "byId('said-words').textContent === TEXTS.said.clear")
+        self.page.mouse("feed-key")
+        self.shows("the next press feeds a card", "byId('HOPPER').textContent", "001")
+
     def test_it_yields_to_another_seat(self):
         """A visitor there finds the machine as they leave it."""
         second = self.open_page(2)

@@ -2,9 +2,11 @@
 import re
 import unittest
 
+from tests.peer import image
 from tests.preloaded import needs_compiler
 from tests.refused_growth import LINES, MEMORY, NO_LINES, each_growth, session_end, written_end
 from tests.support import EXAMPLES, ProgramTest, program
+from tests.tape_reels import COPY, COPY_START, tape
 
 FIVE = EXAMPLES / "five_and_five.source"
 # A source with warnings, and what the wider language has besides: symbols through others, and literals that are placed.
@@ -160,6 +162,31 @@ class Growth(ProgramTest):
 
     def test_a_run_in_the_wider_language(self):
         self.hold_run("ibm")
+
+    def test_a_run_with_reels(self):
+        """A reel is written whole or not at all: a new file isn't there, and another is as it was."""
+        names = "image", "reel", "new", "old"
+        program_file, reel, new, old = (self.folder / each for each in names)
+        records = [f"{text:80}" for text in ("FIRST RECORD", "SECOND")]
+        program_file.write_text(image(COPY_START, COPY))
+        reel.write_bytes(tape(records))
+        for out, mounted in (new, f"2={new}:new"), (old, f"2={old}:ring"):
+            words = ["run", program_file, "--tape", f"1={reel}", "--tape", mounted]
+
+            def job(how, out=out, words=words):
+                before = tape(["OLD"]) if out == old else b""
+                out.unlink(missing_ok=True)
+                if before:
+                    out.write_bytes(before)
+                ran = program(*words, **how)
+                found = out.read_bytes() if out.exists() else b""
+                if ran.returncode == 1 and ran.stderr.endswith(MEMORY):
+                    return "memory refused", "" if found in (before, tape(records)) else f"{found}"
+                is_whole = ran.returncode == 0 and ran.stderr.startswith(b"ibm1401: HALT at 0630")
+                return "without an effect", "" if is_whole and found == tape(records) else f"{ran} {found}"
+
+            self.each(job, "memory refused")
+            self.same("nothing is left", sorted(each.name for each in self.folder.iterdir() if "part" in each.name), [])
 
     def test_a_persons_console(self):
         """What is shown is a beginning of what is shown with ample memory, up to a fault of a line, or to the end."""

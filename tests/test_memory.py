@@ -7,6 +7,7 @@ import unittest
 from pathlib import Path
 
 from tests.support import a_port
+from tests.tape_reels import tape
 
 TOP = Path(__file__).resolve().parent.parent
 PROGRAM = Path(os.environ.get("IBM1401", TOP / "crates/ibm1401/out/ibm1401")).absolute()
@@ -78,7 +79,7 @@ SAYING = {
 }
 # An EQU of a number, and what a run takes for each byte of EQUs of its symbol above it: more than the others.
 LAST = b"     TAIL      EQU  1\n"
-EQUAL_BELOW_EACH = 11
+EQUAL_BELOW_EACH = 9
 
 
 def with_literals(number):
@@ -92,6 +93,8 @@ def equal_below(number):
     return f"     {label(number):10}EQU  TAIL\n"
 
 
+# Areas that lines place again and again, where those above are: twelve large ones, and many small ones.
+AREAS = ("12X999", "99X121")
 # What is done with these.
 OF_STATEMENTS = (["assemble"], ["assemble", "--language", "ibm"])
 
@@ -114,9 +117,11 @@ LISTED = {
 # Makes a call, and prints its status and the most memory that it took, in kibibytes. It is a process of its own: what
 # the caller of a process had counts as that process's too, and this one has little. By the first call, which its
 # processes inherit, the system gives no huge pages, which would be taken whole for a few bytes, and at times of its own.
+# Each processor keeps count of some pages for itself, so all of it is done on one.
 MEASURE = """
 import ctypes, os, subprocess, sys
 ctypes.CDLL(None).prctl(41, 1, 0, 0, 0)
+os.sched_setaffinity(0, {min(os.sched_getaffinity(0))})
 null = subprocess.DEVNULL
 ran = subprocess.Popen(sys.argv[1:], stdin=null, stdout=null, stderr=null)
 _, ended, used = os.wait4(ran.pid, 0)
@@ -157,6 +162,20 @@ class MemoryTest(unittest.TestCase):
         for line in b"A\n", b"A" * 80 + b"\n":
             with self.subTest(line[:2]):
                 self.expect_few(0, line, line * (MOST_BYTES // len(line)), "run", "source", "--cards", "file")
+
+    def test_a_deck_that_becomes_a_reel_does_too(self):
+        for line in b"\n", b"A\n", b"A" * 80 + b"\n":
+            with self.subTest(line[:2]):
+                many = line * (MOST_BYTES // len(line))
+                self.expect_few(0, line, many, "reel", "--from-deck", "-o", "/dev/null", "file")
+
+    def test_a_reel_does_too(self):
+        for record in ["A"], ["A" * 80]:
+            text = tape(record, b"")
+            for mounted in "1=file", "1=file:ring":
+                with self.subTest(f"{len(record[0])} {mounted}"):
+                    many = text * (MOST_BYTES // len(text))
+                    self.expect_few(0, text, many, "run", "source", "--tape", mounted)
 
     def test_a_deck_that_is_loaded_does_too(self):
         # The first card halts.
@@ -229,6 +248,22 @@ class MemoryTest(unittest.TestCase):
     def test_literals_take_a_few_bytes_a_byte(self):
         small, large = again(1_000, with_literals), again(SHORTER_BYTES, with_literals)
         self.expect_few(0, small, large, "assemble", "file")
+
+    def test_areas_placed_again_take_a_few_bytes_a_byte(self):
+        for areas in AREAS:
+            line = f"               ORG  4000\n               DA   {areas}\n"
+            small, large = (again(size, lambda number: line) for size in (1_000, SHORTER_BYTES // 4))
+            for call in ["assemble"], ["run"]:
+                with self.subTest(f"{areas}: {call[0]}"):
+                    self.expect_few(0, small, large, *call, "--size", "16000", "file")
+
+    def test_a_console_for_a_person_takes_no_more_for_them(self):
+        # The journal is full before all of them are loaded, and that is reported, in either source.
+        for areas in AREAS:
+            line = f"               ORG  4000\n               DA   {areas}\n"
+            small, large = (again(size, lambda number: line) for size in (SHORTER_BYTES // 4, SHORTER_BYTES // 2))
+            with self.subTest(areas):
+                self.expect_few(1, small, large, "operate", "--size", "16000", "file")
 
     def test_symbols_that_a_line_below_declares_take_a_few_bytes_a_byte(self):
         small, large = (again(size, equal_below, LAST) for size in (SHORTER_BYTES // 4, SHORTER_BYTES))

@@ -56,9 +56,9 @@ class Operations(ProgramTest):
         self.same("mnemonics", len(set(mnemonics().values())), 50)
 
     def test_the_page_has_a_word_for_each_operation(self):
-        """It shows what a machine carries out, so it needs no word for what no feature has: units and `X`."""
+        """It shows what a machine carries out, so it needs no word for what no feature has: `X`."""
         without = unfeatured()
-        self.same("of no feature", sorted(without), ["CONTROL_UNIT", "MOVE_AND_INSERT_ZEROS"])
+        self.same("of no feature", sorted(without), ["MOVE_AND_INSERT_ZEROS"])
         wanted = [columns for name, columns in mnemonics().items() if name not in without]
         for language in ("english", "german"):
             self.same(language, missing_and_extra(words(language), wanted), ([], [], []))

@@ -1,15 +1,13 @@
 """`reel`: the listing of a reel, decks of reels and reels of decks, and what is refused; the same on i1401 itself."""
 import os
 import resource
-import shutil
 import signal
-import subprocess
 import unittest
 
 from tests.chains import BUSINESS, OURS
+from tests.peer import deposits, peer, with_peer
 from tests.support import EXAMPLES, MOST_BYTES, NO_FILE, ProgramTest, misuse, program, shell
 
-PEER = shutil.which("i1401")
 SALES = EXAMPLES / "sales.cards"
 MARK = bytes(4)
 EMPTY = "RECORDS 0 TAPE MARKS 0 CHARACTERS 0\n"
@@ -234,31 +232,15 @@ class Decks(ReelTest):
         self.same("the link", os.readlink(link), "new")
 
 
-@unittest.skipUnless(PEER, "i1401 isn't there: install Debian's package simh")
+@with_peer
 class Peer(ReelTest):
     """Reels on i1401 itself."""
 
-    def peer(self, *lines):
-        """What i1401 says to these lines."""
-        ran = subprocess.run([PEER], input="\n".join([*lines, "quit", ""]).encode(), capture_output=True, timeout=60)
-        return ran.stdout.decode()
-
-    def cells(self, at, text):
-        """The lines that put these cells into its core storage."""
-        lines, mark = [], 0
-        for each in text:
-            if each == "~":
-                mark = 0o100
-            else:
-                lines.append(f"d {at} {OURS.index(each) + mark:o}")
-                at, mark = at + 1, 0
-        return lines
-
     def test_a_reel_that_it_writes_is_listed(self):
         """Two records of even parity, each before a tape mark, the second loaded with a word mark; and one of odd."""
-        core = self.cells(800, 'HELLO WORLD~"') + self.cells(820, 'AB~C~"')
-        core += self.cells(600, "~M%U1800W~U%U1M~L%U1820W~U%U1M~M%B1800W~.~.")
-        said = self.peer(f"attach mt1 {self.reel}", *core, "go 600")
+        core = deposits(800, 'HELLO WORLD~"') + deposits(820, 'AB~C~"')
+        core += deposits(600, "~M%U1800W~U%U1M~L%U1820W~U%U1M~M%B1800W~.~.")
+        said = peer(f"attach mt1 {self.reel}", *core, "go 600")
         self.check("it halts", "" if "HALT" in said else said)
         wanted = ("000001 00011 HELLO^WORLD\n000002 TAPE MARK\n000003 00004 AB=C\n000004 TAPE MARK\n"
                   "000005 00011 HELLO WORLD\nRECORDS 3 TAPE MARKS 2 CHARACTERS 26\n")
@@ -271,8 +253,8 @@ class Peer(ReelTest):
         self.deck.write_text("FIRST CARD\nSECOND\n")
         ran = program("reel", "--even-parity", "--from-deck", self.deck, "-o", self.reel)
         self.expect("the reel", ran)
-        core = self.cells(600, "~M%U1801R~M%U1901R~M%U1950R~B700K~.~.") + self.cells(700, "~.~.")
-        said = self.peer(f"attach -r mt1 {self.reel}", *core, "go 600", "e -c 801-810", "e -c 901-906")
+        core = deposits(600, "~M%U1801R~M%U1901R~M%U1950R~B700K~.~.") + deposits(700, "~.~.")
+        said = peer(f"attach -r mt1 {self.reel}", *core, "go 600", "e -c 801-810", "e -c 901-906")
         self.check("the mark is read", "" if "IS: 701" in said else said)
         read = [line.split(":\t")[1] for line in said.splitlines() if ":\t" in line]
         self.same("the characters", read, list("FIRST CARDSECOND"))

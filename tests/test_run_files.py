@@ -91,9 +91,9 @@ class Refused(ProgramTest):
     def test_misused(self):
         for words, error in [
             ([], misuse(NO_FILE, "run <FILE>")),
-            (["a", "b"], misuse("unexpected argument 'b' found", "run [OPTIONS] <FILE>")),
+            (["a", "b"], misuse("unexpected argument 'b' found", "run [OPTIONS] [FILE]")),
             (["--size", "x", "a"], misuse("invalid value 'x' for '--size <N>': invalid digit found in string")),
-            (["--switches", "H", "a"], misuse("the switches are letters from A to G", "run [OPTIONS] <FILE>")),
+            (["--switches", "H", "a"], misuse("the switches are letters from A to G", "run [OPTIONS] [FILE]")),
             (["--limit", "-1", "a"], "error: unexpected argument '-1' found\n..."),
         ]:
             self.expect(f"run {' '.join(words)} ends with 2", program("run", *words), 2, "", error)

@@ -39,6 +39,7 @@ DOES_WITH_ALL = {
     "#": "ALLcLLcL",
     "W": "cLLLLLLc",
     "89": "cLLLLLLL",
+    "U": "LLLLFLLL",
 }
 # The stop of each letter, and where the machine goes on: after the instruction, after seven characters, at 700 or at
 # 600.

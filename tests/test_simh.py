@@ -1,13 +1,10 @@
 """Decks that travel: i1401 of SIMH loads ours and prints the same, and what it punches is read here."""
-import shutil
-import subprocess
 import unittest
 
 from tests.chains import BUSINESS, FORMULAS, OURS
 from tests.jobs import COPY, ending
-from tests.support import EXAMPLES, SECONDS, TOP, ProgramTest, program, shell
-
-PEER = shutil.which("i1401")
+from tests.peer import peer, with_peer
+from tests.support import EXAMPLES, TOP, ProgramTest, program, shell
 
 
 class Graphics(ProgramTest):
@@ -25,21 +22,16 @@ class Graphics(ProgramTest):
             self.holds(command, self.folder / "old.cards", f"{OURS}\n")
 
 
-@unittest.skipUnless(PEER, "i1401 isn't there: install Debian's package simh")
+@with_peer
 class Peer(ProgramTest):
     """Decks on i1401 itself."""
-
-    def peer(self, *lines):
-        """What i1401 says to these lines."""
-        ran = subprocess.run([PEER], input="\n".join([*lines, "quit", ""]).encode(), capture_output=True, timeout=SECONDS)
-        return ran.stdout.decode()
 
     def test_what_it_punches(self):
         for words, graphics in ([], BUSINESS), (["set cdp fortran"], FORMULAS):
             cards = self.folder / "punched.cards"
             cards.unlink(missing_ok=True)
             codes = [f"d {101 + code} {code:o}" for code in range(64)]
-            self.peer(*words, f"attach cdp {cards}", *codes, "d 400 104", "d 401 173", "d 402 100", "go 400")
+            peer(*words, f"attach cdp {cards}", *codes, "d 400 104", "d 401 173", "d 402 100", "go 400")
             self.holds(f"{words}", cards, f"{graphics}\n")
 
     def test_what_it_punches_is_read_here(self):
@@ -50,7 +42,7 @@ class Peer(ProgramTest):
             cards = self.folder / "punched.cards"
             cards.unlink(missing_ok=True)
             codes = [f"d {101 + code} {code:o}" for code in range(64)]
-            self.peer(*words, f"attach cdp {cards}", *codes, "d 400 104", "d 401 173", "d 402 100", "go 400")
+            peer(*words, f"attach cdp {cards}", *codes, "d 400 104", "d 401 173", "d 402 100", "go 400")
             ran = program("run", source, "--cards", cards, "--graphics", chain)
             self.expect(chain, ran, 0, f"{OURS}\n", ending("HALT", 427, 7, 1, 1, 1, "line 8, H *-3"))
 
@@ -62,7 +54,7 @@ class Peer(ProgramTest):
                           "               NOP\n               END  GO\n")
         for chain in "simh", "fortran":
             self.expect(chain, program("assemble", source, "--deck", deck, "--out-graphics", chain))
-            said = self.peer(f"attach cdr {deck}", "boot cdr", "e 500-507")
+            said = peer(f"attach cdr {deck}", "boot cdr", "e 500-507")
             cells = [line.split(":\t")[1] for line in said.splitlines() if line.startswith(tuple("5s")) and ":\t" in line]
             wanted = [f"{OURS.index(sign) + 64 * (at == 0):03o}" for at, sign in enumerate(signs)]
             self.same(f"{chain}: the cells", cells, wanted)
@@ -76,7 +68,7 @@ class Peer(ProgramTest):
             ours = program("run", "--load", deck, *more, "--switches", "A").stdout.decode()
             if cards:
                 deck.write_bytes(deck.read_bytes() + cards.read_bytes())
-            said = self.peer(f"attach cdr {deck}", f"attach lpt {paper}", "d ssa 1", "boot cdr", "e -c 418-420")
+            said = peer(f"attach cdr {deck}", f"attach lpt {paper}", "d ssa 1", "boot cdr", "e -c 418-420")
             self.check(f"{name} halts", "" if "HALT" in said else said)
             lines = [[line.rstrip() for line in text.replace("\f", "\n").splitlines() if line.strip()]
                      for text in (ours, paper.read_text())]

@@ -1,17 +1,22 @@
 /* Idle minutes: the machine runs a deck by itself until somebody touches it, unless the staff has prepared it. Each
    such run takes about a hundred entries of the journal, and none begins once half of the journal is used. */
 const IDLE = {attractMs: 180000, pauseMs: 90000, seatMs: 20000, mostAfter: JOURNAL_ENTRIES / 2};
-const attract = {on: false, stop: false, yields: false, touched: performance.now(), pressed: performance.now(),
-  ended: -Infinity};
+const attract = {on: false, stop: false, yields: false, press: false, touched: performance.now(),
+  pressed: performance.now(), ended: -Infinity};
 
-/* A hand on the page ends the attract loop, between two decks too, and does nothing else. */
+/* A hand on the page ends the attract loop, between two decks too, and does nothing else. The click that ends its press
+   does nothing either, even if the machine is clear by then. */
 function touch(event) {
   attract.touched = attract.pressed = performance.now();
   if (run) run.wake();
-  if (guide.state !== 'attract' || event.isTrusted === false) return;
-  if (attract.on) attract.stop = true;
-  else takeOver();
-  stopRun();
+  if (event.isTrusted === false) return;
+  const isClick = event.type === 'click', ends = guide.state === 'attract', goesOn = isClick && attract.press;
+  attract.press = ends && !isClick;
+  if (ends) {
+    if (attract.on) attract.stop = true;
+    else takeOver();
+    stopRun();
+  } else if (!goesOn) return;
   if (event.key === 'Tab') return;
   event.preventDefault();
   event.stopPropagation();

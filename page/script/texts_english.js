@@ -43,6 +43,7 @@ LANGUAGES.en = {
     NOP: 'no operation', H: 'halt', SS: 'select a stacker', R: 'read a card', W: 'print a line', WM: 'print word marks',
     P: 'punch a card', WR: 'print and read', RP: 'read and punch', WP: 'print and punch', WRP: 'print, read and punch',
     CC: 'control the carriage', M: 'multiply', D: 'divide', MCM: 'move a record', MA: 'modify an address',
+    CU: 'control a tape unit',
     BBE: 'branch if bits are equal', SRF: 'start the read feed', SPF: 'start the punch feed',
   },
   legendRead: 'card read 001-080', legendPunch: 'card punched 101-180', legendPrint: 'line printed 201-332',
@@ -188,6 +189,7 @@ LANGUAGES.en = {
     OVERLAP: 'The fields of the instruction at I share places.',
     CARRIAGE: 'A skip to a channel without a hole in the carriage tape: it has 1, 9 and 12.',
     DCHAR: 'The last character of the instruction at I asks for nothing that it can do.',
+    TAPE: 'The tape unit that the instruction at I names has no reel.',
   },
   replies: {
     'REFUSED 1': 'That place isn\'t in core.',

@@ -46,6 +46,7 @@ LANGUAGES.de = {
     SS: 'Ablage wählen', R: 'Karte lesen', W: 'Zeile drucken', WM: 'Wortmarken drucken', P: 'Karte stanzen',
     WR: 'drucken und lesen', RP: 'lesen und stanzen', WP: 'drucken und stanzen', WRP: 'drucken, lesen und stanzen',
     CC: 'Vorschub steuern', M: 'multiplizieren', D: 'dividieren', MCM: 'Satz übertragen', MA: 'Adresse ändern',
+    CU: 'Bandeinheit steuern',
     BBE: 'springen, wenn Bits gleich sind', SRF: 'Lesevorschub anstoßen', SPF: 'Stanzvorschub anstoßen',
   },
   legendRead: 'gelesene Karte 001-080', legendPunch: 'gestanzte Karte 101-180', legendPrint: 'Druckzeile 201-332',
@@ -199,6 +200,7 @@ LANGUAGES.de = {
     OVERLAP: 'Die Felder des Befehls bei I teilen sich Stellen.',
     CARRIAGE: 'Ein Sprung zu einem Kanal ohne Loch im Vorschubstreifen: er hat 1, 9 und 12.',
     DCHAR: 'Das letzte Zeichen des Befehls bei I verlangt nichts, was er kann.',
+    TAPE: 'Die Bandeinheit, die der Befehl bei I nennt, hat kein Band.',
   },
   replies: {
     'REFUSED 1': 'Diese Stelle gibt es nicht.',

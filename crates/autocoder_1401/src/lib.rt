@@ -16,6 +16,7 @@
 
 pub mod assembly; // the passes, in their order
 pub mod tables; // an assembly with its symbol table and its cross-reference
+pub mod packed; // an image in few bytes
 pub mod program; // an image with the rows of its listing and its symbols
 pub mod placing_line; // the line that placed cells
 pub mod listed; // the listing, ready to be written
@@ -29,6 +30,9 @@ pub mod fault_texts; // faults as editors read them
 pub use all_faults::faults;
 pub use assembly::{Assembly, assemble, assemble_image, assemble_in};
 pub use autocoder_diagnostics::explanation::{Cause, Explanation};
+pub use autocoder_image::packed_image::PackedImage;
+pub use autocoder_image::ready_image::{ReadyImage, write_packed};
+pub use autocoder_image::segments_left::SegmentsLeft;
 pub use autocoder_listing::listing::{Listing, ListingLine};
 pub use autocoder_listing::rows::{Row, Rows};
 pub use autocoder_listing::symbol_table::Symbol;
@@ -42,7 +46,8 @@ pub use machine_image::{
     Image, ImageFault, LentImage, Segment, Segments, lend_image, read_image, write_image,
 };
 pub use messages::warning_lines;
+pub use packed::assemble_packed;
 pub use placing_line::line_placing;
 pub use program::{AssemblyProgram, assemble_program};
 pub use tables::{AssemblyTables, assemble_with_tables};
-pub use warning::{Asked, Warning, WarningKind, asked_warnings, warnings};
+pub use warning::{Warning, WarningKind, lost_warnings, warnings};

@@ -19,19 +19,18 @@ ghost use Rattle.autocoder_1401.specs.Languages.{AgreesWithPlain};
 ghost use Rattle.autocoder_1401.specs.declared.program.AssemblyProgram.{AssemblyProgram as Made};
 
 use autocoder_faults::FaultlessLines;
-use autocoder_image::make_image;
+use autocoder_image::{PackedImage, pack_image};
 use autocoder_listing::{Rows, Symbol, make_rows, make_symbols};
 use autocoder_placing::{Placing, place_all};
 use autocoder_statements::Language;
 use autocoder_symbols::{AsmFault, Chains, Lines, SourceHashing};
-use machine_image::Image;
 use std::alloc::Global;
 
 /// The image of a source, the rows of its listing that have an address, and its symbols.
 #[derive(Debug, Drop)]
 pub struct AssemblyProgram {
-    /// The core image.
-    pub image: Image,
+    /// The core image, in few bytes for each of the source's, however many cells its lines place.
+    pub image: PackedImage,
     /// The rows.
     pub rows: Rows,
     /// The labels, each with its address, in the order of the lines that declare them.
@@ -54,7 +53,7 @@ fn make_assembly_program(
     ensures outside { IfErr result (λ fault. IsMemory fault
         ⊎ ((first_outside size lines.now ≡ Some fault) × IsFirstOutside size lines.now fault)) }
 {
-    let image = make_image(alloc, all, lines, size)?;
+    let image = pack_image(alloc, all, lines, size)?;
     let rows = make_rows(alloc, all, lines)?;
     let symbols = make_symbols(alloc, all, lines)?;
     Ok(AssemblyProgram {

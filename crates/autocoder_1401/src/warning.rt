@@ -9,7 +9,7 @@ ghost use Rattle.autocoder_1401.specs.Languages.{AgreesWithPlain};
 use autocoder_statements::Language;
 use autocoder_symbols::AsmFault;
 use autocoder_warnings::source_warnings;
-pub use autocoder_warnings::{Asked, Warning, WarningKind, asked_warnings};
+pub use autocoder_warnings::{Warning, WarningKind, lost_warnings};
 use machine_panel::Features;
 use std::alloc::Global;
 

@@ -2,9 +2,10 @@
 use Rattle.std.specs.Prelude.{◌≡◌, ⊤, ℕ, zero, suc, ◌==◌, nat_le, Bool, true, false, not, ◌&&◌, if◌then◌else◌, List}
 use Rattle.std.specs.Prelude.{length, replicate, slice_set, Result, Ok, Err}
 use Rattle.core_1401.specs.Storage.{is_in_core}
-use Rattle.cpu_1401.specs.CardsAndPrinter.{load}
 use Rattle.cpu_1401.specs.State.{State}
-use Rattle.job_runner.specs.Unattended.{unattended}
+use Rattle.machine_tapes.specs.TapedStep.{without_reels}
+use Rattle.machine_tapes.specs.declared.taped_machine.TapedMachine.{TapedMachine}
+use Rattle.job_runner.specs.Unattended.{taped_load, unattended}
 use Rattle.machine_panel.specs.declared.stop.Stop.{Stop}
 use Rattle.machine_panel.specs.declared.stop.Stop.TheVariants as stop
 use Rattle.autocoder_deck.specs.Contents.{card_places}
@@ -34,7 +35,7 @@ cards_held s = length s.devices.hopper
 
 -- a machine at the entry of its program, and what was carried out of the last card's places
 pub record AtEntry : Type 0 where
-  pub state : State
+  pub state : TapedMachine
   pub carried : List Bool
 
 -- why there is no entry: the machine stopped before
@@ -42,35 +43,41 @@ abbrev pub stopped : Stop → State → LoadFault
 stopped why s = fault.Stopped why s.i
 
 -- an instruction that doesn't stop the machine, and those after it
-abbrev pub load_on : Stop → State → State → List Bool → (List Bool → State → Result AtEntry LoadFault)
+abbrev pub load_on : Stop → TapedMachine → TapedMachine → List Bool → (List Bool → TapedMachine → Result AtEntry LoadFault)
     → Result AtEntry LoadFault
-load_on stop.Limit before s carried more =
-    more (carried_after (not (cards_held s == cards_held before)) before.i carried) s
-load_on stop.Halt before s carried more = Err (stopped stop.Halt s)
-load_on stop.Reader before s carried more = Err (stopped stop.Reader s)
-load_on stop.Forms before s carried more = Err (stopped stop.Forms s)
-load_on stop.Stacker before s carried more = Err (stopped stop.Stacker s)
-load_on stop.NoMark before s carried more = Err (stopped stop.NoMark s)
-load_on stop.OpCode before s carried more = Err (stopped stop.OpCode s)
-load_on stop.Length before s carried more = Err (stopped stop.Length s)
-load_on stop.Address before s carried more = Err (stopped stop.Address s)
-load_on stop.Overlap before s carried more = Err (stopped stop.Overlap s)
-load_on stop.Carriage before s carried more = Err (stopped stop.Carriage s)
-load_on stop.NotFitted before s carried more = Err (stopped stop.NotFitted s)
-load_on stop.DChar before s carried more = Err (stopped stop.DChar s)
+load_on stop.Limit before t carried more =
+    more (carried_after (not (cards_held t.machine == cards_held before.machine)) before.machine.i carried) t
+load_on stop.Halt before t carried more = Err (stopped stop.Halt t.machine)
+load_on stop.Reader before t carried more = Err (stopped stop.Reader t.machine)
+load_on stop.Forms before t carried more = Err (stopped stop.Forms t.machine)
+load_on stop.Stacker before t carried more = Err (stopped stop.Stacker t.machine)
+load_on stop.NoMark before t carried more = Err (stopped stop.NoMark t.machine)
+load_on stop.OpCode before t carried more = Err (stopped stop.OpCode t.machine)
+load_on stop.Length before t carried more = Err (stopped stop.Length t.machine)
+load_on stop.Address before t carried more = Err (stopped stop.Address t.machine)
+load_on stop.Overlap before t carried more = Err (stopped stop.Overlap t.machine)
+load_on stop.Carriage before t carried more = Err (stopped stop.Carriage t.machine)
+load_on stop.NotFitted before t carried more = Err (stopped stop.NotFitted t.machine)
+load_on stop.DChar before t carried more = Err (stopped stop.DChar t.machine)
+load_on stop.Tape before t carried more = Err (stopped stop.Tape t.machine)
 
 -- one instruction after the other until the next is the program's first, this many at most
-unfoldable pub until_entry : ℕ → List Bool → State → Result AtEntry LoadFault
-until_entry zero carried s =
-    if is_at_entry s then Ok (record { state = s; carried = carried }) else Err (stopped stop.Limit s)
-until_entry (suc limit) carried s =
-    if is_at_entry s then Ok (record { state = s; carried = carried })
-    else load_on (unattended 1 s).stop s (unattended 1 s).state carried (until_entry limit)
+unfoldable pub until_entry : ℕ → List Bool → TapedMachine → Result AtEntry LoadFault
+until_entry zero carried t =
+    if is_at_entry t.machine then Ok (record { state = t; carried = carried }) else Err (stopped stop.Limit t.machine)
+until_entry (suc limit) carried t =
+    if is_at_entry t.machine then Ok (record { state = t; carried = carried })
+    else load_on (unattended 1 t).stop t (unattended 1 t).state carried (until_entry limit)
 
 -- the load key is pressed, and the deck loads itself until its program begins; without a card nothing is done
+abbrev pub loaded_with : ℕ → TapedMachine → Result AtEntry LoadFault
+loaded_with limit t =
+    if length t.machine.devices.hopper == 0 then Err (stopped stop.Reader t.machine)
+    else until_entry limit none_carried (taped_load t)
+
+-- the same on a machine whose units have no reels
 abbrev pub loaded_deck : ℕ → State → Result AtEntry LoadFault
-loaded_deck limit s =
-    if length s.devices.hopper == 0 then Err (stopped stop.Reader s) else until_entry limit none_carried (load s)
+loaded_deck limit s = loaded_with limit (without_reels s)
 
 -- why a deck isn't loaded: its machine stops so, or memory is refused
 abbrev pub IsWhyUnloaded : Result AtEntry LoadFault → LoadFault → Type 0

@@ -49,4 +49,4 @@ pub record IsCoreImage (s : State) (image : Image) : Type 0 where
 -- what a deck has loaded: the image of core storage at the entry, and what was carried out of the last card's places
 abbrev pub IsLoadedDeck : Result AtEntry LoadFault → LoadedDeck → Type 0
 IsLoadedDeck outcome loaded =
-    (at : AtEntry) × (outcome ≡ Ok at) × IsCoreImage at.state loaded.image × (loaded.carried ≡ at.carried)
+    (at : AtEntry) × (outcome ≡ Ok at) × IsCoreImage at.state.machine loaded.image × (loaded.carried ≡ at.carried)

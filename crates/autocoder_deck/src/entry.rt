@@ -1,13 +1,14 @@
 //! A deck of unknown making, taken by the load key up to the entry of its program.
 ghost use Rattle.std.specs.Prelude.{◌≡◌, ◌<◌, true, Ok, length, IfOk, IfErr, OnOk};
-ghost use Rattle.job_runner.specs.Unattended.{with_deck};
+ghost use Rattle.job_runner.specs.Unattended.{taped_with_deck, with_deck};
 ghost use Rattle.autocoder_deck.specs.Contents.{card_places};
 ghost use Rattle.autocoder_deck.specs.Entry.{IsWhyUnloaded, cards_held, carried_after, is_at_entry, is_card_place};
-ghost use Rattle.autocoder_deck.specs.Entry.{loaded_deck, none_carried, until_entry};
+ghost use Rattle.autocoder_deck.specs.Entry.{loaded_with, none_carried, until_entry};
 
 use crate::contents::CARD_PLACES;
 use cpu_1401::{Machine, Stop};
 use job_runner::{Collected, Deck, press_load_key, run_job};
+use machine_tapes::TapedMachine;
 use std::alloc::Global;
 use thiserror::Error;
 
@@ -74,39 +75,39 @@ fn stopped(why: Stop, machine: &Machine) -> LoadFault
 #[tactic(auto, using(crate::proofs::EntryLemmas::one_step, crate::proofs::EntryLemmas::no_step, crate::proofs::EntryLemmas::stops_there, crate::proofs::EntryLemmas::is_there))]
 fn until_entry<'d>(
     alloc: Global,
-    machine: &mut Machine,
+    taped: &mut TapedMachine,
     deck: &mut Deck<'d>,
     limit: u32,
 ) -> Result<CarriedOut, LoadFault>
-    ensures ok { IfOk result (λ carried. until_entry limit none_carried (with_deck deck.old machine.old)
-        ≡ Ok (record { state = with_deck deck.new machine.new; carried = carried })) }
-    ensures entry { OnOk result (machine.new.i < length machine.new.storage) }
+    ensures ok { IfOk result (λ carried. until_entry limit none_carried (taped_with_deck deck.old taped.old)
+        ≡ Ok (record { state = taped_with_deck deck.new taped.new; carried = carried })) }
+    ensures entry { OnOk result (taped.new.machine.i < length taped.new.machine.storage) }
     ensures err { IfErr result
-        (IsWhyUnloaded (until_entry limit none_carried (with_deck deck.old machine.old))) }
+        (IsWhyUnloaded (until_entry limit none_carried (taped_with_deck deck.old taped.old))) }
 {
     let mut carried = [false; CARD_PLACES];
     let mut left = limit;
     while left > 0 {
-        if is_at_entry(machine) {
+        if is_at_entry(&taped.machine) {
             return Ok(carried);
         }
-        let at = machine.regs().i;
-        let held = cards_held(machine, deck);
+        let at = taped.machine.regs().i;
+        let held = cards_held(&taped.machine, deck);
         let mut output = Collected::new(alloc);
-        let Ok(end) = run_job(machine, deck, 1, &mut output) else {
+        let Ok(end) = run_job(taped, deck, 1, &mut output) else {
             return Err(LoadFault::Memory);
         };
         match end.stop {
             Stop::Limit => {}
-            why => return Err(stopped(why, machine)),
+            why => return Err(stopped(why, &taped.machine)),
         }
-        note_carried(&mut carried, cards_held(machine, deck) != held, at);
+        note_carried(&mut carried, cards_held(&taped.machine, deck) != held, at);
         left -= 1;
     }
-    if is_at_entry(machine) {
+    if is_at_entry(&taped.machine) {
         Ok(carried)
     } else {
-        Err(stopped(Stop::Limit, machine))
+        Err(stopped(Stop::Limit, &taped.machine))
     }
 }
 
@@ -119,18 +120,18 @@ fn until_entry<'d>(
 /// `Stopped` if the machine stops before, has no card, or is still loading after this many instructions; or `Memory`.
 pub fn load_deck<'d>(
     alloc: Global,
-    machine: &mut Machine,
+    taped: &mut TapedMachine,
     deck: &mut Deck<'d>,
     limit: u32,
 ) -> Result<CarriedOut, LoadFault>
-    ensures ok { IfOk result (λ carried. loaded_deck limit (with_deck deck.old machine.old)
-        ≡ Ok (record { state = with_deck deck.new machine.new; carried = carried })) }
-    ensures entry { OnOk result (machine.new.i < length machine.new.storage) }
-    ensures err { IfErr result (IsWhyUnloaded (loaded_deck limit (with_deck deck.old machine.old))) }
+    ensures ok { IfOk result (λ carried. loaded_with limit (taped_with_deck deck.old taped.old)
+        ≡ Ok (record { state = taped_with_deck deck.new taped.new; carried = carried })) }
+    ensures entry { OnOk result (taped.new.machine.i < length taped.new.machine.storage) }
+    ensures err { IfErr result (IsWhyUnloaded (loaded_with limit (taped_with_deck deck.old taped.old))) }
 {
-    match press_load_key(machine, deck) {
-        Ok(true) => until_entry(alloc, machine, deck, limit),
-        Ok(false) => Err(stopped(Stop::Reader, machine)),
+    match press_load_key(&mut taped.machine, deck) {
+        Ok(true) => until_entry(alloc, taped, deck, limit),
+        Ok(false) => Err(stopped(Stop::Reader, &taped.machine)),
         Err(_) => Err(LoadFault::Memory),
     }
 }

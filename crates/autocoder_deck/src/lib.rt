@@ -2,7 +2,7 @@
 //!
 //! ```text
 //! write_deck(alloc, &image)?    // the text of the deck, a card a line
-//! loaded_image(alloc, &mut machine, &cards, LOADING_STEPS)?    // any deck's core storage at its program's entry
+//! loaded_image(alloc, machine, &cards, LOADING_STEPS)?    // any deck's core storage at its program's entry
 //! ```
 //!
 //! The first card clears storage from its end down to place 100. The second clears the rest above the card, and sets

@@ -12,6 +12,7 @@ use core_1401::{Cells, Core};
 use cpu_1401::Machine;
 use job_runner::{CardList, Deck};
 use machine_image::{Image, Segment, Segments};
+use machine_tapes::TapedMachine;
 use std::alloc::{AllocError, Global};
 
 /// How many cells a segment has after its first.
@@ -140,7 +141,7 @@ pub struct LoadedDeck {
     pub carried: CarriedOut,
 }
 
-/// Has a machine take these cards by the load key up to the entry of their program, and gives the image of core storage
+/// Has a machine without reels take these cards by the load key up to the entry of their program, and gives the image of core storage
 /// there.
 ///
 /// # Errors
@@ -148,16 +149,19 @@ pub struct LoadedDeck {
 /// `Stopped` if the machine stops before, has no card, or is still loading after this many instructions; or `Memory`.
 pub fn loaded_image(
     alloc: Global,
-    machine: &mut Machine,
+    machine: Machine,
     cards: &CardList,
     limit: u32,
 ) -> Result<LoadedDeck, LoadFault>
-    ensures ok { IfOk result (IsLoadedDeck (loaded_deck limit (with_deck cards.now machine.old))) }
-    ensures err { IfErr result (IsWhyUnloaded (loaded_deck limit (with_deck cards.now machine.old))) }
+    ensures ok { IfOk result (IsLoadedDeck (loaded_deck limit (with_deck cards.now machine))) }
+    ensures err { IfErr result (IsWhyUnloaded (loaded_deck limit (with_deck cards.now machine))) }
 {
+    let Ok(mut taped) = TapedMachine::without_reels(alloc, machine) else {
+        return Err(LoadFault::Memory);
+    };
     let mut deck = Deck::new(cards);
-    let carried = load_deck(alloc, machine, &mut deck, limit)?;
-    match core_image(alloc, machine) {
+    let carried = load_deck(alloc, &mut taped, &mut deck, limit)?;
+    match core_image(alloc, &taped.machine) {
         Ok(image) => Ok(LoadedDeck { image, carried }),
         Err(_) => Err(LoadFault::Memory),
     }

@@ -1,0 +1,3 @@
+mod PackedLemmas
+mod PagesLemmas
+mod SegmentLemmas

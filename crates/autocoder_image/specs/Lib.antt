@@ -1,0 +1,4 @@
+pub mod Left
+pub mod Packed
+pub mod Pages
+pub mod ReadyImage

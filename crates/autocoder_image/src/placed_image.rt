@@ -1,39 +1,43 @@
 //! The image of lines, once all is placed.
 ghost use Rattle.std.specs.Prelude.{◌≡◌, ◌<◌, ◌^◌, ◌⊎◌, length, None, Some, IfOk, IfErr, OnOk};
 ghost use Rattle.autocoder_symbols.specs.Fault.{IsMemory};
+ghost use Rattle.autocoder_placing.specs.Laws.{IsFirstOutside};
+ghost use Rattle.autocoder_placing.specs.PlacedImage.{image_of};
 ghost use Rattle.autocoder_placing.specs.Placement.{placed};
 ghost use Rattle.autocoder_placing.specs.Values.{first_outside};
-ghost use Rattle.autocoder_placing.specs.PlacedImage.{entry_in, image_of};
-ghost use Rattle.autocoder_placing.specs.Laws.{IsFirstOutside};
 ghost use Rattle.autocoder_placing.specs.View.{places_of};
 
-use crate::source_segments::make_segments;
-use autocoder_placing::{Placing, address_or_zero};
-use autocoder_statements::{Addressing, Statement};
+use crate::packed_image::{PackedImage, pack_image};
+use autocoder_placing::Placing;
 use autocoder_symbols::{AsmFault, Lines};
-use machine_image::{Image, Segments};
+use machine_image::{Image, Segment, Segments};
 use std::alloc::Global;
 
-/// Where the first END lets the program begin.
-fn entry(all: &Placing<'_>, lines: &Lines<'_>) -> Result<i64, AsmFault>
-    ensures value { IfOk result (λ value. value ≡ entry_in (places_of all.now) lines.now) }
+/// The segments of a packed image.
+fn kept_segments(alloc: Global, packed: &PackedImage) -> Result<Vec<Segment>, AsmFault>
+    ensures ok { IfOk result (λ segments. segments.items ≡ packed.now.segments) }
     ensures err { IfErr result IsMemory }
 {
-    for i in 0..lines.len() {
-        let line = lines.line(i);
-        let Some(Statement { body, .. }) = line.statement else {
-            continue;
-        };
-        match body.describe().addressing {
-            Addressing::Entry(operands) => return all.entry_value(operands.a),
-            Addressing::Nothing
-            | Addressing::Addresses(_)
-            | Addressing::EarlierValue(_)
-            | Addressing::Equal(_)
-            | Addressing::Value(_) => {},
-        }
+    let mut segments = Vec::new(alloc);
+    let mut rest = packed.segments();
+    while let Some((segment, beyond)) = rest.split_first() {
+        segments.push(segment)?;
+        rest = beyond;
     }
-    Ok(0)
+    Ok(segments)
+}
+
+/// A packed image with its segments.
+fn kept(alloc: Global, packed: &PackedImage) -> Result<Image, AsmFault>
+    ensures ok { IfOk result (λ image. image ≡ packed.now) }
+    ensures err { IfErr result IsMemory }
+{
+    let segments = kept_segments(alloc, packed)?;
+    Ok(Image {
+        size: packed.size(),
+        segments: Segments::from_vec(segments),
+        start: packed.start(),
+    })
 }
 
 /// The image of lines, once all is placed.
@@ -54,11 +58,7 @@ pub fn make_image(
     ensures outside { IfErr result (λ fault. IsMemory fault
         ⊎ ((first_outside size lines.now ≡ Some fault) × IsFirstOutside size lines.now fault)) }
 {
-    let start = address_or_zero(entry(all, lines)?);
-    let segments = make_segments(alloc, all, size, lines)?;
-    Ok(Image {
-        size,
-        segments: Segments::from_vec(segments),
-        start,
-    })
+    let packed = pack_image(alloc, all, lines, size)?;
+    let image = kept(alloc, &packed)?;
+    Ok(image)
 }

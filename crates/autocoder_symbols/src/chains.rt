@@ -88,7 +88,7 @@ fn twice(alloc: Global, links: &[Link]) -> Result<Vec<Link>, AsmFault>
     ensures links { IfOk result (λ further. further.items ≡ twice links.now) }
     ensures err { IfErr result IsMemory }
 {
-    let mut further = Vec::new(alloc);
+    let mut further = Vec::with_capacity(alloc, links.len())?;
     for link in links {
         let onward = link.onward(links)?;
         further.push(onward)?;
@@ -261,7 +261,7 @@ impl Chains {
             (λ links. links.items ≡ map (joined (chains_view self.now).labels) (chains_view self.now).links) }
         ensures err { IfErr result IsMemory }
     {
-        let mut links = Vec::new(alloc);
+        let mut links = Vec::with_capacity(alloc, self.links.len())?;
         for link in &self.links {
             let next = link_named(&self.labels, link.to)?;
             links.push(Link { next, ..*link })?;

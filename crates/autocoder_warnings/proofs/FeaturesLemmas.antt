@@ -46,9 +46,10 @@ none_has feature.ModifyAddress = refl
 none_has feature.BitTest = refl
 none_has feature.Lengths = refl
 none_has feature.ReadPunchRelease = refl
+none_has feature.Tapes = refl
 
 -- so no row claims an instruction
-nothing_claimed : (graphic len : ℕ) (rows : List FittedRow) → find (claims no_features graphic len) rows ≡ None
+pub nothing_claimed : (graphic len : ℕ) (rows : List FittedRow) → find (claims no_features graphic len) rows ≡ None
 nothing_claimed graphic len [] = refl
 nothing_claimed graphic len (row ∷ rows) =
     ap (λ (b : Bool). cond b (Some row) (find (claims no_features graphic len) rows))
@@ -80,6 +81,9 @@ always_operation features fitted.Multiply e = refl
 always_operation features fitted.Divide e = refl
 always_operation features fitted.MoveRecord e = refl
 always_operation features fitted.ModifyAddress e = refl
+always_operation features fitted.MoveTape e = refl
+always_operation features fitted.LoadTape e = refl
+always_operation features fitted.ControlTape e = refl
 always_operation features fitted.NoLength e = absurd (true≢false (sym e))
 
 -- a row that refuses instructions is of an operation that no machine has without features

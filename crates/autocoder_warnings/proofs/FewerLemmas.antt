@@ -1,14 +1,14 @@
 -- Features add no warning: each that there is on a machine with features is one on a machine without.
 use Rattle.std.proofs.Common.{◌≡◌, ℕ, ◌+◌, ◌==◌, Bool, true, false, not, ◌&&◌, ◌||◌, List, [], ◌∷◌, ◌++◌, Option}
-use Rattle.std.proofs.Common.{None, Some, refl, sym, ◌∙◌, inl, inr, subst}
-use Rattle.std.proofs.lemmas.Bool.{and_parts, or_cases, true≢false}
+use Rattle.std.proofs.Common.{None, Some, refl, sym, ◌∙◌, ap, cond, inl, inr, subst}
+use Rattle.std.proofs.lemmas.Bool.{and_parts, and_right, or_cases, true≢false}
 use Rattle.std.proofs.lemmas.List.Elements.{All-append, All-contains_itself, All-nil, All-weaker}
 use Rattle.std.proofs.lemmas.List.Elements.{Contains-append_left, Contains-append_right}
-use Rattle.std.specs.Prelude.{All, Contains}
-use Rattle.std.specs.Option.{option_map_or}
+use Rattle.std.specs.Prelude.{All, Contains, codes}
+use Rattle.std.specs.Option.{option_map, option_map_or}
 use Rattle.std.specs.Str.{byte}
 use Rattle.bcd_1401.specs.declared.cell.Cell.{Cell}
-use Rattle.machine_operations.specs.Fitted.{is_fitted_with}
+use Rattle.machine_operations.specs.Fitted.{FittedRow, fitted_rows, is_fitted_with, is_for_tape}
 use Rattle.machine_panel.specs.Features.{no_features}
 use Rattle.machine_panel.specs.declared.features.Features.{Features}
 use Rattle.autocoder_statements.specs.Description.{describe}
@@ -18,7 +18,9 @@ use Rattle.autocoder_statements.specs.Statement.{well_formed}
 use Rattle.autocoder_statements.specs.declared.description.Contents.{Contents}
 use Rattle.autocoder_statements.specs.declared.description.Contents.TheVariants as contents
 use Rattle.autocoder_statements.specs.declared.label.Label.{Label}
+use Rattle.autocoder_statements.specs.declared.mnemonic.Instruction.{Instruction}
 use Rattle.autocoder_statements.specs.declared.operands.OperandField.{OperandField}
+use Rattle.autocoder_statements.specs.declared.operands.Operands.{Operands}
 use Rattle.autocoder_statements.specs.declared.statement.Line.{Line}
 use Rattle.autocoder_statements.specs.declared.statement.Statement.{Statement}
 use Rattle.autocoder_diagnostics.specs.Notes.{Known, known_in}
@@ -29,6 +31,7 @@ use Rattle.autocoder_warnings.specs.Loss.{losses_of}
 use Rattle.autocoder_warnings.specs.Overlap.{overlaps_of}
 use Rattle.autocoder_warnings.specs.Warnings.{all_warnings, are_unlike, branches_unset, card_lost, compares_unlike}
 use Rattle.autocoder_warnings.specs.Warnings.{facts_of, is_not_fitted, is_of_areas, is_signed_literal, is_unset}
+use Rattle.autocoder_warnings.specs.Warnings.{is_condition, is_idle, is_one_of, is_tape, takes_tape}
 use Rattle.autocoder_warnings.specs.Warnings.{is_unused, line_warnings, lone_symbol, loss_warned, never_branches}
 use Rattle.autocoder_warnings.specs.Warnings.{own_warnings, place_warnings, starts_nothing, statement_warnings}
 use Rattle.autocoder_warnings.specs.Warnings.{stays_unsigned, tests_comparison, warned_if, warnings_from, warnings_with}
@@ -38,7 +41,7 @@ use Rattle.autocoder_warnings.specs.declared.warning.LineFacts.{LineFacts}
 use Rattle.autocoder_warnings.specs.declared.warning.Warning.{Warning}
 use Rattle.autocoder_warnings.specs.declared.warning.WarningKind.{WarningKind}
 use Rattle.autocoder_warnings.specs.declared.warning.WarningKind.TheVariants as kinds
-use Rattle.autocoder_warnings.proofs.FeaturesLemmas.{plain_fitted, stays_fitted}
+use Rattle.autocoder_warnings.proofs.FeaturesLemmas.{nothing_claimed, plain_fitted, stays_fitted}
 
 -- tests that imply others
 abbrev Implies : Bool → Bool → Type 0
@@ -157,13 +160,33 @@ unfitted_at features graphic len =
     opposite (is_fitted_with no_features graphic len) (is_fitted_with features graphic len)
     (λ e. stays_fitted features graphic len (sym (plain_fitted graphic len) ∙ e))
 
+-- nothing is for a tape unit without features
+nothing_for_tape : (instruction : Instruction) (of : Operands) → takes_tape no_features instruction of ≡ false
+nothing_for_tape instruction of =
+    ap (λ (found : Option FittedRow). is_tape of.a
+    && option_map_or is_for_tape (option_map (λ (row : FittedRow). row.3) found) false)
+    (nothing_claimed instruction.operation (instruction_length of) fitted_rows)
+    ∙ and_right (is_tape of.a) false refl
+
+-- a unit that no feature takes isn't taken without them
+still_unit : (features : Features) (instruction : Instruction) (of : Operands)
+    → Implies (is_unit of.a && not (takes_tape features instruction of))
+    (is_unit of.a && not (takes_tape no_features instruction of))
+still_unit features instruction of e =
+    let parts = and_parts (is_unit of.a) (not (takes_tape features instruction of)) e in
+    rw (parts.0, nothing_for_tape instruction of) refl
+
 not_fitted : (features : Features) (this : Contents)
     → Implies (is_not_fitted features this) (is_not_fitted no_features this)
 not_fitted features contents.Nothing e = e
 not_fitted features (contents.Instruction instruction of) e =
     let len = instruction_length of in
-    either (is_unit of.a || is_unit of.b) (not (is_fitted_with features instruction.operation len))
-    (is_unit of.a || is_unit of.b) (not (is_fitted_with no_features instruction.operation len)) (λ unit. unit)
+    let without : Bool = is_unit of.a && not (takes_tape no_features instruction of) in
+    either ((is_unit of.a && not (takes_tape features instruction of)) || is_unit of.b)
+    (not (is_fitted_with features instruction.operation len)) (without || is_unit of.b)
+    (not (is_fitted_with no_features instruction.operation len))
+    (λ unit. either (is_unit of.a && not (takes_tape features instruction of)) (is_unit of.b) without (is_unit of.b)
+    (λ first. still_unit features instruction of first) (λ second. second) unit)
     (unfitted_at features instruction.operation len) e
 not_fitted features (contents.MarkedConstant constant) e = e
 not_fitted features (contents.Constant constant) e = e
@@ -235,6 +258,46 @@ unlike known more knows (contents.Areas areas) e = e
 unlike known more knows (contents.Chain chain) e = e
 unlike known more knows (contents.AddressConstant constant) e = e
 
+-- a branch that never branches with features doesn't without them
+no_condition : (features : Features) (d : ℕ)
+    → Implies (not (is_condition features d)) (not (is_condition no_features d))
+no_condition features d =
+    opposite (is_condition no_features d) (is_condition features d)
+    (λ e. elim (or_cases (is_one_of (codes "/STUZABCDEFG9@") d) false e) [
+      | inl x ↦ or_left (is_one_of (codes "/STUZABCDEFG9@") d) (features.tapes && (d == byte "K")) x
+      | inr y ↦ absurd (true≢false (sym y))
+    ])
+
+idle_d : (features : Features) (operation : ℕ) (has_second : Bool) (d : ℕ)
+    → Implies (is_idle features operation has_second d) (is_idle no_features operation has_second d)
+idle_d features operation has_second d = by (operation == byte "V")
+  where
+    by : (is_v : Bool)
+        → Implies
+        (cond is_v (not (is_one_of (codes "12BKS3CLT") d))
+        ((operation == byte "B") && not has_second && not (is_condition features d)))
+        (cond is_v (not (is_one_of (codes "12BKS3CLT") d))
+        ((operation == byte "B") && not has_second && not (is_condition no_features d)))
+    by true e = e
+    by false e =
+        both ((operation == byte "B") && not has_second) (not (is_condition features d))
+        ((operation == byte "B") && not has_second) (not (is_condition no_features d)) (λ x. x)
+        (no_condition features d) e
+
+idle : (features : Features) (this : Contents)
+    → Implies (never_branches features this) (never_branches no_features this)
+idle features contents.Nothing e = e
+idle features (contents.Instruction instruction of) e =
+    optional (is_idle features instruction.operation (count_of of.b == 1))
+    (is_idle no_features instruction.operation (count_of of.b == 1)) of.d
+    (λ d. idle_d features instruction.operation (count_of of.b == 1) d) e
+idle features (contents.MarkedConstant constant) e = e
+idle features (contents.Constant constant) e = e
+idle features (contents.Space places) e = e
+idle features (contents.Areas areas) e = e
+idle features (contents.Chain chain) e = e
+idle features (contents.AddressConstant constant) e = e
+
 -- the warnings of a statement by what it says
 of_own : (features : Features) (known more : Known) → KnowsMore known more → (number : ℕ) (this : Statement)
     → AreAmong (own_warnings no_features known number this) (own_warnings features more number this)
@@ -252,7 +315,8 @@ of_own features known more knows number this =
           (unset known more knows row.contents),
       among_if (compares_unlike more row.contents) (compares_unlike known row.contents) number kinds.UnlikeSigns
           (unlike known more knows row.contents),
-      among_if (never_branches row.contents) (never_branches row.contents) number kinds.NeverBranches (λ e. e),
+      among_if (never_branches features row.contents) (never_branches no_features row.contents) number
+          kinds.NeverBranches (idle features row.contents),
       among_if (starts_nothing row.addressing) (starts_nothing row.addressing) number kinds.StartsNothing (λ e. e),
     )
 

@@ -88,7 +88,7 @@ by_own features known number this fitted =
           (λ same. cc),
       other_warning (branches_unset known row.contents) number kinds.UnsetIndicator (λ same. cc),
       other_warning (compares_unlike known row.contents) number kinds.UnlikeSigns (λ same. cc),
-      other_warning (never_branches row.contents) number kinds.NeverBranches (λ same. cc),
+      other_warning (never_branches features row.contents) number kinds.NeverBranches (λ same. cc),
       other_warning (starts_nothing row.addressing) number kinds.StartsNothing (λ same. cc),
     )
 

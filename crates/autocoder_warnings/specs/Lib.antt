@@ -1,4 +1,5 @@
 pub mod FittedNotes
 pub mod Loss
+pub mod Lost
 pub mod Overlap
 pub mod Warnings

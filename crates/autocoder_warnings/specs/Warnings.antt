@@ -1,13 +1,14 @@
 -- What a source without a fault says and hardly means (own).
 use Rattle.std.specs.Prelude.{◌≡◌, ◌≢◌, ℕ, ◌+◌, ◌==◌, Bool, true, false, not, ◌&&◌, ◌||◌, if◌then◌else◌, List, [], ◌∷◌}
-use Rattle.std.specs.Prelude.{◌++◌, codes, pos, nat_le, slice_get, All, Option, Some, None, unwrap_or}
+use Rattle.std.specs.Prelude.{◌++◌, codes, pos, nat_le, slice_get, slice_index, All, Option, Some, None, is_some, unwrap_or}
 use Rattle.std.specs.List.{list_any}
 use Rattle.std.specs.Option.{option_map_or, option_and_then}
 use Rattle.std.specs.Ordering.{int_eq}
 use Rattle.std.specs.Str.{byte}
 use Rattle.bcd_1401.specs.declared.cell.Cell.{Cell}
-use Rattle.machine_operations.specs.Fitted.{is_fitted_with}
+use Rattle.machine_operations.specs.Fitted.{fitted_in, is_fitted_with, is_for_tape}
 use Rattle.machine_operations.specs.Operation.{longest_at}
+use Rattle.machine_operations.specs.TapeUnit.{unit_named}
 use Rattle.machine_panel.specs.declared.features.Features.{Features}
 use Rattle.autocoder_statements.specs.Constant.{bytes_of, is_at_sign}
 use Rattle.autocoder_statements.specs.Description.{describe}
@@ -49,18 +50,33 @@ use Rattle.autocoder_warnings.specs.Overlap.{overlaps_of}
 use Rattle.autocoder_warnings.specs.declared.loss.Loss.{Loss}
 use Rattle.autocoder_warnings.specs.declared.loss.Loss.TheVariants as losses
 use Rattle.autocoder_warnings.specs.declared.overlap.Overlap.{Overlap}
-use Rattle.autocoder_warnings.specs.declared.warning.Asked.{Asked}
-use Rattle.autocoder_warnings.specs.declared.warning.Asked.TheVariants as asked
 use Rattle.autocoder_warnings.specs.declared.warning.LineFacts.{LineFacts}
 use Rattle.autocoder_warnings.specs.declared.warning.Warning.{Warning}
 use Rattle.autocoder_warnings.specs.declared.warning.WarningKind.{WarningKind}
 use Rattle.autocoder_warnings.specs.declared.warning.WarningKind.TheVariants as warnings
 
+-- whether an operand names a tape unit
+abbrev pub is_tape : OperandField → Bool
+is_tape fields.Absent = false
+is_tape fields.Malformed = false
+is_tape (fields.Operand (operands.Address address)) = false
+is_tape (fields.Operand (operands.Literal literal)) = false
+is_tape (fields.Operand (operands.Unit unit)) =
+    is_some (unit_named (slice_index unit.graphics 0) (slice_index unit.graphics 1) (slice_index unit.graphics 2))
+
+-- whether an instruction is one for the tape unit that it names, on a machine with these features
+abbrev pub takes_tape : Features → Instruction → Operands → Bool
+takes_tape features instruction of =
+    is_tape of.a
+    && option_map_or is_for_tape (fitted_in features instruction.operation (instruction_length of)) false
+
 -- an instruction that a machine with these features never carries out: one of an operation or a length that it hasn't
--- got, or one with a unit, which no machine has
+-- got, or one with a unit, but for tape units in instructions for them
 abbrev pub is_unfitted : Features → Instruction → Operands → Bool
 is_unfitted features instruction of =
-    is_unit of.a || is_unit of.b || not (is_fitted_with features instruction.operation (instruction_length of))
+    (is_unit of.a && not (takes_tape features instruction of))
+    || is_unit of.b
+    || not (is_fitted_with features instruction.operation (instruction_length of))
 
 -- a chain of instructions that can't be one character alone on such a machine
 abbrev pub is_unfitted_chain : Features → Chain → Bool
@@ -195,23 +211,27 @@ read_on storage address (contents.AddressConstant constant) = None
 abbrev pub is_one_of : List ℕ → ℕ → Bool
 is_one_of numbers number = list_any (λ each. each == number) numbers
 
+-- a d-character by which a branch of five characters may branch on a machine with these features: K asks a tape unit
+abbrev pub is_condition : Features → ℕ → Bool
+is_condition features d = is_one_of (codes "/STUZABCDEFG9@") d || (features.tapes && (d == byte "K"))
+
 -- a d-character with which a branch never branches: of five characters, and of V
-abbrev pub is_idle : ℕ → Bool → ℕ → Bool
-is_idle operation has_second d =
+abbrev pub is_idle : Features → ℕ → Bool → ℕ → Bool
+is_idle features operation has_second d =
     if operation == byte "V" then not (is_one_of (codes "12BKS3CLT") d)
-    else (operation == byte "B") && not has_second && not (is_one_of (codes "/STUZABCDEFG9@") d)
+    else (operation == byte "B") && not has_second && not (is_condition features d)
 
 -- a branch that its d-character never lets branch
-abbrev pub never_branches : Contents → Bool
-never_branches contents.Nothing = false
-never_branches (contents.Instruction instruction of) =
-    option_map_or (is_idle instruction.operation (count_of of.b == 1)) of.d false
-never_branches (contents.MarkedConstant constant) = false
-never_branches (contents.Constant constant) = false
-never_branches (contents.Space places) = false
-never_branches (contents.Areas areas) = false
-never_branches (contents.Chain chain) = false
-never_branches (contents.AddressConstant constant) = false
+abbrev pub never_branches : Features → Contents → Bool
+never_branches features contents.Nothing = false
+never_branches features (contents.Instruction instruction of) =
+    option_map_or (is_idle features instruction.operation (count_of of.b == 1)) of.d false
+never_branches features (contents.MarkedConstant constant) = false
+never_branches features (contents.Constant constant) = false
+never_branches features (contents.Space places) = false
+never_branches features (contents.Areas areas) = false
+never_branches features (contents.Chain chain) = false
+never_branches features (contents.AddressConstant constant) = false
 
 -- a place at which a phase may begin: neither place 0 nor an asterisk, which only have literals placed
 abbrev pub may_begin : Base → Bool
@@ -261,7 +281,7 @@ own_warnings features known number this =
     warnings.UnusedLabel
     ++ warned_if (branches_unset known (describe this.body).contents) number warnings.UnsetIndicator
     ++ warned_if (compares_unlike known (describe this.body).contents) number warnings.UnlikeSigns
-    ++ warned_if (never_branches (describe this.body).contents) number warnings.NeverBranches
+    ++ warned_if (never_branches features (describe this.body).contents) number warnings.NeverBranches
     ++ warned_if (starts_nothing (describe this.body).addressing) number warnings.StartsNothing
 
 -- a constant is a text with an at sign in it: it goes on to the last one of its line
@@ -290,13 +310,18 @@ loss_left is_whole (Some losses.Card) = Some losses.Card
 loss_left is_whole (Some losses.Text) = if is_whole then None else Some losses.Text
 loss_left is_whole (Some losses.Column73) = Some losses.Column73
 
--- the warnings of a statement by where it is and what its line has; a remark may have any text
+-- the warning of what a statement loses, whose line loses this; a remark may have any text
+abbrev pub cut_warned : ℕ → Option Loss → Statement → List Warning
+cut_warned number loss this =
+    if (describe this.body).is_remark then []
+    else loss_warned (loss_left (has_whole_text (describe this.body).contents) loss) number
+
+-- the warnings of a statement by where it is and what its line has
 abbrev pub place_warnings : List Cell → ℕ → LineFacts → Statement → List Warning
 place_warnings storage number facts this =
     warned_of (read_on storage facts.address (describe this.body).contents) number
     ++ overlap_warned facts.overlap number
-    ++ (if (describe this.body).is_remark then []
-    else loss_warned (loss_left (has_whole_text (describe this.body).contents) facts.loss) number)
+    ++ cut_warned number facts.loss this
 
 -- the warnings of a statement on the line of this number
 abbrev pub statement_warnings : Features → Known → List Cell → ℕ → LineFacts → Statement → List Warning
@@ -351,10 +376,8 @@ is_of_loss (warnings.ReadOn place) = false
 is_of_loss (warnings.Overlaps overlap) = false
 is_of_loss (warnings.Loses loss) = true
 
--- a warning is asked for
-abbrev pub is_asked : Asked → Warning → Bool
-is_asked asked.All warning = true
-is_asked asked.Lost warning = is_of_loss warning.kind
+abbrev pub is_lost : Warning → Bool
+is_lost warning = is_of_loss warning.kind
 
 -- a source whose lines have no fault in the plain language, whatever the size of core storage
 abbrev pub IsTakenPlain : List ℕ → Type 0

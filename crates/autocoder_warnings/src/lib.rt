@@ -2,7 +2,7 @@
 //!
 //! ```text
 //! source_warnings(alloc, language, source, 4_000, Features::NONE)?    // a line each, with what it is about
-//! asked_warnings(alloc, Asked::Lost, language, source, 4_000, Features::NONE)?    // those of what isn't read or started
+//! lost_warnings(alloc, language, source)?     // those of what isn't read or started
 //! ```
 //!
 //! What the lines say of labels is collected by `autocoder_diagnostics`, and core storage is filled with their cells by
@@ -16,4 +16,4 @@ pub mod warning; // what a source without a fault says and hardly means
 
 pub use loss::Loss;
 pub use overlap::Overlap;
-pub use warning::{Asked, Warning, WarningKind, asked_warnings, source_warnings};
+pub use warning::{Warning, WarningKind, lost_warnings, source_warnings};

@@ -1,9 +1,10 @@
 //! What a source without a fault says and hardly means.
 ghost use Rattle.std.specs.Prelude.{◌≡◌, ◌+◌, ◌<◌, ◌^◌, ◌++◌, [], length, replicate, take, All, Contains, IfOk, IfErr};
-ghost use Rattle.std.specs.Prelude.{OnOk};
+ghost use Rattle.std.specs.Prelude.{OnOk, ℕ};
 ghost use Rattle.std.specs.List.{filter};
 ghost use Rattle.machine_operations.specs.Operation.{longest_at};
 ghost use Rattle.machine_panel.specs.Features.{no_features};
+ghost use Rattle.machine_panel.specs.declared.features.Features.{Features};
 ghost use Rattle.autocoder_statements.specs.LoneAddress.{is_unit};
 ghost use Rattle.autocoder_statements.specs.SourceLine.{lines_of};
 ghost use Rattle.autocoder_statements.specs.Statement.{well_formed};
@@ -17,20 +18,22 @@ ghost use Rattle.autocoder_placing.specs.Cells.{address_or_zero};
 ghost use Rattle.autocoder_placing.specs.Filling.{addresses_from, filled, filled_by, filled_from};
 ghost use Rattle.autocoder_placing.specs.Placement.{instruction_length, placed, placed_after, unplaced};
 ghost use Rattle.autocoder_placing.specs.View.{places_of};
-ghost use Rattle.autocoder_warnings.specs.Warnings.{is_unfitted, is_unfitted_chain, is_not_fitted, is_unused};
+ghost use Rattle.autocoder_warnings.specs.Warnings.{is_tape, is_unfitted, is_unfitted_chain, is_not_fitted, is_unused};
+ghost use Rattle.autocoder_warnings.specs.Warnings.{takes_tape};
 ghost use Rattle.autocoder_warnings.specs.Warnings.{tests_comparison, is_unset, branches_unset, is_signed_literal};
 ghost use Rattle.autocoder_warnings.specs.Warnings.{lone_symbol, stays_unsigned, are_unlike, compares_unlike};
 ghost use Rattle.autocoder_warnings.specs.Warnings.{fifth_before};
-ghost use Rattle.autocoder_warnings.specs.Warnings.{ends, open_place, chain_read_on, read_on, warned_if, warned_of};
+ghost use Rattle.autocoder_warnings.specs.Warnings.{cut_warned, ends, open_place, chain_read_on, read_on, warned_if, warned_of};
 ghost use Rattle.autocoder_warnings.specs.Warnings.{card_lost, facts_of, line_warnings, warnings_from, all_warnings};
-ghost use Rattle.autocoder_warnings.specs.Warnings.{is_of_areas, is_idle, is_one_of, never_branches};
+ghost use Rattle.autocoder_warnings.specs.Warnings.{is_condition, is_of_areas, is_idle, is_one_of, never_branches};
 ghost use Rattle.autocoder_warnings.specs.Warnings.{may_begin, names_phase, starts_nothing};
 ghost use Rattle.autocoder_warnings.specs.Warnings.{has_whole_text, holds_at_sign, loss_left};
 ghost use Rattle.autocoder_warnings.specs.Warnings.{overlap_warned, loss_warned, own_warnings, place_warnings};
 ghost use Rattle.autocoder_warnings.specs.FittedNotes.{known_with};
 ghost use Rattle.autocoder_warnings.specs.Loss.{loss_of, losses_of};
 ghost use Rattle.autocoder_warnings.specs.Overlap.{first_overlap, overlaps_from, with_filler};
-ghost use Rattle.autocoder_warnings.specs.Warnings.{is_asked, PlainIsCarriedOut};
+ghost use Rattle.autocoder_warnings.specs.Warnings.{PlainIsCarriedOut, is_lost};
+ghost use Rattle.autocoder_warnings.specs.Lost.{lost_from, lost_with};
 
 use crate::fitted_notes::notes_with;
 use crate::loss::{Loss, has_at_sign, loss_of};
@@ -43,7 +46,7 @@ use autocoder_statements::{
 };
 use autocoder_symbols::{AsmFault, Chains, Lines, SourceHashing, declared, read_lines};
 use bcd_1401::{Cell, Char};
-use machine_operations::{is_fitted_with, longest_at};
+use machine_operations::{fitted_in, is_fitted_with, longest_at, tape_unit_named};
 use machine_panel::Features;
 use std::alloc::Global;
 
@@ -82,48 +85,6 @@ pub struct Warning {
     pub kind: WarningKind,
 }
 
-/// Which warnings are asked for.
-#[derive(Clone, Copy, Debug, PartialEq, Eq)]
-pub enum Asked {
-    /// All.
-    All,
-    /// Those of what isn't read and of what isn't started: it looks as if the program were another one.
-    Lost,
-}
-
-/// Whether a warning is asked for.
-fn is_asked(asked: Asked, warning: Warning) -> bool
-    ensures { result ≡ is_asked asked warning }
-{
-    match (asked, warning.kind) {
-        (Asked::All, _) => true,
-        (Asked::Lost, WarningKind::StartsNothing | WarningKind::Loses(_)) => true,
-        (
-            Asked::Lost,
-            WarningKind::NotFitted
-            | WarningKind::UnusedLabel
-            | WarningKind::UnsetIndicator
-            | WarningKind::UnlikeSigns
-            | WarningKind::NeverBranches
-            | WarningKind::ReadOn(_)
-            | WarningKind::Overlaps(_),
-        ) => false,
-    }
-}
-
-/// Adds those of some warnings that are asked for.
-fn put_asked(warnings: &mut Vec<Warning>, asked: Asked, found: &[Warning]) -> Result<(), AsmFault>
-    ensures ok { OnOk result (warnings.new.items ≡ warnings.old.items ++ filter (is_asked asked) found.now) }
-    ensures err { IfErr result IsMemory }
-{
-    for warning in found {
-        if is_asked(asked, *warning) {
-            warnings.push(*warning)?;
-        }
-    }
-    Ok(())
-}
-
 /// Whether an operand is an input-output unit.
 fn is_unit(field: OperandField) -> bool
     ensures { result ≡ is_unit field }
@@ -131,11 +92,43 @@ fn is_unit(field: OperandField) -> bool
     matches!(field, OperandField::Operand(Operand::Unit(_)))
 }
 
+/// Whether an operand names a tape unit.
+fn is_tape(field: OperandField) -> bool
+    ensures { result ≡ is_tape field }
+{
+    match field {
+        OperandField::Operand(Operand::Unit(unit)) => {
+            let [first, second, third] = unit.graphics;
+            tape_unit_named(first, second, third).is_some()
+        },
+        OperandField::Operand(Operand::Address(_) | Operand::Literal(_))
+        | OperandField::Absent
+        | OperandField::Malformed => false,
+    }
+}
+
+/// Whether an instruction is one for the tape unit that it names, on a machine with these features.
+fn takes_tape(features: Features, instruction: Instruction, operands: Operands) -> bool
+    ensures { result ≡ takes_tape features instruction operands }
+{
+    if !is_tape(operands.a) {
+        return false;
+    }
+    match fitted_in(
+        features,
+        instruction.operation,
+        instruction_length(operands),
+    ) {
+        Some(fitted) => fitted.is_for_tape(),
+        None => false,
+    }
+}
+
 /// Whether a machine with these features never carries out an instruction.
 fn is_unfitted(features: Features, instruction: Instruction, operands: Operands) -> bool
     ensures { result ≡ is_unfitted features instruction operands }
 {
-    is_unit(operands.a)
+    (is_unit(operands.a) && !takes_tape(features, instruction, operands))
         || is_unit(operands.b)
         || !is_fitted_with(
             features,
@@ -362,24 +355,33 @@ fn is_one_of(graphics: &[u8], graphic: u8) -> bool
     graphics.iter().any(|each| *each == graphic)
 }
 
+/// Whether a branch of five characters may branch by this d-character on a machine with these features. K asks a tape
+/// unit.
+fn is_condition(features: Features, d: u8) -> bool
+    ensures { result ≡ is_condition features d }
+{
+    is_one_of(b"/STUZABCDEFG9@", d) || (features.tapes && d == b'K')
+}
+
 /// Whether a branch of this operation, with a second address or without, never branches with this d-character.
-fn is_idle(operation: u8, has_second: bool, d: u8) -> bool
-    ensures { result ≡ is_idle operation has_second d }
+fn is_idle(features: Features, operation: u8, has_second: bool, d: u8) -> bool
+    ensures { result ≡ is_idle features operation has_second d }
 {
     if operation == b'V' {
         !is_one_of(b"12BKS3CLT", d)
     } else {
-        operation == b'B' && !has_second && !is_one_of(b"/STUZABCDEFG9@", d)
+        operation == b'B' && !has_second && !is_condition(features, d)
     }
 }
 
 /// Whether a statement is a branch that its d-character never lets branch.
-fn never_branches(contents: Contents) -> bool
-    ensures { result ≡ never_branches contents }
+fn never_branches(features: Features, contents: Contents) -> bool
+    ensures { result ≡ never_branches features contents }
 {
     match contents {
         Contents::Instruction(instruction, operands) => match operands.d {
             Some(d) => is_idle(
+                features,
                 instruction.operation,
                 !matches!(operands.b, OperandField::Absent),
                 d,
@@ -509,8 +511,6 @@ pub struct LineFacts {
 /// What is known of all lines when one is warned of.
 #[derive(Drop)]
 struct Context {
-    /// Which warnings are asked for.
-    asked: Asked,
     /// What the machine is fitted with.
     features: Features,
     /// What they say of labels, and which indicators they can set.
@@ -523,14 +523,12 @@ impl Context {
     /// What is known of these lines for core storage of this size on a machine with these features, once all is placed.
     fn new(
         alloc: Global,
-        asked: Asked,
         all: &Placing<'_>,
         size: u16,
         features: Features,
         lines: &Lines<'_>,
     ) -> Result<Context, AsmFault>
         requires { places_of all.now ≡ placed lines.now }
-        ensures asked { IfOk result (λ this. this.asked ≡ asked) }
         ensures features { IfOk result (λ this. this.features ≡ features) }
         ensures notes { IfOk result (λ this. known_of this.notes ≡ known_with features lines.now) }
         ensures storage { IfOk result (λ this. this.storage.items ≡ filled size lines.now) }
@@ -539,7 +537,6 @@ impl Context {
         let notes = notes_with(alloc, all.hashing, features, lines)?;
         let storage = fill(alloc, all, size, lines)?;
         Ok(Context {
-            asked,
             features,
             notes,
             storage,
@@ -564,7 +561,7 @@ fn warn_of_own(
     let unused = is_unused(notes, statement.label) && !is_of_areas(row.areas);
     let unset = branches_unset(notes, row.contents);
     let unlike = compares_unlike(notes, row.contents);
-    let idle = never_branches(row.contents);
+    let idle = never_branches(features, row.contents);
     let starts = starts_nothing(row.addressing);
     warn_if(warnings, not_fitted, number, WarningKind::NotFitted)?;
     warn_if(warnings, unused, number, WarningKind::UnusedLabel)?;
@@ -588,14 +585,27 @@ fn warn_of_place(
 {
     let row = statement.body.describe();
     let place = read_on(storage, facts.address, row.contents);
-    let loss = if row.is_remark {
-        None
-    } else {
-        loss_left(has_whole_text(&row.contents), facts.loss)
-    };
     warn_of(warnings, place, number)?;
     warn_of_overlap(warnings, facts.overlap, number)?;
-    warn_of_loss(warnings, loss, number)
+    warn_of_cut(warnings, facts.loss, number, statement)
+}
+
+/// Warns of what a statement loses, whose line loses this.
+fn warn_of_cut(
+    warnings: &mut Vec<Warning>,
+    loss: Option<Loss>,
+    number: u64,
+    statement: Statement,
+) -> Result<(), AsmFault>
+    ensures ok { OnOk result (warnings.new.items ≡ warnings.old.items ++ cut_warned number loss statement) }
+    ensures err { IfErr result IsMemory }
+{
+    let row = statement.body.describe();
+    if row.is_remark {
+        return Ok(());
+    }
+    let left = loss_left(has_whole_text(&row.contents), loss);
+    warn_of_loss(warnings, left, number)
 }
 
 /// Whether a constant is a text with an at sign in it, which goes on to the last one of its line.
@@ -646,8 +656,8 @@ fn card_lost(loss: Option<Loss>) -> Option<Loss>
     }
 }
 
-/// Adds all warnings of the line of this number.
-fn put_all_of_line(
+/// Adds the warnings of the line of this number.
+fn warn_of_line(
     warnings: &mut Vec<Warning>,
     this: &Context,
     number: u64,
@@ -665,24 +675,6 @@ fn put_all_of_line(
         }
         None => warn_of_loss(warnings, card_lost(facts.loss), number),
     }
-}
-
-/// Adds those warnings of the line of this number that are asked for.
-fn warn_of_line(
-    alloc: Global,
-    warnings: &mut Vec<Warning>,
-    this: &Context,
-    number: u64,
-    facts: LineFacts,
-    line: &Line,
-) -> Result<(), AsmFault>
-    ensures ok { OnOk result (warnings.new.items ≡ warnings.old.items ++ filter (is_asked this.now.asked)
-        (line_warnings this.now.features (known_of this.now.notes) this.now.storage.items number facts line.now)) }
-    ensures err { IfErr result IsMemory }
-{
-    let mut found = Vec::new(alloc);
-    put_all_of_line(&mut found, this, number, facts, line)?;
-    put_asked(warnings, this.asked, &found)
 }
 
 /// The warnings of the lines so far.
@@ -745,7 +737,7 @@ impl<'a> WarningsSoFar<'a> {
         })
     }
 
-    /// Adds those warnings of a line of this text that are asked for, with this many lines above it and these after it, and
+    /// Adds the warnings of a line of this text, with this many lines above it and these after it, and
     /// places it.
     fn put_line(
         &mut self,
@@ -761,12 +753,11 @@ impl<'a> WarningsSoFar<'a> {
         requires few { length lines.now < 2 ^ 32 }
         requires line { n < length lines.now }
         ensures warned { OnOk result (self.new.warnings.items ≡ self.old.warnings.items
-            ++ filter (is_asked this.now.asked)
-            (line_warnings this.now.features (known_of this.now.notes) this.now.storage.items (n + 1)
+            ++ line_warnings this.now.features (known_of this.now.notes) this.now.storage.items (n + 1)
             (facts_of (address_or_zero (places_of self.old.so_far).next)
             (first_overlap self.old.fillers.items (take n lines.now)
             (filled_by (places_of all.now) (places_of self.old.so_far) line.now beyond.now)) (loss_of text.now))
-            line.now)) }
+            line.now) }
         ensures fillers { OnOk result (self.new.fillers.items ≡ with_filler (n + 1)
             (filled_by (places_of all.now) (places_of self.old.so_far) line.now beyond.now).first
             (filled_by (places_of all.now) (places_of self.old.so_far) line.now beyond.now).count
@@ -776,13 +767,12 @@ impl<'a> WarningsSoFar<'a> {
         ensures err { IfErr result IsMemory }
     {
         let facts = self.facts(alloc, all, lines, n, text, line, beyond)?;
-        warn_of_line(alloc, &mut self.warnings, this, n as u64 + 1, facts, line)?;
+        warn_of_line(&mut self.warnings, this, n as u64 + 1, facts, line)?;
         self.so_far.place(line)?;
         Ok(())
     }
 
-    /// Adds those warnings of the lines of a source that are asked for.
-    #[tactic(auto, using(crate::proofs::AskedLemmas::asked_of_two))]
+    /// Adds the warnings of the lines of a source.
     fn put_lines(
         &mut self,
         alloc: Global,
@@ -794,12 +784,11 @@ impl<'a> WarningsSoFar<'a> {
         requires few { length lines.now < 2 ^ 32 }
         requires as_many { length lines.now ≡ length (lines_of source.now) }
         ensures warned { OnOk result (self.new.warnings.items ≡ self.old.warnings.items
-            ++ filter (is_asked this.now.asked)
-            (warnings_from this.now.features (known_of this.now.notes) this.now.storage.items 1
+            ++ warnings_from this.now.features (known_of this.now.notes) this.now.storage.items 1
             (addresses_from (places_of self.old.so_far) lines.now)
             (overlaps_from lines.now self.old.fillers.items 0
             (filled_from (places_of all.now) (places_of self.old.so_far) lines.now))
-            (losses_of source.now) lines.now)) }
+            (losses_of source.now) lines.now) }
         ensures err { IfErr result IsMemory }
     {
         let mut sources = source;
@@ -814,7 +803,7 @@ impl<'a> WarningsSoFar<'a> {
         Ok(())
     }
 
-    /// The warnings so far and those of the lines of a source that are asked for.
+    /// The warnings so far and those of the lines of a source.
     fn finish(
         self,
         alloc: Global,
@@ -826,12 +815,11 @@ impl<'a> WarningsSoFar<'a> {
         requires few { length lines.now < 2 ^ 32 }
         requires as_many { length lines.now ≡ length (lines_of source.now) }
         ensures warned { IfOk result (λ warnings. warnings.items ≡ self.entry.warnings.items
-            ++ filter (is_asked this.now.asked)
-            (warnings_from this.now.features (known_of this.now.notes) this.now.storage.items 1
+            ++ warnings_from this.now.features (known_of this.now.notes) this.now.storage.items 1
             (addresses_from (places_of self.entry.so_far) lines.now)
             (overlaps_from lines.now self.entry.fillers.items 0
             (filled_from (places_of all.now) (places_of self.entry.so_far) lines.now))
-            (losses_of source.now) lines.now)) }
+            (losses_of source.now) lines.now) }
         ensures err { IfErr result IsMemory }
     {
         let mut made = self;
@@ -840,11 +828,10 @@ impl<'a> WarningsSoFar<'a> {
     }
 }
 
-/// The warnings that are asked for of the lines of a source for core storage of this size on a machine with these
-/// features, once all is placed.
+/// The warnings of the lines of a source for core storage of this size on a machine with these features, once all is
+/// placed.
 fn warnings_placed(
     alloc: Global,
-    asked: Asked,
     all: &Placing<'_>,
     size: u16,
     features: Features,
@@ -855,10 +842,10 @@ fn warnings_placed(
     requires as_many { length lines.now ≡ length (lines_of source.now) }
     requires placed { places_of all.now ≡ placed lines.now }
     ensures ok { IfOk result
-        (λ warnings. warnings.items ≡ filter (is_asked asked) (all_warnings features size source.now lines.now)) }
+        (λ warnings. warnings.items ≡ all_warnings features size source.now lines.now) }
     ensures err { IfErr result IsMemory }
 {
-    let this = Context::new(alloc, asked, all, size, features, lines)?;
+    let this = Context::new(alloc, all, size, features, lines)?;
     let made = WarningsSoFar::new(alloc, all, size)?;
     made.finish(alloc, &this, all, source, lines)
 }
@@ -877,11 +864,9 @@ fn chains_of_lines(
     Ok(symbols.chains)
 }
 
-/// The warnings that are asked for of the lines of a source for core storage of this size on a machine with these
-/// features.
+/// The warnings of the lines of a source for core storage of this size on a machine with these features.
 fn warnings_in(
     alloc: Global,
-    asked: Asked,
     size: u16,
     features: Features,
     source: &[u8],
@@ -890,36 +875,13 @@ fn warnings_in(
     requires few { length lines.now < 2 ^ 32 }
     requires as_many { length lines.now ≡ length (lines_of source.now) }
     ensures ok { IfOk result
-        (λ warnings. warnings.items ≡ filter (is_asked asked) (all_warnings features size source.now lines.now)) }
+        (λ warnings. warnings.items ≡ all_warnings features size source.now lines.now) }
     ensures err { IfErr result IsMemory }
 {
     let hashing = SourceHashing::from_source(source);
     let chains = chains_of_lines(alloc, hashing, lines)?;
     let all = place_all(alloc, hashing, &chains, lines)?;
-    let warnings = warnings_placed(alloc, asked, &all, size, features, source, lines)?;
-    Ok(warnings)
-}
-
-/// Those warnings of a source in this language, for core storage of this size on a machine with these features, that are
-/// asked for: in the order of its lines, and those of a line in the order of the kinds. No other is held.
-///
-/// # Errors
-///
-/// `Memory` if memory is refused or the source is too long.
-pub fn asked_warnings(
-    alloc: Global,
-    asked: Asked,
-    language: Language,
-    source: &[u8],
-    size: u16,
-    features: Features,
-) -> Result<Vec<Warning>, AsmFault>
-    ensures ok { IfOk result (λ warnings. warnings.items
-        ≡ filter (is_asked asked) (all_warnings features size source.now (lines_in language source.now))) }
-    ensures err { IfErr result IsMemory }
-{
-    let lines = read_lines(alloc, language, source)?;
-    let warnings = warnings_in(alloc, asked, size, features, source, &lines.lend())?;
+    let warnings = warnings_placed(alloc, &all, size, features, source, lines)?;
     Ok(warnings)
 }
 
@@ -948,6 +910,68 @@ pub fn source_warnings(
         (Contains (all_warnings no_features size source.now (lines_in language source.now))) warnings.items) }
     ensures err { IfErr result IsMemory }
 {
-    let warnings = asked_warnings(alloc, Asked::All, language, source, size, features)?;
+    let lines = read_lines(alloc, language, source)?;
+    let warnings = warnings_in(alloc, size, features, source, &lines.lend())?;
+    Ok(warnings)
+}
+
+/// Warns of what isn't read of the line of this number, which loses this, and of what it doesn't start.
+fn warn_of_lost(
+    warnings: &mut Vec<Warning>,
+    number: u64,
+    loss: Option<Loss>,
+    line: &Line,
+) -> Result<(), AsmFault>
+    ensures ok { OnOk result
+        (warnings.new.items ≡ warnings.old.items ++ lost_with number loss line.now.statement) }
+    ensures err { IfErr result IsMemory }
+{
+    match line.statement {
+        Some(statement) => {
+            let row = statement.body.describe();
+            let starts = starts_nothing(row.addressing);
+            warn_if(warnings, starts, number, WarningKind::StartsNothing)?;
+            warn_of_cut(warnings, loss, number, statement)
+        }
+        None => warn_of_loss(warnings, card_lost(loss), number),
+    }
+}
+
+/// Those of the lines of a source.
+fn lost_in(alloc: Global, source: &[u8], lines: &Lines<'_>) -> Result<Vec<Warning>, AsmFault>
+    requires few { length lines.now < 2 ^ 32 }
+    requires as_many { length lines.now ≡ length (lines_of source.now) }
+    ensures ok { IfOk result (λ warnings. warnings.items ≡ lost_from 1 (losses_of source.now) lines.now) }
+    ensures err { IfErr result IsMemory }
+{
+    let mut warnings = Vec::new(alloc);
+    let mut sources = source;
+    for i in 0..lines.len() {
+        let Some((text, rest)) = split_line(sources) else {
+            unreachable!()
+        };
+        warn_of_lost(&mut warnings, i as u64 + 1, loss_of(text), &lines.line(i))?;
+        sources = rest;
+    }
+    Ok(warnings)
+}
+
+/// Those warnings of a source in this language that are of what isn't read and of what isn't started: it looks as if the
+/// program were another one. They are the same for each size of core storage and each machine, so nothing is placed.
+///
+/// # Errors
+///
+/// `Memory` if memory is refused or the source is too long.
+pub fn lost_warnings(
+    alloc: Global,
+    language: Language,
+    source: &[u8],
+) -> Result<Vec<Warning>, AsmFault>
+    ensures ok { IfOk result (λ warnings. (features : Features) → (size : ℕ)
+        → warnings.items ≡ filter is_lost (all_warnings features size source.now (lines_in language source.now))) }
+    ensures err { IfErr result IsMemory }
+{
+    let lines = read_lines(alloc, language, source)?;
+    let warnings = lost_in(alloc, source, &lines.lend())?;
     Ok(warnings)
 }

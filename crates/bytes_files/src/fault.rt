@@ -25,6 +25,20 @@ pub enum FileFault {
     Memory,
 }
 
+/// Why a new file isn't made.
+#[derive(Clone, Copy, Debug, PartialEq, Eq, Error)]
+pub enum NewFault {
+    /// There is a file of this name already, which would be overwritten.
+    #[error("already exists")]
+    Exists,
+    /// The file can't be made or written.
+    #[error("cannot be written")]
+    Unwritten,
+    /// The memory for a file's name was refused.
+    #[error("memory refused")]
+    Memory,
+}
+
 /// Why a file isn't written.
 #[derive(Clone, Copy, Debug, PartialEq, Eq, Error)]
 pub enum WriteFault {

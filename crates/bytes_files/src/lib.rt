@@ -3,6 +3,7 @@
 //! ```text
 //! let source = read_whole(rt, "sales.source")?;       // its bytes, or why not
 //! put_whole(rt, "sales.image", text.as_slice())?      // the old file, or the new one
+//! put_new(rt, "sales.tap", text.as_slice())?          // the same, unless there is a file of the name
 //! is_one_file(rt, "one", "./one")?                    // true, whether it is there or not
 //! ```
 #![tactic(auto)]
@@ -11,12 +12,14 @@ pub mod closed_streams;
 pub mod fault;
 pub mod limited;
 pub mod names;
+pub mod new_file;
 pub mod reading;
 pub mod writing;
 
 pub use closed_streams::{HeldStreams, hold_closed_streams};
-pub use fault::{FileFault, WriteFault};
+pub use fault::{FileFault, NewFault, WriteFault};
 pub use limited::{LimitedFile, size_limit};
-pub use names::is_one_file;
+pub use names::{is_one_file, is_there};
+pub use new_file::put_new;
 pub use reading::read_whole;
 pub use writing::{WholeFile, begin_whole, create, end_whole, put_whole};

@@ -45,6 +45,11 @@ pub(crate) fn end_of_links<R: Files + AllocGlobal>(rt: &R, name: &str) -> io::Re
     Err(io::Error::from(ErrorKind::FilesystemLoop))
 }
 
+/// Whether something has this name: a file, a folder, or a link, wherever it leads.
+pub fn is_there<R: Files>(rt: &R, name: &str) -> bool {
+    fs::symlink_metadata(rt, name).is_ok()
+}
+
 /// Whether these are of one file or folder.
 fn are_same(first: &Metadata, second: &Metadata) -> bool {
     first.dev() == second.dev() && first.ino() == second.ino()

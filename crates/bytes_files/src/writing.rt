@@ -18,12 +18,12 @@ const NAMES: u32 = 100;
 
 /// A new file next to another, whose name it takes once it is whole.
 #[derive(Drop)]
-struct PartFile<F> {
-    file: LimitedFile<F>,
+pub(crate) struct PartFile<F> {
+    pub(crate) file: LimitedFile<F>,
     /// Its own name.
-    beside: String,
+    pub(crate) beside: String,
     /// The name that it is to take.
-    name: String,
+    pub(crate) name: String,
 }
 
 /// Where the bytes of a text go.
@@ -84,7 +84,7 @@ fn keep_rights<R: Files>(rt: &R, file: &R::File, beside: &str, old: &Metadata) {
 }
 
 /// A new file that is to take this name, with the rights of the old one if there is one.
-fn begin_part<R: Files + AllocGlobal>(
+pub(crate) fn begin_part<R: Files + AllocGlobal>(
     rt: &R,
     name: String,
     old: Option<Metadata>,
@@ -121,7 +121,7 @@ fn place_of<R: Files + AllocGlobal, O>(rt: &R, name: &str) -> io::Result<Place<R
 }
 
 /// Forces the names of a folder onto the disk, if the folder may be read.
-fn sync_folder<R: Files>(rt: &R, name: &str) {
+pub(crate) fn sync_folder<R: Files>(rt: &R, name: &str) {
     let (folder, _) = split_name(name);
     if let Ok(folder) = fs::open(rt, folder) {
         let _ = folder.sync_all();

@@ -86,9 +86,15 @@ fn put_commands(room: &mut Room, commands: LoadCommands<'_>) -> Result<(), RoomF
     Ok(())
 }
 
-/// Carries out a command that lies in core storage or fits the machine, as one of seat 0.
+/// Carries out a command that deposits cells in core storage, sets the I register to one of its places, or fits the
+/// machine. It is recorded as one of seat 0, answered `Done`.
+///
+/// # Errors
+///
+/// `JournalFull` if earlier commands have filled the journal, or `Memory` if there is no room for this one. Nothing was
+/// done.
 #[tactic(auto, using(crate::proofs::ImageLoadingLemmas::done_within))]
-fn put_command(room: &mut Room, command: Command) -> Result<(), RoomFault>
+pub fn put_command(room: &mut Room, command: Command) -> Result<(), RoomFault>
     requires { is_within room.old.size command ≡ true }
     ensures done { OnOk result (room.new.journal ≡ room.old.journal ++ done_entry command ∷ []) }
     ensures err { OnErr result (room.new.journal ≡ room.old.journal) }

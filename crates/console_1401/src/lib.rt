@@ -23,6 +23,6 @@ pub use console_lines::{
     Failed, FromReader, Line, LineFault, SessionEnd, Sink, Source, ToWriter, parse_line, reply_text,
 };
 pub use door::{Door, OpenDoor};
-pub use image_loading::{put_features, put_image, put_lent_image};
+pub use image_loading::{put_command, put_features, put_image, put_lent_image};
 pub use room_alone::session;
 pub use serving::{ServeFault, Served, serve};

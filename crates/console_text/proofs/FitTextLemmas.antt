@@ -14,7 +14,7 @@ use Rattle.machine_notation.proofs.PrefixLemmas.{after_prefix_takes}
 use Rattle.machine_panel.specs.Features.{are_some, feature_list, no_features}
 use Rattle.machine_panel.specs.declared.features.Feature.{Feature}
 use Rattle.machine_panel.specs.declared.features.Feature.TheVariants.{Multiply, MoveRecord, ModifyAddress, BitTest}
-use Rattle.machine_panel.specs.declared.features.Feature.TheVariants.{Lengths, ReadPunchRelease}
+use Rattle.machine_panel.specs.declared.features.Feature.TheVariants.{Lengths, ReadPunchRelease, Tapes}
 use Rattle.machine_panel.specs.declared.features.Features.{Features}
 use Rattle.console_text.specs.declared.line.LineFault.TheVariants.{Word}
 use Rattle.console_text.specs.ConsoleLine.{most_line_bytes, said_in_words, said_with}
@@ -45,19 +45,20 @@ of_both : (P : Bool → Type 0) → Both P → (b : Bool) → P b
 of_both P both true = both.0
 of_both P both false = both.1
 
-abbrev made : Bool → Bool → Bool → Bool → Bool → Bool → Features
-made a b c d e f = record {
+abbrev made : Bool → Bool → Bool → Bool → Bool → Bool → Bool → Features
+made a b c d e f g = record {
   multiply = a;
   move_record = b;
   modify_address = c;
   bit_test = d;
   lengths = e;
   read_punch_release = f;
+  tapes = g;
 }
 
 -- what is so of all features
 abbrev Each : (Features → Type 0) → Type 0
-Each P = Both (λ a. Both (λ b. Both (λ c. Both (λ d. Both (λ e. Both (λ f. P (made a b c d e f)))))))
+Each P = Both (λ a. Both (λ b. Both (λ c. Both (λ d. Both (λ e. Both (λ f. Both (λ g. P (made a b c d e f g))))))))
 
 of_each : (P : Features → Type 0) → Each P → (features : Features) → P features
 of_each P all s =
@@ -66,18 +67,20 @@ of_each P all s =
     let c = s.modify_address in
     let d = s.bit_test in
     let e = s.lengths in
-    of_both (λ f. P (made a b c d e f))
-    (of_both (λ e. Both (λ f. P (made a b c d e f)))
-    (of_both (λ d. Both (λ e. Both (λ f. P (made a b c d e f))))
-    (of_both (λ c. Both (λ d. Both (λ e. Both (λ f. P (made a b c d e f)))))
-    (of_both (λ b. Both (λ c. Both (λ d. Both (λ e. Both (λ f. P (made a b c d e f))))))
-    (of_both (λ a. Both (λ b. Both (λ c. Both (λ d. Both (λ e. Both (λ f. P (made a b c d e f)))))))
-    all a) b) c) d) e) s.read_punch_release
+    let f = s.read_punch_release in
+    of_both (λ g. P (made a b c d e f g))
+    (of_both (λ f. Both (λ g. P (made a b c d e f g)))
+    (of_both (λ e. Both (λ f. Both (λ g. P (made a b c d e f g))))
+    (of_both (λ d. Both (λ e. Both (λ f. Both (λ g. P (made a b c d e f g)))))
+    (of_both (λ c. Both (λ d. Both (λ e. Both (λ f. Both (λ g. P (made a b c d e f g))))))
+    (of_both (λ b. Both (λ c. Both (λ d. Both (λ e. Both (λ f. Both (λ g. P (made a b c d e f g)))))))
+    (of_both (λ a. Both (λ b. Both (λ c. Both (λ d. Both (λ e. Both (λ f. Both (λ g. P (made a b c d e f g))))))))
+    all a) b) c) d) e) f) s.tapes
 
 -- what is written is read again
 each_again : Each (λ features. fit_of (fit_text features) ≡ Some features)
-unfolding fit_of fit_text
-each_again = ((((((refl, refl), (refl, refl)), ((refl, refl), (refl, refl))), (((refl, refl), (refl, refl)), ((refl, refl), (refl, refl)))), ((((refl, refl), (refl, refl)), ((refl, refl), (refl, refl))), (((refl, refl), (refl, refl)), ((refl, refl), (refl, refl))))), (((((refl, refl), (refl, refl)), ((refl, refl), (refl, refl))), (((refl, refl), (refl, refl)), ((refl, refl), (refl, refl)))), ((((refl, refl), (refl, refl)), ((refl, refl), (refl, refl))), (((refl, refl), (refl, refl)), ((refl, refl), (refl, refl))))))
+unfolding fit_of features_in fit_text
+each_again = (((((((refl, refl), (refl, refl)), ((refl, refl), (refl, refl))), (((refl, refl), (refl, refl)), ((refl, refl), (refl, refl)))), ((((refl, refl), (refl, refl)), ((refl, refl), (refl, refl))), (((refl, refl), (refl, refl)), ((refl, refl), (refl, refl))))), (((((refl, refl), (refl, refl)), ((refl, refl), (refl, refl))), (((refl, refl), (refl, refl)), ((refl, refl), (refl, refl)))), ((((refl, refl), (refl, refl)), ((refl, refl), (refl, refl))), (((refl, refl), (refl, refl)), ((refl, refl), (refl, refl)))))), ((((((refl, refl), (refl, refl)), ((refl, refl), (refl, refl))), (((refl, refl), (refl, refl)), ((refl, refl), (refl, refl)))), ((((refl, refl), (refl, refl)), ((refl, refl), (refl, refl))), (((refl, refl), (refl, refl)), ((refl, refl), (refl, refl))))), (((((refl, refl), (refl, refl)), ((refl, refl), (refl, refl))), (((refl, refl), (refl, refl)), ((refl, refl), (refl, refl)))), ((((refl, refl), (refl, refl)), ((refl, refl), (refl, refl))), (((refl, refl), (refl, refl)), ((refl, refl), (refl, refl)))))))
 
 pub fit_again : (features : Features) → fit_of (fit_text features) ≡ Some features
 fit_again features = of_each (λ each. fit_of (fit_text each) ≡ Some each) each_again features
@@ -85,14 +88,14 @@ fit_again features = of_each (λ each. fit_of (fit_text each) ≡ Some each) eac
 -- a console has no such word
 each_unknown : Each (λ features. said_in_words (fit_text features) ≡ Err Word)
 unfolding fit_text said_in_words said_with word_in beyond_word keyword_of
-each_unknown = ((((((refl, refl), (refl, refl)), ((refl, refl), (refl, refl))), (((refl, refl), (refl, refl)), ((refl, refl), (refl, refl)))), ((((refl, refl), (refl, refl)), ((refl, refl), (refl, refl))), (((refl, refl), (refl, refl)), ((refl, refl), (refl, refl))))), (((((refl, refl), (refl, refl)), ((refl, refl), (refl, refl))), (((refl, refl), (refl, refl)), ((refl, refl), (refl, refl)))), ((((refl, refl), (refl, refl)), ((refl, refl), (refl, refl))), (((refl, refl), (refl, refl)), ((refl, refl), (refl, refl))))))
+each_unknown = (((((((refl, refl), (refl, refl)), ((refl, refl), (refl, refl))), (((refl, refl), (refl, refl)), ((refl, refl), (refl, refl)))), ((((refl, refl), (refl, refl)), ((refl, refl), (refl, refl))), (((refl, refl), (refl, refl)), ((refl, refl), (refl, refl))))), (((((refl, refl), (refl, refl)), ((refl, refl), (refl, refl))), (((refl, refl), (refl, refl)), ((refl, refl), (refl, refl)))), ((((refl, refl), (refl, refl)), ((refl, refl), (refl, refl))), (((refl, refl), (refl, refl)), ((refl, refl), (refl, refl)))))), ((((((refl, refl), (refl, refl)), ((refl, refl), (refl, refl))), (((refl, refl), (refl, refl)), ((refl, refl), (refl, refl)))), ((((refl, refl), (refl, refl)), ((refl, refl), (refl, refl))), (((refl, refl), (refl, refl)), ((refl, refl), (refl, refl))))), (((((refl, refl), (refl, refl)), ((refl, refl), (refl, refl))), (((refl, refl), (refl, refl)), ((refl, refl), (refl, refl)))), ((((refl, refl), (refl, refl)), ((refl, refl), (refl, refl))), (((refl, refl), (refl, refl)), ((refl, refl), (refl, refl)))))))
 
 pub fit_unknown : (features : Features) → said_in_words (fit_text features) ≡ Err Word
 fit_unknown features = of_each (λ each. said_in_words (fit_text each) ≡ Err Word) each_unknown features
 
 each_short : Each (λ features. nat_le (length (fit_text features)) most_line_bytes ≡ true)
 unfolding fit_text
-each_short = ((((((refl, refl), (refl, refl)), ((refl, refl), (refl, refl))), (((refl, refl), (refl, refl)), ((refl, refl), (refl, refl)))), ((((refl, refl), (refl, refl)), ((refl, refl), (refl, refl))), (((refl, refl), (refl, refl)), ((refl, refl), (refl, refl))))), (((((refl, refl), (refl, refl)), ((refl, refl), (refl, refl))), (((refl, refl), (refl, refl)), ((refl, refl), (refl, refl)))), ((((refl, refl), (refl, refl)), ((refl, refl), (refl, refl))), (((refl, refl), (refl, refl)), ((refl, refl), (refl, refl))))))
+each_short = (((((((refl, refl), (refl, refl)), ((refl, refl), (refl, refl))), (((refl, refl), (refl, refl)), ((refl, refl), (refl, refl)))), ((((refl, refl), (refl, refl)), ((refl, refl), (refl, refl))), (((refl, refl), (refl, refl)), ((refl, refl), (refl, refl))))), (((((refl, refl), (refl, refl)), ((refl, refl), (refl, refl))), (((refl, refl), (refl, refl)), ((refl, refl), (refl, refl)))), ((((refl, refl), (refl, refl)), ((refl, refl), (refl, refl))), (((refl, refl), (refl, refl)), ((refl, refl), (refl, refl)))))), ((((((refl, refl), (refl, refl)), ((refl, refl), (refl, refl))), (((refl, refl), (refl, refl)), ((refl, refl), (refl, refl)))), ((((refl, refl), (refl, refl)), ((refl, refl), (refl, refl))), (((refl, refl), (refl, refl)), ((refl, refl), (refl, refl))))), (((((refl, refl), (refl, refl)), ((refl, refl), (refl, refl))), (((refl, refl), (refl, refl)), ((refl, refl), (refl, refl)))), ((((refl, refl), (refl, refl)), ((refl, refl), (refl, refl))), (((refl, refl), (refl, refl)), ((refl, refl), (refl, refl)))))))
 
 pub fit_short : (features : Features) → length (fit_text features) ≤ most_line_bytes
 fit_short features =
@@ -113,9 +116,9 @@ word_taken feature text =
     takes feature text (after_prefix (feature_word feature) text)
     (λ rest is. after_prefix_takes (feature_word feature) text rest is)
 
-regroup : (a b c d e f rest : List ℕ)
-    → (a ++ (b ++ (c ++ (d ++ (e ++ (f ++ [])))))) ++ rest ≡ a ++ (b ++ (c ++ (d ++ (e ++ (f ++ rest)))))
-regroup a b c d e f rest = simp append_assoc
+regroup : (a b c d e f g rest : List ℕ)
+    → (a ++ (b ++ (c ++ (d ++ (e ++ (f ++ (g ++ []))))))) ++ rest ≡ a ++ (b ++ (c ++ (d ++ (e ++ (f ++ (g ++ rest))))))
+regroup a b c d e f g rest = simp append_assoc
 
 -- the words of the features that a text begins with, and what follows them
 words_taken : (text : List ℕ)
@@ -128,8 +131,13 @@ words_taken text =
     let d : List ℕ = (named BitTest c).1 in
     let e : List ℕ = (named Lengths d).1 in
     let f : List ℕ = (named ReadPunchRelease e).1 in
+    let g : List ℕ = (named Tapes f).1 in
     regroup (next Multiply text) (next MoveRecord a) (next ModifyAddress b) (next BitTest c) (next Lengths d)
-    (next ReadPunchRelease e) f
+    (next ReadPunchRelease e) (next Tapes f) g
+    ∙ ap (λ (t : List ℕ).
+    next Multiply text ++ (next MoveRecord a ++ (next ModifyAddress b ++ (next BitTest c ++ (next Lengths d
+    ++ (next ReadPunchRelease e ++ t))))))
+    (word_taken Tapes f)
     ∙ ap (λ (t : List ℕ).
     next Multiply text ++ (next MoveRecord a ++ (next ModifyAddress b ++ (next BitTest c ++ (next Lengths d ++ t)))))
     (word_taken ReadPunchRelease e)
@@ -171,6 +179,7 @@ by_none false text found features is are h =
     ∙ ap words_of same
 
 words_exact : (text : List ℕ) (features : Features) → features_in text ≡ Some features → text ≡ words_of features
+unfolding features_in
 words_exact text features h =
     by_none (bytes_eq text (codes " NONE")) text (features_at text) features
     (λ is. (bytes_eq-Decides text (codes " NONE")).0 is) (words_taken text) h

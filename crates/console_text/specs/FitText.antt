@@ -10,7 +10,7 @@ use Rattle.machine_notation.specs.Prefix.{after_prefix}
 use Rattle.machine_panel.specs.Features.{are_some, feature_list, feature_name, has_feature, no_features}
 use Rattle.machine_panel.specs.declared.features.Feature.{Feature}
 use Rattle.machine_panel.specs.declared.features.Feature.TheVariants.{Multiply, MoveRecord, ModifyAddress, BitTest}
-use Rattle.machine_panel.specs.declared.features.Feature.TheVariants.{Lengths, ReadPunchRelease}
+use Rattle.machine_panel.specs.declared.features.Feature.TheVariants.{Lengths, ReadPunchRelease, Tapes}
 use Rattle.machine_panel.specs.declared.features.Features.{Features}
 use Rattle.console_text.specs.Words.{blank}
 
@@ -42,7 +42,8 @@ features_at text =
     let modify_address = named ModifyAddress move_record.1 in
     let bit_test = named BitTest modify_address.1 in
     let lengths = named Lengths bit_test.1 in
-    let read_punch_release = named ReadPunchRelease lengths.1 in (
+    let read_punch_release = named ReadPunchRelease lengths.1 in
+    let tapes = named Tapes read_punch_release.1 in (
       record {
         multiply = multiply.0;
         move_record = move_record.0;
@@ -50,8 +51,9 @@ features_at text =
         bit_test = bit_test.0;
         lengths = lengths.0;
         read_punch_release = read_punch_release.0;
+        tapes = tapes.0;
       },
-      read_punch_release.1,
+      tapes.1,
     )
 
 -- some features, if nothing follows their words
@@ -59,7 +61,7 @@ abbrev pub if_ended : Features × List ℕ → Option Features
 if_ended found = if are_some found.0 && (length found.1 == 0) then Some found.0 else None
 
 -- the features that follow FIT
-abbrev pub features_in : List ℕ → Option Features
+unfoldable pub features_in : List ℕ → Option Features
 features_in text = if bytes_eq text (codes " NONE") then Some no_features else if_ended (features_at text)
 
 -- the features whose text this is

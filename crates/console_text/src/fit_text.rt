@@ -20,6 +20,7 @@ fn word(feature: Feature) -> &'static [u8]
         Feature::BitTest => b" BIT-TEST",
         Feature::Lengths => b" LENGTHS",
         Feature::ReadPunchRelease => b" READ-PUNCH-RELEASE",
+        Feature::Tapes => b" TAPES",
     }
 }
 
@@ -71,7 +72,6 @@ fn put_word(text: &mut Vec<u8>, features: Features, feature: Feature) -> Result<
 /// parse_fit(b"FIT NONE")                  // Some(Features::NONE)
 /// parse_fit(b"FIT BIT-TEST MULTIPLY")     // None: they have an order
 /// ```
-#[tactic(auto, unfolding(crate::specs::FitText::fit_of))]
 pub fn parse_fit(text: &[u8]) -> Option<Features>
     ensures value { result ≡ fit_of text.now }
 
@@ -81,11 +81,20 @@ pub fn parse_fit(text: &[u8]) -> Option<Features>
     // Nothing else is read.
     ensures exact { IfSome result (λ features. text.now ≡ fit_text features) }
 {
+    fit_of(text)
+}
+
+/// The features that follow FIT, with which a text begins.
+#[tactic(auto, unfolding(crate::specs::FitText::fit_of))]
+fn fit_of(text: &[u8]) -> Option<Features>
+    ensures { result ≡ fit_of text.now }
+{
     let rest = text.strip_prefix(b"FIT".as_slice())?;
     features_in(rest)
 }
 
 /// The features that follow FIT.
+#[tactic(auto, unfolding(crate::specs::FitText::features_in))]
 fn features_in(text: &[u8]) -> Option<Features>
     ensures { result ≡ features_in text.now }
 {
@@ -111,6 +120,7 @@ fn features_at(text: &[u8]) -> (Features, &[u8])
     let (bit_test, rest) = named(Feature::BitTest, rest);
     let (lengths, rest) = named(Feature::Lengths, rest);
     let (read_punch_release, rest) = named(Feature::ReadPunchRelease, rest);
+    let (tapes, rest) = named(Feature::Tapes, rest);
     let features = Features {
         multiply,
         move_record,
@@ -118,6 +128,7 @@ fn features_at(text: &[u8]) -> (Features, &[u8])
         bit_test,
         lengths,
         read_punch_release,
+        tapes,
     };
     (features, rest)
 }

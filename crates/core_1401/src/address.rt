@@ -1,5 +1,5 @@
 //! Addresses of three characters.
-ghost use Rattle.std.specs.Prelude.{◌≡◌, ◌<◌, ◌∷◌, [], true, slice_index};
+ghost use Rattle.std.specs.Prelude.{◌≡◌, ◌/◌, ◌<◌, ◌∷◌, [], true, slice_index};
 ghost use Rattle.bcd_1401.specs.Character.{zone_of};
 ghost use Rattle.core_1401.specs.Address.{addresses, value_of, spelling_of, is_spelled};
 
@@ -37,6 +37,7 @@ fn value_by_tables(h: Char, t: Char, u: Char) -> u16
 }
 
 /// The one spelling of an address below 16,000 with the digits 0 to 9 and without an index register.
+#[inline(always)]
 pub fn encode(address: u16) -> [Char; 3]
     requires { address < addresses }
     ensures spelling { result ≡ spelling_of address }
@@ -44,9 +45,22 @@ pub fn encode(address: u16) -> [Char; 3]
     // It is read again as the same address.
     ensures value { value_of (slice_index result 0) (slice_index result 1) (slice_index result 2) ≡ address }
 {
+    let address = u32::from(address);
+    let tens = tenth(address);
+    let hundreds = tenth(tens);
+    let thousands = tenth(hundreds);
     [
-        Char::of_digit((address / 100 % 10) as u8, (address / 1_000 % 4) as u8),
-        Char::of_digit((address / 10 % 10) as u8, 0),
-        Char::of_digit((address % 10) as u8, (address / 4_000) as u8),
+        Char::of_digit((hundreds - 10 * thousands) as u8, (thousands % 4) as u8),
+        Char::of_digit((tens - 10 * hundreds) as u8, 0),
+        Char::of_digit((address - 10 * tens) as u8, (thousands / 4) as u8),
     ]
+}
+
+/// A tenth, rounded down. By a product and a shift it takes the host less than by a division.
+#[inline(always)]
+fn tenth(n: u32) -> u32
+    requires { n < addresses }
+    ensures { result ≡ n / 10 }
+{
+    n * 52_429 / 524_288
 }

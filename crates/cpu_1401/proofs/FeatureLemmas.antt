@@ -242,6 +242,9 @@ fitted_features fitted.Multiply this s = field_features this s _
 fitted_features fitted.Divide this s = field_features this s _
 fitted_features fitted.MoveRecord this s = field_features this s _
 fitted_features fitted.ModifyAddress this s = field_features this s _
+fitted_features fitted.MoveTape this s = refl
+fitted_features fitted.LoadTape this s = refl
+fitted_features fitted.ControlTape this s = refl
 fitted_features fitted.NoLength this s = refl
 
 as_features : (found : Option Fitted) (s : State) → (step_as found s).state.features ≡ s.features

@@ -45,6 +45,9 @@ fitted_framed f fitted.Multiply this s unseen = field_framed f this s _
 fitted_framed f fitted.Divide this s unseen = field_framed f this s _
 fitted_framed f fitted.MoveRecord this s unseen = field_framed f this s _
 fitted_framed f fitted.ModifyAddress this s unseen = field_framed f this s _
+fitted_framed f fitted.MoveTape this s unseen = refl
+fitted_framed f fitted.LoadTape this s unseen = refl
+fitted_framed f fitted.ControlTape this s unseen = refl
 fitted_framed f fitted.NoLength this s unseen = refl
 
 as_framed : (f : Frame) (found : Option Fitted) (s : State) → IsUnseen f s

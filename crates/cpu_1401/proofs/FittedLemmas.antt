@@ -141,6 +141,19 @@ of_only features operation only len has kept =
       | inr none ↦ absurd (false≢true none)
     ]
 
+-- an operation that has one, four or seven characters
+of_to_two : (features : Features) (operation : Operation) (len : ℕ)
+    → list_any (λ each. each == len) (1 ∷ 4 ∷ 7 ∷ []) ≡ true → IsKept features operation 1 → IsKept features operation 4
+    → IsKept features operation 7 → IsKept features operation len
+of_to_two features operation len has at_one at_four at_seven =
+    elim (or_cases (1 == len) ((4 == len) || ((7 == len) || false)) has) [
+      | inl one ↦ subst (IsKept features operation) (eqb-true 1 len one) at_one
+      | inr more ↦ elim (or_cases (4 == len) ((7 == len) || false) more) [
+        | inl four ↦ subst (IsKept features operation) (eqb-true 4 len four) at_four
+        | inr seven ↦ of_only features operation 7 len seven at_seven
+      ]
+    ]
+
 of_halt : (features : Features) (len : ℕ) → has_length op.Halt len ≡ true → IsKept features op.Halt len
 of_halt features len has =
     elim (or_cases (1 == len) ((4 == len) || false) has) [
@@ -154,8 +167,8 @@ features_keep features op.Add len has = refl
 features_keep features op.Subtract len has = refl
 features_keep features op.ZeroAdd len has = refl
 features_keep features op.ZeroSubtract len has = refl
-features_keep features op.Move len has = refl
-features_keep features op.Load len has = refl
+features_keep features op.Move len has = of_to_two features op.Move len has refl refl refl
+features_keep features op.Load len has = of_to_two features op.Load len has refl refl refl
 features_keep features op.MoveDigit len has = refl
 features_keep features op.MoveZone len has = refl
 features_keep features op.SetWordMark len has = refl
@@ -219,6 +232,7 @@ none_has feature.ModifyAddress = refl
 none_has feature.BitTest = refl
 none_has feature.Lengths = refl
 none_has feature.ReadPunchRelease = refl
+none_has feature.Tapes = refl
 
 pub nothing_claimed : (graphic len : ℕ) → fitted_in no_features graphic len ≡ None
 nothing_claimed graphic len =

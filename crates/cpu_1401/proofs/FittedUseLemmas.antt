@@ -46,6 +46,9 @@ fitted_uses fitted.Multiply this s = field_uses this s _
 fitted_uses fitted.Divide this s = field_uses this s _
 fitted_uses fitted.MoveRecord this s = field_uses this s _
 fitted_uses fitted.ModifyAddress this s = field_uses this s _
+fitted_uses fitted.MoveTape this s = uses_none s.devices
+fitted_uses fitted.LoadTape this s = uses_none s.devices
+fitted_uses fitted.ControlTape this s = uses_none s.devices
 fitted_uses fitted.NoLength this s = uses_none s.devices
 
 as_uses : (found : Option Fitted) (s : State) → UsesOne s.devices (step_as found s).state.devices

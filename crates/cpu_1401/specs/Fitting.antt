@@ -21,6 +21,7 @@ use Rattle.cpu_1401.specs.RegisterStep.{after_store, stored}
 use Rattle.cpu_1401.specs.State.{State}
 use Rattle.cpu_1401.specs.Step.{step}
 use Rattle.cpu_1401.specs.Stepped.{Stepped, step_to, stopped}
+use Rattle.cpu_1401.specs.Tape.{control_letters, tape_stop, transfer_letters}
 use Rattle.machine_operations.specs.declared.fitted.Fitted.{Fitted}
 use Rattle.machine_operations.specs.declared.fitted.Fitted.TheVariants as fitted
 use Rattle.cpu_1401.specs.declared.instruction.Instruction.{Instruction}
@@ -37,7 +38,8 @@ after_second this s =
     })
     else stopped stop.Address s
 
--- What a feature makes of an instruction. A branch by bits has one character only on a machine with the lengths.
+-- What a feature makes of an instruction. A branch by bits has one character only on a machine with the lengths. This
+-- machine has no reels, so each tape operation stops it.
 abbrev pub perform_fitted : Fitted → Instruction → State → Stepped
 perform_fitted fitted.OnCell this s = keeping this.d (step s)
 perform_fitted fitted.OnBits this s = on_bits this s
@@ -54,6 +56,9 @@ perform_fitted fitted.Multiply this s = after_field this s (product_at s.storage
 perform_fitted fitted.Divide this s = after_field this s (quotient_at s.storage this.a this.b)
 perform_fitted fitted.MoveRecord this s = after_field this s (record_at s.storage this.a this.b)
 perform_fitted fitted.ModifyAddress this s = after_field this s (address_sum_at s.storage this.a this.b)
+perform_fitted fitted.MoveTape this s = stopped (tape_stop transfer_letters this s) s
+perform_fitted fitted.LoadTape this s = stopped (tape_stop transfer_letters this s) s
+perform_fitted fitted.ControlTape this s = stopped (tape_stop control_letters this s) s
 perform_fitted fitted.NoLength this s = stopped stop.Length s
 
 -- what a feature makes of the instruction at the I register; none if none claims it, or no instruction begins there

@@ -17,3 +17,4 @@ pub mod Addressing
 pub mod State
 pub mod Step
 pub mod Stepped
+pub mod Tape

@@ -36,6 +36,7 @@ carried_out_by stop.Overlap = 0
 carried_out_by stop.Carriage = 0
 carried_out_by stop.NotFitted = 0
 carried_out_by stop.DChar = 0
+carried_out_by stop.Tape = 0
 
 -- a run that ends with a step, which stops the machine
 abbrev pub ended_by : State → Stop → Finished

@@ -18,6 +18,7 @@ use crate::instruction::Instruction;
 use crate::machine::Machine;
 use crate::marking::{divide_there, multiply_there};
 use crate::register_steps::put_address;
+use crate::tape::{CONTROL_LETTERS, TRANSFER_LETTERS};
 use bcd_1401::Char;
 use core_1401::ADDRESSES;
 use fields_1401::step_down;
@@ -183,6 +184,8 @@ impl Machine {
                 let outcome = modify_address(&mut self.core, this.a, this.b);
                 self.after_field(this, outcome)
             }
+            Fitted::MoveTape | Fitted::LoadTape => Some(self.tape_stop(TRANSFER_LETTERS, this)),
+            Fitted::ControlTape => Some(self.tape_stop(CONTROL_LETTERS, this)),
             Fitted::NoLength => Some(Stop::Length),
         }
     }

@@ -40,6 +40,7 @@ mod field_steps;
 mod io_request;
 mod marking;
 mod register_steps;
+pub mod tape;
 
 pub use fetched::{InstructionCells, instruction_cells};
 pub use fitting::fitting_law;
@@ -47,3 +48,4 @@ pub use frame::step_law;
 pub use machine::Machine;
 pub use machine_panel::{Feature, Features, Regs, Stop, SwitchName};
 pub use running::Ran;
+pub use tape::{CONTROL_LETTERS, TRANSFER_LETTERS, is_tape_letter, tape_unit_at};

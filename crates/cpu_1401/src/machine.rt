@@ -1,5 +1,6 @@
 //! The machine: core storage, registers, indicators, sense switches, and its devices.
 ghost use Rattle.std.specs.Prelude.{◌≡◌, ◌<◌, ◌↔◌, false, length, IfOk};
+ghost use Rattle.core_1401.specs.Address.{addresses};
 ghost use Rattle.core_1401.specs.Storage.{is_core_size};
 ghost use Rattle.cpu_1401.specs.State.{IsInRange, fitted_with, power_on, regs_of, with_cell, with_switch};
 ghost use Rattle.devices_1401.specs.Movement.{pending_of};
@@ -168,6 +169,18 @@ impl Machine {
     {
         prove!(at < self.core.size());
         self.i = at;
+    }
+
+    /// Sets the registers to addresses.
+    pub fn set_registers(&mut self, i: u16, a: u16, b: u16)
+        requires i { i < addresses }
+        requires a { a < addresses }
+        requires b { b < addresses }
+        ensures { self.new ≡ record self.old { i = i; a = a; b = b } }
+    {
+        self.i = i;
+        self.a = a;
+        self.b = b;
     }
 
     /// Puts a cell at a place, with its word mark or without one.

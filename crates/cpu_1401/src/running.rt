@@ -65,6 +65,7 @@ fn carried_out(stop: Stop) -> u32
         | Stop::Overlap
         | Stop::Carriage
         | Stop::NotFitted
-        | Stop::DChar => 0,
+        | Stop::DChar
+        | Stop::Tape => 0,
     }
 }

@@ -1,20 +1,21 @@
--- A job: a machine that nobody attends, whose paper and punched cards are taken out at each step (own).
+-- A job: a machine with its tape units that nobody attends, whose paper and punched cards are taken out at each step (own).
 use Rattle.std.specs.Prelude.{◌≡◌, ℕ, ◌+◌, zero, suc, Bool, IsTrue, List, [], ◌++◌, Option, None, Some}
 use Rattle.devices_1401.specs.declared.card.Card.{Card}
 use Rattle.devices_1401.specs.declared.print_line.PrintLine.{PrintLine}
 use Rattle.machine_panel.specs.declared.stop.Stop.{Stop}
 use Rattle.machine_panel.specs.declared.stop.Stop.TheVariants as stop
-use Rattle.cpu_1401.specs.CardsAndPrinter.{with_devices}
+use Rattle.cpu_1401.specs.CardsAndPrinter.{load, with_devices}
 use Rattle.cpu_1401.specs.Run.{carried_out_by}
 use Rattle.cpu_1401.specs.State.{State}
-use Rattle.cpu_1401.specs.Fitting.{fitted_step}
+use Rattle.machine_tapes.specs.TapedStep.{taped_step}
+use Rattle.machine_tapes.specs.declared.taped_machine.TapedMachine.{TapedMachine}
 use Rattle.job_runner.specs.declared.fault.JobFault.{JobFault}
 use Rattle.job_runner.specs.declared.fault.JobFault.TheVariants as fault
 
--- the end of a job: the machine, how many instructions were carried out, why it ended, and all lines and punched
+-- the end of a job: the machine with its tape units, how many instructions were carried out, why it ended, and all lines and punched
 -- cards, oldest first
 pub record Job : Type 0 where
-  pub state : State
+  pub state : TapedMachine
   pub steps : ℕ
   pub stop : Stop
   pub lines : List PrintLine
@@ -24,19 +25,37 @@ pub record Job : Type 0 where
 abbrev pub emptied : State → State
 emptied s = with_devices (record s.devices { stacker = []; paper = [] }) s
 
+-- a machine with a deck below the cards in its hopper, of any length
+abbrev pub with_deck : List Card → State → State
+with_deck deck s = with_devices (record s.devices { hopper = s.devices.hopper ++ deck }) s
+
+-- both of a machine with its tape units
+abbrev pub taped_emptied : TapedMachine → TapedMachine
+taped_emptied t = record t { machine = emptied t.machine }
+
+abbrev pub taped_with_deck : List Card → TapedMachine → TapedMachine
+taped_with_deck deck t = record t { machine = with_deck deck t.machine }
+
+-- the load key pressed
+abbrev pub taped_load : TapedMachine → TapedMachine
+taped_load t = record t { machine = load t.machine }
+
 -- what was on the paper and in the stacker goes out first
-abbrev pub taken_first : State → Job → Job
-taken_first s job = record job { lines = s.devices.paper ++ job.lines; cards = s.devices.stacker ++ job.cards }
+abbrev pub taken_first : TapedMachine → Job → Job
+taken_first t job = record job {
+  lines = t.machine.devices.paper ++ job.lines;
+  cards = t.machine.devices.stacker ++ job.cards;
+}
 
 -- nothing more is carried out
-abbrev pub ended : ℕ → Stop → State → Job
-ended steps why s =
+abbrev pub ended : ℕ → Stop → TapedMachine → Job
+ended steps why t =
     record {
-      state = emptied s;
+      state = taped_emptied t;
       steps = steps;
       stop = why;
-      lines = s.devices.paper;
-      cards = s.devices.stacker;
+      lines = t.machine.devices.paper;
+      cards = t.machine.devices.stacker;
     }
 
 -- instructions that were carried out before
@@ -44,19 +63,15 @@ abbrev pub after_steps : ℕ → Job → Job
 after_steps steps job = record job { steps = steps + job.steps }
 
 -- a job goes on after a step that doesn't stop the machine
-abbrev pub go_on : Option Stop → State → (State → Job) → Job
-go_on None s more = after_steps 1 (more s)
-go_on (Some why) s more = ended (carried_out_by why) why s
+abbrev pub go_on : Option Stop → TapedMachine → (TapedMachine → Job) → Job
+go_on None t more = after_steps 1 (more t)
+go_on (Some why) t more = ended (carried_out_by why) why t
 
 -- paper and stacker emptied, then a step, until the first stop or the limit
-unfoldable pub unattended : ℕ → State → Job
-unattended zero s = ended 0 stop.Limit s
-unattended (suc limit) s =
-    taken_first s (go_on (fitted_step (emptied s)).stop (fitted_step (emptied s)).state (unattended limit))
-
--- a machine with a deck below the cards in its hopper, of any length
-abbrev pub with_deck : List Card → State → State
-with_deck deck s = with_devices (record s.devices { hopper = s.devices.hopper ++ deck }) s
+unfoldable pub unattended : ℕ → TapedMachine → Job
+unattended zero t = ended 0 stop.Limit t
+unattended (suc limit) t =
+    taken_first t (go_on (taped_step (taped_emptied t)).stop (taped_step (taped_emptied t)).taped (unattended limit))
 
 -- a job with what was written and carried out before it
 abbrev pub after_output : List PrintLine → List Card → ℕ → Job → Job
@@ -83,19 +98,19 @@ abbrev pub after_job : Job → Job → Job
 after_job first then_job = after_output first.lines first.cards first.steps then_job
 
 -- a job of more steps goes on from this one's end
-abbrev pub GoesOn : ℕ → State → Type 0
-GoesOn limit s =
-    (more : ℕ) → unattended (limit + more) s
-    ≡ after_job (unattended limit s) (unattended more (unattended limit s).state)
+abbrev pub GoesOn : ℕ → TapedMachine → Type 0
+GoesOn limit t =
+    (more : ℕ) → unattended (limit + more) t
+    ≡ after_job (unattended limit t) (unattended more (unattended limit t).state)
 
 -- a job of more steps is this one
-abbrev pub AtEnd : ℕ → State → Type 0
-AtEnd limit s = (more : ℕ) → unattended (limit + more) s ≡ unattended limit s
+abbrev pub AtEnd : ℕ → TapedMachine → Type 0
+AtEnd limit t = (more : ℕ) → unattended (limit + more) t ≡ unattended limit t
 
 -- the lines and cards of a job of more steps begin with those of this one
-abbrev pub Begins : ℕ → State → Type 0
-Begins limit s =
-    (more : ℕ) → IsPartOf (unattended limit s).lines (unattended limit s).cards (unattended (limit + more) s)
+abbrev pub Begins : ℕ → TapedMachine → Type 0
+Begins limit t =
+    (more : ℕ) → IsPartOf (unattended limit t).lines (unattended limit t).cards (unattended (limit + more) t)
 
 -- whether a read of the deck and a write of what comes out have failed
 pub record Failed : Type 0 where

@@ -1,10 +1,10 @@
-//! A deck run to its end on the IBM 1401: cards in, paper and punched cards out, and no operator.
+//! A deck run to its end on the IBM 1401 with its tape units: cards in, paper and punched cards out, and no operator.
 //!
 //! ```text
 //! let read = read_deck(alloc, text)?;     // a card from each line
 //! let mut deck = Deck::new(&read.cards);
 //! let mut output = Collected::new(alloc);
-//! run_job(&mut machine, &mut deck, 1_000_000, &mut output)?   // the steps, and why it ended
+//! run_job(&mut taped, &mut deck, 1_000_000, &mut output)?   // the steps, and why it ended
 //! output.lines                            // all that was printed, however much
 //! ```
 //!

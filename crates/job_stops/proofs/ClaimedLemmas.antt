@@ -64,6 +64,9 @@ is_as_said (graphic, lengths, feature, fitted.Multiply) = true
 is_as_said (graphic, lengths, feature, fitted.Divide) = true
 is_as_said (graphic, lengths, feature, fitted.MoveRecord) = true
 is_as_said (graphic, lengths, feature, fitted.ModifyAddress) = true
+is_as_said (graphic, lengths, feature, fitted.MoveTape) = true
+is_as_said (graphic, lengths, feature, fitted.LoadTape) = true
+is_as_said (graphic, lengths, feature, fitted.ControlTape) = true
 is_as_said (graphic, lengths, feature, fitted.NoLength) = true
 
 -- the row by which a feature claims an instruction

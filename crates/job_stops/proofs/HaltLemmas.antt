@@ -1,4 +1,4 @@
--- The machine that a halt leaves, and the address that is told of it.
+-- The machine that a halt leaves, and the address that is reported of it.
 use Rattle.std.proofs.Common.{◌≡◌, ◌≤◌, ◌<◌, ◌⊎◌, inl, inr, ℕ, ◌+◌, ◌-◌, ◌%◌, ◌==◌, ◌&&◌, not, Bool, true, false}
 use Rattle.std.proofs.Common.{List, length, drop, refl, sym, ◌∙◌, ap, subst, arith}
 use Rattle.std.proofs.lemmas.Bool.{and_from, and_parts, eq-eqb, eqb-true, ltb-true}
@@ -56,8 +56,10 @@ use Rattle.cpu_1401.specs.RegisterStep.{after_store}
 use Rattle.cpu_1401.specs.State.{State}
 use Rattle.cpu_1401.specs.Step.{check_length, check_operation, perform, step}
 use Rattle.cpu_1401.specs.Stepped.{Stepped, stopped}
+use Rattle.cpu_1401.specs.Tape.{control_letters, is_letter, tape_stop_by, transfer_letters, unit_at}
 use Rattle.cpu_1401.specs.declared.instruction.Instruction.{Instruction}
 use Rattle.cpu_1401.specs.declared.io_request.IoRequest.{IoRequest}
+use Rattle.machine_operations.specs.declared.tape_unit.TapeUnit.{TapeUnit}
 use Rattle.cpu_1401.proofs.FittedLemmas.{meaning_is}
 use Rattle.job_stops.specs.Halting.{after_halt, halted_at, has_branched, is_halt_to, is_taken_for_another}
 use Rattle.job_stops.specs.Halting.{length_before, told_of_halt}
@@ -81,6 +83,7 @@ is_halt (Some stop.Overlap) = false
 is_halt (Some stop.Carriage) = false
 is_halt (Some stop.NotFitted) = false
 is_halt (Some stop.DChar) = false
+is_halt (Some stop.Tape) = false
 
 record NoHalt (why : Option Stop) : Type 0 where
   no : is_halt why ≡ false
@@ -185,6 +188,12 @@ perform_goes op.WriteAndPunch this s =
 perform_goes op.WriteReadAndPunch this s = inl (cards_go (asks all_three s.storage) (beyond_last all_three) this s)
 perform_goes op.ControlCarriage this s = inl (control_goes this s (controlled s.devices.carriage this.d))
 
+-- no tape operation halts
+tape_goes : (unit : Option TapeUnit) (known : Bool) (s : State) → GoesOn (stopped (tape_stop_by unit known) s)
+tape_goes None known s = record { no = refl }
+tape_goes (Some unit) true s = record { no = refl }
+tape_goes (Some unit) false s = record { no = refl }
+
 -- what a feature makes of an instruction ends with a halt if it is one, or if the step of a branch by a cell does
 fitted_goes : (made : Fitted) (this : Instruction) (s : State)
     → GoesOn (perform_fitted made this s) ⊎ ((made ≡ fitted.Halt) ⊎ (made ≡ fitted.OnCell))
@@ -206,6 +215,12 @@ fitted_goes fitted.Multiply this s = inl (field_goes this s (product_at s.storag
 fitted_goes fitted.Divide this s = inl (field_goes this s (quotient_at s.storage this.a this.b))
 fitted_goes fitted.MoveRecord this s = inl (field_goes this s (record_at s.storage this.a this.b))
 fitted_goes fitted.ModifyAddress this s = inl (field_goes this s (address_sum_at s.storage this.a this.b))
+fitted_goes fitted.MoveTape this s =
+    inl (tape_goes (unit_at s.storage (s.i + 1)) (is_letter this.d transfer_letters) s)
+fitted_goes fitted.LoadTape this s =
+    inl (tape_goes (unit_at s.storage (s.i + 1)) (is_letter this.d transfer_letters) s)
+fitted_goes fitted.ControlTape this s =
+    inl (tape_goes (unit_at s.storage (s.i + 1)) (is_letter this.d control_letters) s)
 fitted_goes fitted.NoLength this s = inl (record { no = refl })
 
 -- a check that ended with a halt was passed
@@ -370,7 +385,7 @@ choose c d x y z w is_so is_none e = rw (is_so, is_none) e
 same_choice : (c d : Bool) (x y z : ℕ) → d ≡ c → y ≡ z → (if c then x else y) ≡ (if d then x else z)
 same_choice c d x y z same e = rw (same, e) refl
 
--- what is told of a machine that was left so
+-- what is reported of a machine that was left so
 abbrev Told : State → State → Type 0
 Told s after = halted_at after ≡ told_of_halt s
 

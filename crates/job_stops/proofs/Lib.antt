@@ -3,3 +3,4 @@ pub mod HaltLemmas
 mod ProductReasonLemmas
 mod StopLemmas
 pub mod ToldLemmas
+mod TapeLemmas

@@ -1,7 +1,7 @@
 -- What the parts of a step stop for.
-use Rattle.std.proofs.Common.{◌≡◌, ◌≢◌, ℕ, ◌+◌, ◌-◌, ◌==◌, Bool, true, false, refl, sym, ap, ◌∙◌}
+use Rattle.std.proofs.Common.{◌≡◌, ◌≢◌, ℕ, ◌+◌, ◌-◌, ◌==◌, Bool, true, false, refl, subst, sym, ap, ◌∙◌}
 use Rattle.std.proofs.lemmas.Bool.{ne_eqb}
-use Rattle.std.specs.Prelude.{slice_index, Option, None, Some, Result, Ok, Err, if◌then◌else◌}
+use Rattle.std.specs.Prelude.{slice_index, IfSome, Option, None, Some, Result, Ok, Err, if◌then◌else◌}
 use Rattle.std.specs.Option.{option_map}
 use Rattle.std.specs.Result.{result_err}
 use Rattle.bcd_1401.specs.Graphic.{graphics}
@@ -13,6 +13,7 @@ use Rattle.devices_1401.specs.declared.fault.ControlFault.{ControlFault}
 use Rattle.fields_1401.specs.declared.done.Done.{Done}
 use Rattle.fields_1401.specs.declared.done.FieldStop.{FieldStop}
 use Rattle.fields_1401.specs.declared.done.FieldStop.TheVariants as field
+use Rattle.fields_1401.specs.Load.{has_places}
 use Rattle.fields_1401.specs.Marks.{clear_down_at, cleared, hundred_of}
 use Rattle.fields_1401.specs.Outcome.{Outcome, below_by, registers_of, stop_of}
 use Rattle.machine_operations.specs.Operation.{meaning_of, operation_of}
@@ -23,12 +24,14 @@ use Rattle.cpu_1401.specs.Branch.{after_branch, branch_if, branch_on_cell, branc
 use Rattle.cpu_1401.specs.CardsAndPrinter.{after_control, control_stop, unless_hindered}
 use Rattle.cpu_1401.specs.FieldStep.{after_clear, after_comparison, after_field}
 use Rattle.cpu_1401.specs.Instruction.{instruction_of}
+use Rattle.cpu_1401.specs.RegisterStep.{after_store}
 use Rattle.cpu_1401.specs.State.{State}
 use Rattle.cpu_1401.specs.Stepped.{step_to, stopped}
 use Rattle.cpu_1401.specs.declared.instruction.Instruction.{Instruction}
-use Rattle.job_stops.specs.FieldReason.{field_stop}
-use Rattle.job_stops.specs.Reason.{stop_named}
-use Rattle.job_stops.specs.Said.{b_of, performed_stop}
+use Rattle.job_stops.specs.FieldReason.{IsFieldSo, address_of, field_stop}
+use Rattle.job_stops.specs.Reason.{IsSoOf, stop_named}
+use Rattle.job_stops.specs.Said.{a_of, b_of, performed_stop, said_with}
+use Rattle.job_stops.specs.declared.field_reason.Operand.TheVariants as operand
 use Rattle.job_stops.specs.declared.field_reason.FieldReason.{FieldReason}
 use Rattle.job_stops.specs.declared.reason.Reason.{Reason}
 use Rattle.job_stops.specs.declared.reason.Reason.TheVariants as reason
@@ -126,3 +129,54 @@ branch_told s char len b core why told is four five e_core e_b e_told e_why =
     ∙ outside_stops (is_in_core s.storage at)
     (cleared s.storage at (at + 1 - hundred_of at), registers_of at (below_by (hundred_of at) 1))
     ∙ sym (branch_performed s char len is four five)
+
+-- what a reason says of the operands at these addresses, it says of the instruction with them
+pub fields_so : (this : Instruction) (s : State) (core : Storage) (a b : ℕ) (why : Option FieldReason)
+    (told : Option Reason) → core ≡ s.storage → a ≡ this.a → b ≡ this.b → told ≡ option_map reason.Fields why
+    → IfSome why (IsFieldSo core a b) → IfSome told (IsSoOf this s)
+fields_so this s core a b None told e_core e_a e_b e_told so =
+    subst (λ (each : Option Reason). IfSome each (IsSoOf this s)) (sym e_told) tt
+fields_so this s core a b (Some why) told e_core e_a e_b e_told so =
+    subst (λ (each : Option Reason). IfSome each (IsSoOf this s)) (sym e_told)
+    (subst (λ (storage : Storage). IsFieldSo storage this.a this.b why) e_core
+    (subst (λ (at : ℕ). IsFieldSo core at this.b why) e_a (subst (λ (at : ℕ). IsFieldSo core a at why) e_b so)))
+
+pub said_so : (s : State) (char len graphic : ℕ) (core : Storage) (a b : ℕ) (why : Option FieldReason)
+    (told : Option Reason) → slice_index graphics char ≡ graphic → core ≡ s.storage
+    → a ≡ (said_with (meaning_of graphic) len s).a → b ≡ (said_with (meaning_of graphic) len s).b
+    → told ≡ option_map reason.Fields why → IfSome why (IsFieldSo core a b)
+    → IfSome told (IsSoOf (said_with (operation_of char) len s) s)
+said_so s char len graphic core a b why told is e_core e_a e_b e_told so =
+    subst (λ (each : ℕ). IfSome told (IsSoOf (said_with (meaning_of each) len s) s)) (sym is)
+    (fields_so (said_with (meaning_of graphic) len s) s core a b why told e_core e_a e_b e_told so)
+
+-- registers that are stored stop if there aren't three places
+store_stops : (register : ℕ) (this : Instruction) (s : State)
+    → (after_store register this s).stop ≡ (if has_places s.storage this.a 3 then None else Some stop.Address)
+store_stops register this s = refused_stops (has_places s.storage this.a 3) _ s stop.Address
+
+few_places : (b : Bool) → option_map stop_of (let why : Option FieldStop = if b then None else Some field.Address in why)
+    ≡ (if b then None else Some stop.Address)
+few_places true = refl
+few_places false = refl
+
+pub store_told : (register : ℕ) (this : Instruction) (s : State) (core : Storage) (a b : ℕ) (why : Option FieldReason)
+    (told : Option Reason) → core ≡ s.storage → a ≡ this.a → told ≡ option_map reason.Fields why
+    → option_map field_stop why ≡ (if has_places core (address_of operand.A a b) 3 then None else Some field.Address)
+    → option_map stop_named told ≡ (after_store register this s).stop
+store_told register this s core a b why told e_core e_a e_told e_why =
+    ap (λ (found : Option Reason). option_map stop_named found) e_told ∙ named_of_fields why
+    ∙ ap (λ (found : Option FieldStop). option_map stop_of found) e_why
+    ∙ few_places (has_places core a 3)
+    ∙ ap (λ (storage : Storage). let why : Option Stop = if has_places storage a 3 then None else Some stop.Address in why) e_core
+    ∙ ap (λ (at : ℕ). let why : Option Stop = if has_places s.storage at 3 then None else Some stop.Address in why) e_a
+    ∙ sym (store_stops register this s)
+
+pub store_performed : (s : State) (char len : ℕ) (core : Storage) (a b : ℕ) (why : Option FieldReason)
+    (told : Option Reason) → slice_index graphics char ≡ 81 → core ≡ s.storage → a ≡ a_of len s
+    → told ≡ option_map reason.Fields why
+    → option_map field_stop why ≡ (if has_places core (address_of operand.A a b) 3 then None else Some field.Address)
+    → option_map stop_named told ≡ performed_stop (operation_of char) len s
+store_performed s char len core a b why told is e_core e_a e_told e_why =
+    store_told s.a (instruction_of op.StoreA len s) s core a b why told e_core e_a e_told e_why
+    ∙ ap (λ (graphic : ℕ). performed_stop (meaning_of graphic) len s) (sym is)

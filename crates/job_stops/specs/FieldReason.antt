@@ -19,7 +19,7 @@ abbrev pub address_of : Operand → ℕ → ℕ → ℕ
 address_of operand.A a b = a
 address_of operand.B a b = b
 
--- the stop that a reason is told as
+-- the stop that a reason is reported as
 abbrev pub field_stop : FieldReason → FieldStop
 field_stop (reason.NotInCore which at) = stop.Address
 field_stop (reason.NoFieldMark which at) = stop.Address

@@ -46,6 +46,6 @@ is_taken_for_another s =
     not (length_at s.storage op.Halt s.i == halt_and_branch_length) && (s.a == after_halt s)
     && is_halt_to s.storage (below_by s.b halt_and_branch_length) (after_halt s)
 
--- the address that is told of a halt at the I register, once it was carried out: its own, but for that one case
+-- the address that is reported of a halt at the I register, once it was carried out: its own, but for that one case
 abbrev pub told_of_halt : State → ℕ
 told_of_halt s = if is_taken_for_another s then below_by s.b halt_and_branch_length else s.i

@@ -3,3 +3,4 @@ pub mod Halting
 pub mod Reason
 pub mod Said
 pub mod Told
+pub mod TapeReason

@@ -1,5 +1,6 @@
 -- Why the next step stops the machine, with the places (own).
-use Rattle.std.specs.Prelude.{◌≡◌, ◌==◌, true, false, length, Option, Some, None, slice_index, if◌then◌else◌}
+use Rattle.std.specs.Prelude.{◌≡◌, ◌+◌, ◌==◌, true, false, length, Option, Some, None, slice_index, if◌then◌else◌}
+use Rattle.std.specs.Option.{option_map}
 use Rattle.bcd_1401.specs.Graphic.{graphics}
 use Rattle.core_1401.specs.Storage.{cell_at, is_in_core}
 use Rattle.devices_1401.specs.Control.{line_of_channel, low_of}
@@ -12,13 +13,15 @@ use Rattle.machine_operations.specs.Fitted.{is_fitted_with}
 use Rattle.machine_operations.specs.Operation.{is_unfitted, operation_of}
 use Rattle.cpu_1401.specs.Fitting.{fitted_at}
 use Rattle.cpu_1401.specs.State.{State}
+use Rattle.cpu_1401.specs.Tape.{unit_at}
+use Rattle.machine_operations.specs.declared.tape_unit.TapeUnit.{TapeUnit}
 use Rattle.fields_1401.specs.Outcome.{stop_of}
 use Rattle.job_stops.specs.declared.reason.Reason.{Reason}
 use Rattle.job_stops.specs.declared.reason.Reason.TheVariants as reason
 use Rattle.job_stops.specs.FieldReason.{IsFieldSo, field_stop}
 use Rattle.job_stops.specs.Said.{char_of, is_unfitted_at, len_of, said_by}
 
--- the stop that a reason is told as
+-- the stop that a reason is reported as
 abbrev pub stop_named : Reason → Stop
 stop_named reason.Halt = stop.Halt
 stop_named reason.NoCard = stop.Reader
@@ -33,8 +36,17 @@ stop_named (reason.NoSuchLength char len) = stop.Length
 stop_named (reason.Fields why) = stop_of (field_stop why)
 stop_named (reason.NoHole channel) = stop.Carriage
 stop_named (reason.UnknownD char d) = stop.DChar
+stop_named reason.NoUnit = stop.NotFitted
+stop_named (reason.NoReel unit) = stop.Tape
+stop_named (reason.Unloaded unit) = stop.Tape
+stop_named (reason.NoRing unit) = stop.Tape
+stop_named (reason.NoRecord unit after) = stop.Tape
+stop_named (reason.NoRoom unit after) = stop.Tape
+stop_named (reason.NoGroupMark at) = stop.Address
+stop_named (reason.EmptyRecord at) = stop.Address
+stop_named (reason.BeyondCore at) = stop.Address
 
--- what a reason says of an instruction is so
+-- what a reason says of an instruction of a machine without reels is so
 abbrev pub IsSoOf : Instruction → State → Reason → Type 0
 IsSoOf this s reason.Halt = operation_of (char_of s) ≡ Some op.Halt
 IsSoOf this s reason.NoCard = length s.devices.hopper ≡ 0
@@ -54,6 +66,15 @@ IsSoOf this s (reason.NoSuchLength char len) =
 IsSoOf this s (reason.Fields why) = IsFieldSo s.storage this.a this.b why
 IsSoOf this s (reason.NoHole channel) = (channel ≡ low_of this.d) × (line_of_channel channel ≡ None)
 IsSoOf this s (reason.UnknownD char d) = (char ≡ char_of s) × (d ≡ this.d)
+IsSoOf this s reason.NoUnit = unit_at s.storage (s.i + 1) ≡ None
+IsSoOf this s (reason.NoReel unit) = option_map (λ (named : TapeUnit). named.number) (unit_at s.storage (s.i + 1)) ≡ Some unit
+IsSoOf this s (reason.Unloaded unit) = ⊥
+IsSoOf this s (reason.NoRing unit) = ⊥
+IsSoOf this s (reason.NoRecord unit after) = ⊥
+IsSoOf this s (reason.NoRoom unit after) = ⊥
+IsSoOf this s (reason.NoGroupMark at) = ⊥
+IsSoOf this s (reason.EmptyRecord at) = ⊥
+IsSoOf this s (reason.BeyondCore at) = ⊥
 
 -- what a reason says of the machine is so
 abbrev pub IsSo : State → Reason → Type 0

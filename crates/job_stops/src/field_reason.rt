@@ -71,7 +71,7 @@ impl Operand {
 }
 
 impl FieldReason {
-    /// The stop that it is told as.
+    /// The stop that it is reported as.
     pub fn stop(self) -> FieldStop
         ensures { result ≡ field_stop self }
     {

@@ -37,7 +37,7 @@ pub fn halt_address(machine: &Machine) -> u16
     address_by_registers(machine)
 }
 
-/// The address that I, or A and B, tell of the last halt.
+/// The address that I, or A and B, report of the last halt.
 fn address_by_registers(machine: &Machine) -> u16
     ensures { result ≡ halted_at machine.now }
 {

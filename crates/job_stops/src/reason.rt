@@ -29,7 +29,7 @@ pub enum Reason {
     NotFitted { char: Char },
     /// The operation at this length, in characters, belongs to a feature that this machine hasn't got.
     NotFittedAt { char: Char, len: u16 },
-    /// The operation has no instruction of this length, in characters; 8 is told if there are more.
+    /// The operation has no instruction of this length, in characters; 8 is reported if there are more.
     NoSuchLength { char: Char, len: u16 },
     /// The operands can't be used.
     Fields(FieldReason),
@@ -37,10 +37,28 @@ pub enum Reason {
     NoHole { channel: u8 },
     /// The d-character means nothing to the operation.
     UnknownD { char: Char, d: Char },
+    /// No tape unit has the name that the instruction has for one.
+    NoUnit,
+    /// The tape unit with this number, 1 to 6, has no reel.
+    NoReel { unit: u8 },
+    /// The reel on this tape unit was unloaded.
+    Unloaded { unit: u8 },
+    /// The reel on this tape unit has no ring, so it can't be written.
+    NoRing { unit: u8 },
+    /// The reel on this tape unit has no record after this many that were passed.
+    NoRecord { unit: u8, after: usize },
+    /// The reel on this tape unit has no room for a record after this many that were passed.
+    NoRoom { unit: u8, after: usize },
+    /// No group mark with a word mark ends the record that is to be written from here up.
+    NoGroupMark { at: u16 },
+    /// The record that is to be written from here up has no characters.
+    EmptyRecord { at: u16 },
+    /// The record that is to be read to the places from here up doesn't fit in core.
+    BeyondCore { at: u16 },
 }
 
 impl Reason {
-    /// The stop that it is told as.
+    /// The stop that it is reported as.
     pub fn stop(self) -> Stop
         ensures { result ≡ stop_named self }
     {
@@ -58,6 +76,11 @@ impl Reason {
             Reason::Fields(why) => Stop::from(why.stop()),
             Reason::NoHole { .. } => Stop::Carriage,
             Reason::UnknownD { .. } => Stop::DChar,
+            Reason::NoUnit => Stop::NotFitted,
+            Reason::NoReel { .. } | Reason::Unloaded { .. } | Reason::NoRing { .. } => Stop::Tape,
+            Reason::NoRecord { .. } | Reason::NoRoom { .. } => Stop::Tape,
+            Reason::NoGroupMark { .. } | Reason::EmptyRecord { .. } => Stop::Address,
+            Reason::BeyondCore { .. } => Stop::Address,
         }
     }
 }
@@ -131,6 +154,35 @@ impl fmt::Display for Reason {
                     Shown(char)
                 )
             }
+            Reason::NoUnit => f.write_str("no tape unit has this name"),
+            Reason::NoReel { unit } => write!(f, "tape unit {unit} has no reel"),
+            Reason::Unloaded { unit } => write!(f, "tape unit {unit} was unloaded"),
+            Reason::NoRing { unit } => write!(f, "the reel on tape unit {unit} has no ring"),
+            Reason::NoRecord { unit, after: 0 } => write!(
+                f,
+                "the reel on tape unit {unit} has no record"
+            ),
+            Reason::NoRecord { unit, after } => write!(
+                f,
+                "no record follows record {after} on tape unit {unit}"
+            ),
+            Reason::NoRoom { unit, after: 0 } => write!(
+                f,
+                "the reel on tape unit {unit} has no room for the record"
+            ),
+            Reason::NoRoom { unit, after } => write!(
+                f,
+                "the reel on tape unit {unit} has no room after record {after}"
+            ),
+            Reason::NoGroupMark { at } => write!(
+                f,
+                "no group mark with a word mark from {at:03} up"
+            ),
+            Reason::EmptyRecord { at } => write!(f, "the record to write from {at:03} is empty"),
+            Reason::BeyondCore { at } => write!(
+                f,
+                "the record to read to {at:03} doesn't fit in core"
+            ),
         }
     }
 }

@@ -1,5 +1,5 @@
 //! Why the next step stops the machine.
-ghost use Rattle.std.specs.Prelude.{◌≡◌, ◌≢◌, ◌⊎◌, ◌+◌, ◌-◌, ◌<◌, ◌≤◌, true, false, length, None, Some, IfSome};
+ghost use Rattle.std.specs.Prelude.{◌≡◌, ◌≢◌, ◌+◌, ◌-◌, ◌<◌, ◌≤◌, true, false, length, None, Some, IfSome};
 ghost use Rattle.std.specs.Option.{option_map};
 ghost use Rattle.core_1401.specs.Address.{addresses};
 ghost use Rattle.core_1401.specs.Storage.{cell_at};
@@ -9,9 +9,10 @@ ghost use Rattle.cpu_1401.specs.Fitting.{fitted_at, fitted_instruction, fitted_s
 ghost use Rattle.cpu_1401.specs.Instruction.{begins_at, instruction_of};
 ghost use Rattle.machine_operations.specs.Operation.{operation_of};
 ghost use Rattle.cpu_1401.specs.Step.{check_operation};
+ghost use Rattle.cpu_1401.specs.Tape.{tape_stop};
 ghost use Rattle.job_stops.specs.declared.reason.Reason.TheVariants as AReason;
 ghost use Rattle.job_stops.specs.Reason.{IsSo, IsSoOf, stop_named};
-ghost use Rattle.job_stops.specs.Told.{IsReasonFor, IsTold};
+ghost use Rattle.job_stops.specs.Told.{IsKept, IsTold, IsToldOf};
 ghost use Rattle.job_stops.specs.Said.{a_of, b_of, char_of, len_of};
 ghost use Rattle.job_stops.specs.Said.{performed_stop, said_with};
 
@@ -28,7 +29,7 @@ use crate::halting::instruction_len;
 use crate::products::{address_sum_reason, product_reason, quotient_reason, record_reason};
 use crate::reason::Reason;
 use bcd_1401::Char;
-use cpu_1401::{Machine, Stop};
+use cpu_1401::{CONTROL_LETTERS, Machine, Stop, TRANSFER_LETTERS, is_tape_letter, tape_unit_at};
 use devices_1401::ControlFault;
 use machine_operations::{Fitted, Operation, fitted_in, is_unfitted};
 
@@ -73,20 +74,28 @@ pub fn reason_told(machine: &Machine, stop: Stop) -> Option<Reason>
     ensures stop { IfSome result (λ why. stop_named why ≡ stop) }
 
     // For a stop of the instruction there is a reason exactly if the next step has this stop, and then it is so.
-    ensures told { IsTold machine.now stop result }
+    ensures told { IsTold (fitted_step machine.now).stop (IsSo machine.now) stop result }
+{
+    let found = stop_reason(machine);
+    told_of(&found, stop)
+}
+
+/// What is reported of this stop, if this is why the next step stops the machine.
+pub(crate) fn told_of(found: &Option<Reason>, stop: Stop) -> Option<Reason>
+    ensures { IsToldOf stop found.now result }
 {
     match stop {
         Stop::Halt | Stop::Limit => None,
         Stop::Reader => Some(Reason::NoCard),
         Stop::Forms => Some(Reason::PaperFull),
         Stop::Stacker => Some(Reason::StackerFull),
-        Stop::NoMark | Stop::OpCode | Stop::Length => reason_of_step(machine, stop),
-        Stop::Address | Stop::Overlap | Stop::Carriage => reason_of_step(machine, stop),
-        Stop::NotFitted | Stop::DChar => reason_of_step(machine, stop),
+        Stop::NoMark | Stop::OpCode | Stop::Length => if_told_as(found, stop),
+        Stop::Address | Stop::Overlap | Stop::Carriage => if_told_as(found, stop),
+        Stop::NotFitted | Stop::DChar | Stop::Tape => if_told_as(found, stop),
     }
 }
 
-/// Whether there is a reason that is told as this stop.
+/// Whether there is a reason that is reported as this stop.
 fn is_told_as(found: &Option<Reason>, stop: Stop) -> bool
     ensures yes { result ≡ true → option_map stop_named found.now ≡ Some stop }
     ensures no { result ≡ false → option_map stop_named found.now ≢ Some stop }
@@ -97,25 +106,15 @@ fn is_told_as(found: &Option<Reason>, stop: Stop) -> bool
     }
 }
 
-/// A reason, if it is told as this stop.
+/// A reason, if it is reported as this stop.
 fn if_told_as(found: &Option<Reason>, stop: Stop) -> Option<Reason>
-    ensures { ((option_map stop_named found.now ≡ Some stop) × (result ≡ found.now))
-        ⊎ ((option_map stop_named found.now ≢ Some stop) × (result ≡ None)) }
+    ensures { IsKept stop found.now result }
 {
     if is_told_as(found, stop) {
         *found
     } else {
         None
     }
-}
-
-/// Why the next step of a machine has this stop; `None` if it hasn't.
-fn reason_of_step(machine: &Machine, stop: Stop) -> Option<Reason>
-    ensures stop { IfSome result (λ why. stop_named why ≡ stop) }
-    ensures told { IsReasonFor machine.now stop result }
-{
-    let found = stop_reason(machine);
-    if_told_as(&found, stop)
 }
 
 /// Why the instruction at the I register, of this many characters, stops the machine if no feature claims it.
@@ -169,7 +168,8 @@ fn fitted_reason(machine: &Machine, fitted: Fitted, char: Char, len: u16) -> Opt
             }
             of_fields(b_reason(core, a, b))
         }
-        Fitted::StoreA | Fitted::StoreB => of_fields(address_reason(core, Operand::A, a, b)),
+        Fitted::StoreA => of_fields(address_reason(core, Operand::A, a, b)),
+        Fitted::StoreB => of_fields(address_reason(core, Operand::A, a, b)),
         Fitted::StoreSecond => of_fields(address_reason(core, Operand::A, a, b)),
         Fitted::Halt => Some(Reason::Halt),
         Fitted::Feed => None,
@@ -177,6 +177,10 @@ fn fitted_reason(machine: &Machine, fitted: Fitted, char: Char, len: u16) -> Opt
         Fitted::Divide => of_fields(quotient_reason(core, a, b)),
         Fitted::MoveRecord => of_fields(record_reason(core, a, b)),
         Fitted::ModifyAddress => of_fields(address_sum_reason(core, a, b)),
+        Fitted::MoveTape | Fitted::LoadTape => {
+            Some(tape_reason(machine, TRANSFER_LETTERS, char, len))
+        }
+        Fitted::ControlTape => Some(tape_reason(machine, CONTROL_LETTERS, char, len)),
         Fitted::NoLength => Some(Reason::NoSuchLength { char, len }),
     }
 }
@@ -265,7 +269,8 @@ fn performed_reason(machine: &Machine, char: Char, len: u16) -> Option<Reason>
             of_fields(b_reason(core, a, b_address(machine, len)))
         }
         b'V' => of_fields(b_reason(core, a, b_address(machine, len))),
-        b'Q' | b'H' => { of_fields(address_reason(core, Operand::A, a, b_address(machine, len))) }
+        b'Q' => of_fields(address_reason(core, Operand::A, a, b_address(machine, len))),
+        b'H' => of_fields(address_reason(core, Operand::A, a, b_address(machine, len))),
         b'N' | b'K' => None,
         b'.' => Some(Reason::Halt),
         b'1' => reader_reason(machine),
@@ -289,6 +294,26 @@ fn last_char(machine: &Machine, len: u16) -> Char
     // No core storage is so large that a place above another has no address.
     let _ = machine.core().size();
     machine.core().get(machine.regs().i + len - 1).char
+}
+
+/// Why a tape operation whose d-character is to be one of these stops a machine without reels.
+fn tape_reason(machine: &Machine, letters: &[u8], char: Char, len: u16) -> Reason
+    requires char { char ≡ char_of machine.now }
+    requires some { 0 < len }
+    requires len { len ≡ len_of machine.now }
+    requires inside { machine.now.i + len ≤ length machine.now.storage }
+    ensures stop { stop_named result ≡ tape_stop letters.now (fitted_instruction machine.now) machine.now }
+    ensures so { IsSoOf (fitted_instruction machine.now) machine.now result }
+{
+    let Some(unit) = tape_unit_at(machine.core(), machine.regs().i + 1) else {
+        return Reason::NoUnit;
+    };
+    let d = last_char(machine, len);
+    if is_tape_letter(letters, d) {
+        Reason::NoReel { unit: unit.number }
+    } else {
+        Reason::UnknownD { char, d }
+    }
 }
 
 /// Why a line can't be written alone.

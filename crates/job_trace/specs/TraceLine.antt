@@ -6,13 +6,13 @@ use Rattle.core_1401.specs.Storage.{Storage}
 use Rattle.machine_panel.specs.declared.stop.Stop.{Stop}
 use Rattle.cpu_1401.specs.Fetched.{instruction_at}
 use Rattle.cpu_1401.specs.State.{State}
-use Rattle.cpu_1401.specs.Stepped.{Stepped}
 use Rattle.machine_panel.specs.Stop.{stop_name}
 use Rattle.devices_1401.specs.Carriage.{form_of as form_at, line_of as line_at}
 use Rattle.devices_1401.specs.Control.{Control, Space, Skip}
 use Rattle.machine_mnemonics.specs.InstructionText.{instruction_text}
 use Rattle.machine_notation.specs.Cells.{cells_text}
 use Rattle.machine_notation.specs.Digits.{digits_in}
+use Rattle.job_trace.specs.declared.work.TapeMark.{TapeMark}
 use Rattle.job_trace.specs.declared.work.Work.{Work}
 use Rattle.job_trace.specs.Changes.{changes_of, changes_text}
 
@@ -58,14 +58,19 @@ position_text form line = digits_in 4 form ++ codes "/" ++ digits_in 2 line
 abbrev pub text_if : Bool → List ℕ → List ℕ
 text_if holds text = if holds then text else []
 
--- the line printed, by its place, the card read and the card punched
+-- the line printed, by its place, the card read, the card punched and the tape unit that worked
 unfoldable pub print_text : ℕ → ℕ → List ℕ
 print_text form line = codes "\tPRINT " ++ position_text form line
+
+-- the unit of a tape instruction, and how many records its head has passed
+unfoldable pub tape_text : Option TapeMark → List ℕ
+tape_text None = []
+tape_text (Some mark) = codes "\tTAPE " ++ digits_in 1 mark.unit ++ codes " RECORD " ++ digits_in 1 mark.passed
 
 unfoldable pub work_text : Seen → Work → List ℕ
 work_text before work =
     text_if work.printed (print_text before.form before.line)
-    ++ text_if work.read (codes "\tREAD") ++ text_if work.punched (codes "\tPUNCH")
+    ++ text_if work.read (codes "\tREAD") ++ text_if work.punched (codes "\tPUNCH") ++ tape_text work.tape
 
 -- where the carriage is, if it moved
 unfoldable pub moved_text : ℕ → ℕ → List ℕ
@@ -113,14 +118,11 @@ line_of before work why after =
     ++ devices_text before (seen_of after) work
     ++ changes_text (changes_of before.storage after.storage) ++ stop_text why ++ codes "\n"
 
--- what a step did at the devices: there is a line more, a card less, a punched card more
-abbrev pub work_of : State → State → Work
-work_of before after = record {
+-- what a step did at the devices and the tape units: there is a line more, a card less, a punched card more
+abbrev pub work_of : State → State → Option TapeMark → Work
+work_of before after tape = record {
   printed = nat_lt (length before.devices.paper) (length after.devices.paper);
   read = nat_lt (length after.devices.hopper) (length before.devices.hopper);
   punched = nat_lt (length before.devices.stacker) (length after.devices.stacker);
+  tape = tape;
 }
-
--- the line of a step: a function of the machine before it and of what it leaves
-abbrev pub trace_line : State → Stepped → List ℕ
-trace_line before t = line_of (seen_of before) (work_of before t.state) t.stop t.state

@@ -22,4 +22,4 @@ pub mod work;
 
 pub use changes::next_change;
 pub use snapshot::Snapshot;
-pub use work::Work;
+pub use work::{TapeMark, Work};

@@ -2,8 +2,9 @@
 ghost use Rattle.std.specs.Prelude.{◌≡◌, ◌++◌, OnOk};
 ghost use Rattle.devices_1401.specs.Movement.{control_of};
 ghost use Rattle.job_trace.specs.TraceLine.{is_same_movement, moved_text, movement_text, position_text, print_text};
-ghost use Rattle.job_trace.specs.TraceLine.{registers_text, stop_text, waiting_text};
+ghost use Rattle.job_trace.specs.TraceLine.{registers_text, stop_text, tape_text, waiting_text};
 
+use crate::work::TapeMark;
 use cpu_1401::Stop;
 use devices_1401::Movement;
 use machine_notation::{put_digits, put_named_digits};
@@ -37,6 +38,20 @@ pub(crate) fn put_print(text: &mut Vec<u8>, form: u16, line: u8) -> Result<(), A
 {
     text.extend_from_slice(b"\tPRINT ".as_slice())?;
     put_position(text, form, line)
+}
+
+/// Adds a tape unit and how far its reel is, if there is one.
+#[tactic(auto, unfolding(crate::specs::TraceLine::tape_text))]
+pub(crate) fn put_tape(text: &mut Vec<u8>, tape: Option<TapeMark>) -> Result<(), AllocError>
+    ensures { OnOk result (text.new.items ≡ text.old.items ++ tape_text tape) }
+{
+    match tape {
+        Some(mark) => {
+            put_named_digits(text, b"\tTAPE ", 1, u64::from(mark.unit))?;
+            put_named_digits(text, b" RECORD ", 1, mark.passed)
+        }
+        None => Ok(()),
+    }
 }
 
 /// Adds where the carriage moved to.

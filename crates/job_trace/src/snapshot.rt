@@ -6,7 +6,9 @@ ghost use Rattle.job_trace.specs.TraceLine.{carriage_text, devices_text, line_of
 
 use crate::changes::{copy_of, put_changes};
 use crate::fetched::put_fetched;
-use crate::line::{is_same_movement, put_moved, put_print, put_registers, put_stop, put_waiting};
+use crate::line::{
+    is_same_movement, put_moved, put_print, put_registers, put_stop, put_tape, put_waiting,
+};
 use crate::work::Work;
 use core_1401::{Core, CoreFault};
 use cpu_1401::{Machine, Stop};
@@ -136,7 +138,7 @@ impl Snapshot {
         }
     }
 
-    /// Adds what the devices did.
+    /// Adds what the devices and the tape units did.
     #[tactic(auto, unfolding(crate::specs::TraceLine::work_text))]
     fn put_work(&self, text: &mut Vec<u8>, work: Work) -> Result<(), AllocError>
         ensures { OnOk result (text.new.items ≡ text.old.items ++ work_text self.now work) }
@@ -150,6 +152,6 @@ impl Snapshot {
         if work.punched {
             text.extend_from_slice(b"\tPUNCH".as_slice())?;
         }
-        Ok(())
+        put_tape(text, work.tape)
     }
 }

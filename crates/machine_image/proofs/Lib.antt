@@ -1,4 +1,5 @@
 pub mod ContentsLemmas
+pub mod LengthLemmas
 pub mod LentLemmas
 pub mod LineLemmas
 pub mod NumberLemmas

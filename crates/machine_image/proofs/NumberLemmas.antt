@@ -32,7 +32,7 @@ last_apart digits number some small =
     ∙ ap (λ n. digits_in n (number / 10) ++ (48 + number % 10) ∷ []) less
 
 -- a number that has no more digits than are written
-length-digits_in : (digits number : ℕ) → 0 < digits → digits ≤ 8 → number < 10 ^ digits
+pub length-digits_in : (digits number : ℕ) → 0 < digits → digits ≤ 8 → number < 10 ^ digits
     → length (digits_in digits number) ≡ digits
 length-digits_in zero number some few small = absurd (omega arith)
 length-digits_in (suc zero) number some few small = ap length (one_digit 1 number (omega arith) (omega arith))

@@ -36,6 +36,10 @@ end_text version start = codes "END " ++ digits_in (address_digits version) star
 abbrev pub line_of : List ℕ → List ℕ
 line_of line = line ++ codes "\n"
 
+-- the most bytes of a line of version 2, with its line feed
+abbrev pub most_in_line : ℕ
+most_in_line = 90
+
 -- the lines of segments
 unfoldable pub segments_text : Version → List Segment → List ℕ
 segments_text version segments = flat_map (λ segment. line_of (segment_text version segment)) segments

@@ -6,13 +6,14 @@
 //! image.segments.as_slice()               // one segment: H with a word mark at 400, I at 401
 //! lend_image(text)?.split_first()         // one segment after the other, none of them stored
 //! write_image(alloc, &image)?             // the same text
+//! put_segment(&mut text, Version::Two, &segment)?     // one line of it
 //! ```
 #![tactic(auto)]
 
 // an image, the version of its text, and why a text is none
 pub mod fault;
 pub mod image;
-mod version;
+pub mod version;
 
 // its text, both ways
 pub mod reading;
@@ -21,4 +22,5 @@ pub mod writing;
 pub use fault::ImageFault;
 pub use image::{Image, Segment, Segments};
 pub use reading::{LentImage, lend_image, read_image};
-pub use writing::write_image;
+pub use version::Version;
+pub use writing::{MOST_IN_LINE, put_end, put_header, put_segment, write_image};

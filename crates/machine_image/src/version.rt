@@ -9,7 +9,7 @@ const MOST_PLACES: u16 = SIZES[2];
 
 /// A version of the text of an image.
 #[derive(Clone, Copy)]
-pub(crate) enum Version {
+pub enum Version {
     /// 1: four digits, and core storage up to 4,000 places.
     One,
     /// 2: five digits, and core storage of any size.

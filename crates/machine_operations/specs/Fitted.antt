@@ -6,7 +6,7 @@ use Rattle.std.specs.Option.{option_map, option_map_or}
 use Rattle.machine_panel.specs.Features.{has_feature}
 use Rattle.machine_panel.specs.declared.features.Feature.{Feature}
 use Rattle.machine_panel.specs.declared.features.Feature.TheVariants.{Multiply, MoveRecord, ModifyAddress, BitTest}
-use Rattle.machine_panel.specs.declared.features.Feature.TheVariants.{Lengths, ReadPunchRelease}
+use Rattle.machine_panel.specs.declared.features.Feature.TheVariants.{Lengths, ReadPunchRelease, Tapes}
 use Rattle.machine_panel.specs.declared.features.Features.{Features}
 use Rattle.machine_operations.specs.Operation.{is_fitted}
 use Rattle.machine_operations.specs.declared.fitted.Fitted.{Fitted}
@@ -14,13 +14,14 @@ use Rattle.machine_operations.specs.declared.fitted.Fitted.TheVariants.{OnCell, 
 use Rattle.machine_operations.specs.declared.fitted.Fitted.TheVariants.{StoreA, StoreB, StoreSecond, Halt, Feed, NoLength}
 use Rattle.machine_operations.specs.declared.fitted.Fitted.TheVariants as fitted
 use Rattle.machine_operations.specs.declared.fitted.FittedLengths.{FittedLengths}
-use Rattle.machine_operations.specs.declared.fitted.FittedLengths.TheVariants.{One, OneFourSeven, Seven, Eight}
+use Rattle.machine_operations.specs.declared.fitted.FittedLengths.TheVariants.{One, OneFourSeven, Five, Seven, Eight}
 use Rattle.machine_operations.specs.declared.fitted.FittedLengths.TheVariants.{NotOneOrFour, Any}
 
 -- the lengths of a row
 abbrev pub fitted_lengths : FittedLengths → List ℕ
 fitted_lengths One = 1 ∷ []
 fitted_lengths OneFourSeven = 1 ∷ 4 ∷ 7 ∷ []
+fitted_lengths Five = 5 ∷ []
 fitted_lengths Seven = 7 ∷ []
 fitted_lengths Eight = 8 ∷ []
 fitted_lengths NotOneOrFour = 2 ∷ 3 ∷ 5 ∷ 6 ∷ 7 ∷ 8 ∷ []
@@ -60,6 +61,10 @@ fitted_rows =
     ∷ fitted_row (codes "P") Any MoveRecord NoLength
     ∷ fitted_row (codes "#") OneFourSeven ModifyAddress fitted.ModifyAddress
     ∷ fitted_row (codes "#") Any ModifyAddress NoLength
+    ∷ fitted_row (codes "M") Eight Tapes fitted.MoveTape
+    ∷ fitted_row (codes "L") Eight Tapes fitted.LoadTape
+    ∷ fitted_row (codes "U") Five Tapes fitted.ControlTape
+    ∷ fitted_row (codes "U") Any Tapes NoLength
     ∷ []
 
 -- whether a row claims an instruction with this graphic and this length, on a machine with these features
@@ -91,7 +96,31 @@ is_operation features fitted.Multiply = true
 is_operation features fitted.Divide = true
 is_operation features fitted.MoveRecord = true
 is_operation features fitted.ModifyAddress = true
+is_operation features fitted.MoveTape = true
+is_operation features fitted.LoadTape = true
+is_operation features fitted.ControlTape = true
 is_operation features NoLength = false
+
+-- whether what a feature makes of an instruction is for a tape unit
+abbrev pub is_for_tape : Fitted → Bool
+is_for_tape OnCell = false
+is_for_tape OnBits = false
+is_for_tape CharacterAgain = false
+is_for_tape CellAgain = false
+is_for_tape BitsAgain = false
+is_for_tape StoreA = false
+is_for_tape StoreB = false
+is_for_tape StoreSecond = false
+is_for_tape Halt = false
+is_for_tape Feed = false
+is_for_tape fitted.Multiply = false
+is_for_tape fitted.Divide = false
+is_for_tape fitted.MoveRecord = false
+is_for_tape fitted.ModifyAddress = false
+is_for_tape fitted.MoveTape = true
+is_for_tape fitted.LoadTape = true
+is_for_tape fitted.ControlTape = true
+is_for_tape NoLength = false
 
 -- a machine with these features carries out an instruction of the operation with this graphic and this length
 abbrev pub is_fitted_with : Features → ℕ → ℕ → Bool

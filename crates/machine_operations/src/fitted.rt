@@ -2,7 +2,7 @@
 ghost use Rattle.std.specs.Prelude.{◌≡◌, ◌==◌, ◌<◌, ◌≤◌, find};
 ghost use Rattle.std.specs.List.{list_any};
 ghost use Rattle.machine_operations.specs.Fitted.{claims, fitted_in, fitted_lengths, fitted_rows, is_fitted_with};
-ghost use Rattle.machine_operations.specs.Fitted.{is_operation};
+ghost use Rattle.machine_operations.specs.Fitted.{is_for_tape, is_operation};
 
 use crate::operation::is_fitted;
 use machine_panel::{Feature, Features};
@@ -38,6 +38,12 @@ pub enum Fitted {
     MoveRecord,
     /// `#`: adds to an address.
     ModifyAddress,
+    /// `M` of eight: reads or writes a record of tape.
+    MoveTape,
+    /// `L` of eight: the same, with word marks.
+    LoadTape,
+    /// `U`: controls a tape unit.
+    ControlTape,
     /// The operation has no such length.
     NoLength,
 }
@@ -49,9 +55,11 @@ pub enum FittedLengths {
     One,
     /// 1, 4 or 7: no address, one or two.
     OneFourSeven,
+    /// 5: a unit and a d-character.
+    Five,
     /// 7: two addresses.
     Seven,
-    /// 8: two addresses and a d-character.
+    /// 8: two addresses, or a unit and an address, and a d-character.
     Eight,
     /// 2, 3, and 5 to 8.
     NotOneOrFour,
@@ -70,6 +78,16 @@ impl Fitted {
             _ => true,
         }
     }
+
+    /// Whether it is for a tape unit.
+    pub fn is_for_tape(self) -> bool
+        ensures { result ≡ is_for_tape self }
+    {
+        matches!(
+            self,
+            Fitted::MoveTape | Fitted::LoadTape | Fitted::ControlTape
+        )
+    }
 }
 
 impl FittedLengths {
@@ -80,6 +98,7 @@ impl FittedLengths {
         match self {
             FittedLengths::One => len == 1,
             FittedLengths::OneFourSeven => len == 1 || len == 4 || len == 7,
+            FittedLengths::Five => len == 5,
             FittedLengths::Seven => len == 7,
             FittedLengths::Eight => len == 8,
             FittedLengths::NotOneOrFour => len == 2 || len == 3 || 5 <= len && len <= 8,
@@ -94,7 +113,7 @@ type FittedRow = (u8, FittedLengths, Feature, Fitted);
 
 /// The table. The first row that claims an instruction says what is made of it, so a row of any length, the last of its
 /// graphic, refuses the others.
-static ROWS: [FittedRow; 23] = [
+static ROWS: [FittedRow; 27] = [
     (b'B', FittedLengths::Eight, Feature::Lengths, Fitted::OnCell),
     (
         b'B',
@@ -203,6 +222,15 @@ static ROWS: [FittedRow; 23] = [
         Feature::ModifyAddress,
         Fitted::NoLength,
     ),
+    (b'M', FittedLengths::Eight, Feature::Tapes, Fitted::MoveTape),
+    (b'L', FittedLengths::Eight, Feature::Tapes, Fitted::LoadTape),
+    (
+        b'U',
+        FittedLengths::Five,
+        Feature::Tapes,
+        Fitted::ControlTape,
+    ),
+    (b'U', FittedLengths::Any, Feature::Tapes, Fitted::NoLength),
 ];
 
 /// The table.

@@ -19,6 +19,10 @@ pub mod operation;
 pub mod fitted;
 pub mod unfitted;
 
+// the names of tape units in them
+pub mod tape_unit;
+
 pub use fitted::{Fitted, fitted_in, is_fitted_with};
 pub use operation::{Operation, is_fitted, longest_at};
+pub use tape_unit::{TAPE_UNITS, TapeUnit, tape_unit_named};
 pub use unfitted::{is_unfitted, mnemonic_at};

@@ -4,7 +4,7 @@ use Rattle.std.specs.List.{list_any}
 use Rattle.std.specs.Str.{bytes_eq}
 use Rattle.machine_panel.specs.declared.features.Feature.{Feature}
 use Rattle.machine_panel.specs.declared.features.Feature.TheVariants.{Multiply, MoveRecord, ModifyAddress, BitTest}
-use Rattle.machine_panel.specs.declared.features.Feature.TheVariants.{Lengths, ReadPunchRelease}
+use Rattle.machine_panel.specs.declared.features.Feature.TheVariants.{Lengths, ReadPunchRelease, Tapes}
 use Rattle.machine_panel.specs.declared.features.Features.{Features}
 
 -- what a machine is fitted with if nothing was asked for
@@ -16,12 +16,13 @@ no_features = record {
   bit_test = false;
   lengths = false;
   read_punch_release = false;
+  tapes = false;
 }
 
 -- the features
 abbrev pub feature_list : List Feature
 feature_list =
-    Multiply ∷ MoveRecord ∷ ModifyAddress ∷ BitTest ∷ Lengths ∷ ReadPunchRelease ∷ []
+    Multiply ∷ MoveRecord ∷ ModifyAddress ∷ BitTest ∷ Lengths ∷ ReadPunchRelease ∷ Tapes ∷ []
 
 -- their names
 abbrev pub feature_name : Feature → List ℕ
@@ -31,6 +32,7 @@ feature_name ModifyAddress = codes "modify-address"
 feature_name BitTest = codes "bit-test"
 feature_name Lengths = codes "lengths"
 feature_name ReadPunchRelease = codes "read-punch-release"
+feature_name Tapes = codes "tapes"
 
 -- the feature of a name, if one has it
 unfoldable pub feature_named : List ℕ → Option Feature
@@ -44,6 +46,7 @@ has_feature features ModifyAddress = features.modify_address
 has_feature features BitTest = features.bit_test
 has_feature features Lengths = features.lengths
 has_feature features ReadPunchRelease = features.read_punch_release
+has_feature features Tapes = features.tapes
 
 -- whether there is a feature among these
 abbrev pub are_some : Features → Bool
@@ -57,3 +60,4 @@ with_feature features ModifyAddress = record features { modify_address = true }
 with_feature features BitTest = record features { bit_test = true }
 with_feature features Lengths = record features { lengths = true }
 with_feature features ReadPunchRelease = record features { read_punch_release = true }
+with_feature features Tapes = record features { tapes = true }

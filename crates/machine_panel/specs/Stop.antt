@@ -3,7 +3,7 @@ use Rattle.std.specs.Prelude.{ℕ, List, codes}
 use Rattle.machine_panel.specs.declared.stop.Stop.{Stop}
 use Rattle.machine_panel.specs.declared.stop.Stop.TheVariants.{Limit, Halt, Reader, Forms, Stacker, NoMark, OpCode}
 use Rattle.machine_panel.specs.declared.stop.Stop.TheVariants.{Length}
-use Rattle.machine_panel.specs.declared.stop.Stop.TheVariants.{Address, Overlap, Carriage, NotFitted, DChar}
+use Rattle.machine_panel.specs.declared.stop.Stop.TheVariants.{Address, Overlap, Carriage, NotFitted, DChar, Tape}
 
 -- the number of a stop
 abbrev pub stop_number : Stop → ℕ
@@ -20,6 +20,7 @@ stop_number Overlap = 10
 stop_number Carriage = 11
 stop_number NotFitted = 12
 stop_number DChar = 13
+stop_number Tape = 14
 
 -- the name of a stop
 abbrev pub stop_name : Stop → List ℕ
@@ -36,3 +37,4 @@ stop_name Overlap = codes "OVERLAP"
 stop_name Carriage = codes "CARRIAGE"
 stop_name NotFitted = codes "NOTFITTED"
 stop_name DChar = codes "DCHAR"
+stop_name Tape = codes "TAPE"

@@ -19,17 +19,20 @@ pub enum Feature {
     Lengths,
     /// `8` and `9` start the feeds, which takes no time here (own).
     ReadPunchRelease,
+    /// `M` and `L` of eight characters read and write tape, and `U` controls a tape unit.
+    Tapes,
 }
 
 impl Feature {
     /// All of them.
-    pub const ALL: [Feature; 6] = [
+    pub const ALL: [Feature; 7] = [
         Feature::Multiply,
         Feature::MoveRecord,
         Feature::ModifyAddress,
         Feature::BitTest,
         Feature::Lengths,
         Feature::ReadPunchRelease,
+        Feature::Tapes,
     ];
 
     /// Its name, as a user writes it (own).
@@ -47,6 +50,7 @@ impl Feature {
             Feature::BitTest => "bit-test",
             Feature::Lengths => "lengths",
             Feature::ReadPunchRelease => "read-punch-release",
+            Feature::Tapes => "tapes",
         }
     }
 
@@ -54,7 +58,7 @@ impl Feature {
     ///
     /// ```text
     /// Feature::from_name("bit-test")          // Some(Feature::BitTest)
-    /// Feature::from_name("tapes")             // None
+    /// Feature::from_name("disks")             // None
     /// ```
     #[tactic(auto, unfolding(crate::specs::Features::feature_named))]
     pub fn from_name(name: &str) -> Option<Feature>
@@ -88,6 +92,8 @@ pub struct Features {
     pub lengths: bool,
     /// Whether `Feature::ReadPunchRelease` is.
     pub read_punch_release: bool,
+    /// Whether `Feature::Tapes` is.
+    pub tapes: bool,
 }
 
 impl Features {
@@ -99,6 +105,7 @@ impl Features {
         bit_test: false,
         lengths: false,
         read_punch_release: false,
+        tapes: false,
     };
 
     /// Each feature that there is.
@@ -109,6 +116,7 @@ impl Features {
         bit_test: true,
         lengths: true,
         read_punch_release: true,
+        tapes: true,
     };
 
     /// Whether a feature is among them.
@@ -122,6 +130,7 @@ impl Features {
             Feature::BitTest => self.bit_test,
             Feature::Lengths => self.lengths,
             Feature::ReadPunchRelease => self.read_punch_release,
+            Feature::Tapes => self.tapes,
         }
     }
 
@@ -145,6 +154,7 @@ impl Features {
             Feature::BitTest => features.bit_test = true,
             Feature::Lengths => features.lengths = true,
             Feature::ReadPunchRelease => features.read_punch_release = true,
+            Feature::Tapes => features.tapes = true,
         }
         features
     }

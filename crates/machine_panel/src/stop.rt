@@ -34,6 +34,8 @@ pub enum Stop {
     NotFitted = 12,
     /// 13: the d-character means nothing to the operation.
     DChar = 13,
+    /// 14: the tape unit has no reel, or its reel can't be used so.
+    Tape = 14,
 }
 
 impl Stop {
@@ -62,6 +64,7 @@ impl Stop {
             Stop::Carriage => "CARRIAGE",
             Stop::NotFitted => "NOTFITTED",
             Stop::DChar => "DCHAR",
+            Stop::Tape => "TAPE",
         }
     }
 }

@@ -1,4 +1,5 @@
 mod AddressExamples
+mod AddressLemmas
 mod BorrowLemmas
 mod ColumnLemmas
 pub mod DivideLemmas

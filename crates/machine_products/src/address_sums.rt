@@ -17,6 +17,7 @@ use fields_1401::{Done, FieldStop, step_down};
 /// # Errors
 ///
 /// `Address` if one of the six places isn't in core.
+#[inline(always)]
 #[tactic(auto, unfolding(crate::specs::AddressSums::address_sum_at))]
 pub fn modify_address(core: &mut Core, a: u16, b: u16) -> Result<Done, FieldStop>
     requires a { a < addresses }
@@ -36,27 +37,30 @@ pub fn modify_address(core: &mut Core, a: u16, b: u16) -> Result<Done, FieldStop
 }
 
 /// Whether the three places that end at an address are in core.
+#[inline(always)]
 fn has_three(core: &Core, at: u16) -> bool
     requires { at < addresses }
     ensures { result ≡ has_places core.now at 3 }
 {
-    core.in_core(at) && at >= 2
+    // Below 2 the difference wraps, and so is above every place.
+    at.wrapping_sub(2) < core.size() - 2
 }
 
 /// The value of the three characters that end at a place, below 16,000.
+#[inline(always)]
 fn value_down(core: &Core, at: u16) -> u16
     requires inside { at < length core.now }
     requires three { 2 ≤ at }
     ensures value { result ≡ value_down core.now at }
     ensures range { result < addresses }
 {
-    let hundreds = core.get(at - 2).char;
-    let tens = core.get(at - 1).char;
-    let units = core.get(at).char;
-    decode([hundreds, tens, units]).0
+    let chars = core.chars();
+    let units = usize::from(at);
+    decode([chars[units - 2], chars[units - 1], chars[units]]).0
 }
 
 /// Puts the spelling of an address in the three places that end at one.
+#[inline(always)]
 #[tactic(auto, using(fields_1401::proofs::PlacesLemmas::marks_stay))]
 fn put_address(core: &mut Core, at: u16, address: u16)
     requires inside { at < length core.old }

@@ -37,7 +37,7 @@ fn is_carried_out(stop: Stop) -> bool {
         Stop::Reader | Stop::Forms | Stop::Stacker => false,
         Stop::NoMark | Stop::OpCode | Stop::Length => false,
         Stop::Address | Stop::Overlap | Stop::Carriage => false,
-        Stop::NotFitted | Stop::DChar => false,
+        Stop::NotFitted | Stop::DChar | Stop::Tape => false,
     }
 }
 
@@ -48,7 +48,7 @@ fn stop_address(machine: &Machine, stop: Stop) -> u16 {
         Stop::Limit | Stop::Reader | Stop::Forms | Stop::Stacker => machine.regs().i,
         Stop::NoMark | Stop::OpCode | Stop::Length => machine.regs().i,
         Stop::Address | Stop::Overlap | Stop::Carriage => machine.regs().i,
-        Stop::NotFitted | Stop::DChar => machine.regs().i,
+        Stop::NotFitted | Stop::DChar | Stop::Tape => machine.regs().i,
     }
 }
 

@@ -84,11 +84,11 @@ pub fn put_steps(
 ) -> Result<(), AllocError> {
     let mut after = machine.copy(alloc)?;
     for _ in 0..steps {
-        after.step();
+        let _done = after.run(1);
         if machine.core().size() == after.core().size() {
             put_stepped(alloc, text, program, machine, &after)?;
         }
-        machine.step();
+        let _done = machine.run(1);
     }
     Ok(())
 }

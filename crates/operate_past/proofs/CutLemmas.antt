@@ -105,6 +105,7 @@ count_stopped stop.Overlap t = refl
 count_stopped stop.Carriage t = refl
 count_stopped stop.NotFitted t = refl
 count_stopped stop.DChar t = refl
+count_stopped stop.Tape t = refl
 
 count_on : (o : Option Stop) (limit : ℕ) (t : State) → length (machines_for limit t) ≡ (run_for limit t).steps
     → length (machines_on t o (machines_for limit t)) ≡ (from o limit t).steps

@@ -1,5 +1,6 @@
 pub mod AnyOfLemmas
 pub mod LimitLemmas
+mod OneStepLemmas
 pub mod PairedLemmas
 pub mod PlaceWatchLemmas
 pub mod RunOfFoundLemmas

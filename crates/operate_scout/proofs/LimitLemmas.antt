@@ -27,6 +27,7 @@ one_at_most stop.Overlap = omega arith
 one_at_most stop.Carriage = omega arith
 one_at_most stop.NotFitted = omega arith
 one_at_most stop.DChar = omega arith
+one_at_most stop.Tape = omega arith
 
 -- a step that stops the machine is a run of one
 pub limit_is_one : (why : Stop) → limit_by (carried_out_by why) (end.Stop why) ≡ 1
@@ -43,6 +44,7 @@ limit_is_one stop.Overlap = refl
 limit_is_one stop.Carriage = refl
 limit_is_one stop.NotFitted = refl
 limit_is_one stop.DChar = refl
+limit_is_one stop.Tape = refl
 
 one_or_none : (b : Bool) (steps : ℕ) → (if b then steps + 1 + 1 else steps + 1) ≡ (if b then steps + 1 else steps) + 1
 one_or_none true steps = refl

@@ -1,5 +1,6 @@
 //! A search: steps of the scout until a test is met, the machine stops, or the limit.
-ghost use Rattle.std.specs.Prelude.{◌≡◌, ◌+◌, ◌<◌, ◌≤◌, ℕ, Bool, true, false, length};
+ghost use Rattle.std.specs.Prelude.{◌≡◌, ◌≢◌, ◌+◌, ◌<◌, ◌≤◌, ℕ, Bool, true, false, length, None, Some};
+ghost use Rattle.cpu_1401.specs.Fitting.{fitted_step};
 ghost use Rattle.cpu_1401.specs.Run.{carried_out_by, most_steps};
 ghost use Rattle.cpu_1401.specs.State.{State};
 ghost use Rattle.operate_scout.specs.Search.{limit_of, memory_after, memory_at, search};
@@ -101,7 +102,7 @@ fn advance<T: Test>(scout: &mut Machine, test: &mut T, most: u32) -> Found
     // Counted down, as a run does.
     let mut left = most;
     while left > 0 {
-        if let Some(stop) = scout.step() {
+        if let Some(stop) = step(scout) {
             return stopped(scout, test, most - left, stop);
         }
         left -= 1;
@@ -115,6 +116,29 @@ fn advance<T: Test>(scout: &mut Machine, test: &mut T, most: u32) -> Found
     Found {
         steps: most,
         end: SearchEnd::Limit,
+    }
+}
+
+/// One instruction, as `Machine::step`, by a run of one: so `run` is the one place in a program into which a step is
+/// compiled, and all that it calls with it.
+fn step(scout: &mut Machine) -> Option<Stop>
+    ensures stop { result ≡ (fitted_step scout.old).stop }
+    ensures state { scout.new ≡ (fitted_step scout.old).state }
+    ensures size { length scout.new.storage ≡ length scout.old.storage }
+{
+    let ran = scout.run(1);
+    stop_of(ran.stop)
+}
+
+/// The stop of a step, if a run of one ended so.
+fn stop_of(stop: Stop) -> Option<Stop>
+    ensures limit { stop ≡ Stop.Limit → result ≡ None }
+    ensures other { stop ≢ Stop.Limit → result ≡ Some stop }
+{
+    if stop == Stop::Limit {
+        None
+    } else {
+        Some(stop)
     }
 }
 
@@ -153,6 +177,7 @@ fn is_refused(stop: Stop) -> bool
         | Stop::Overlap
         | Stop::Carriage
         | Stop::NotFitted
-        | Stop::DChar => true,
+        | Stop::DChar
+        | Stop::Tape => true,
     }
 }

@@ -1,2 +1,3 @@
 mod PairLemmas
 mod NameLemmas
+mod MountLemmas

@@ -28,8 +28,6 @@ use Rattle.program_call.specs.declared.call.Resuming.{Resuming}
 use Rattle.program_call.specs.declared.call.Seating.{Seating}
 use Rattle.program_call.specs.declared.call.PlainService.{PlainService}
 use Rattle.program_call.specs.declared.call.Showing.{Showing}
-use Rattle.program_call.specs.declared.call.Start.{Start}
-use Rattle.program_call.specs.declared.call.Start.TheVariants as start
 use Rattle.program_call.specs.declared.call.Reported.{Reported}
 use Rattle.program_call.specs.declared.call.Reported.TheVariants as told
 use Rattle.serving_http.specs.declared.origins.Origin.{Origin}
@@ -38,6 +36,7 @@ use Rattle.machine_panel.specs.Features.{no_features}
 use Rattle.machine_panel.specs.declared.features.Features.{Features}
 use Rattle.serving_http.specs.Origins.{is_text_of}
 use Rattle.program_arguments.specs.Features.{features_in}
+use Rattle.program_arguments.specs.Mounting.{AreReelsIn, IsStartIn, fitted_for, program_name}
 use Rattle.program_arguments.specs.Options.{IsFlagIn, IsNamedSizeIn, IsNameIn, IsNumberIn, IsNumberOr}
 use Rattle.program_arguments.specs.Options.{graphics_by, graphics_in, language_in}
 
@@ -86,14 +85,11 @@ IsAssembled found file asked =
     (assembling : Assembling) × (asked ≡ call.Assemble assembling) × IsAssembling found file (features_in found) assembling
     × (are_one (first_value found (codes "output")) (first_value found (codes "deck")) ≡ false)
 
-abbrev pub presses_key : Start → Bool
-presses_key start.Entry = false
-presses_key start.LoadKey = true
-
--- `run` of a file, with these switches, on a machine with these features
+-- `run` of a file, with these switches, on a machine with these features, and with tape units if it has reels
 pub record IsJob (found : Found) (name : List ℕ) (on : List Bool) (fitted : Features) (asked : Job) : Type 0 where
-  pub file : string_bytes asked.file ≡ name
-  pub load : IsFlagIn found (codes "load") (presses_key asked.start)
+  pub reels : AreReelsIn found asked.reels.items
+  pub start : IsStartIn found asked.reels.items asked.start
+  pub file : Some (string_bytes asked.file) ≡ program_name name asked.reels.items asked.start
   pub cards : IsNameIn found (codes "cards") asked.cards
   pub punch : IsNameIn found (codes "punch") asked.punch
   pub paper : IsNameIn found (codes "paper") asked.paper
@@ -106,17 +102,19 @@ pub record IsJob (found : Found) (name : List ℕ) (on : List Bool) (fitted : Fe
   pub size : IsNamedSizeIn found asked.size
   pub limit : IsNumberOr 32 found (codes "limit") 1000000000 asked.limit
   pub switches : asked.switches ≡ on
-  pub features : asked.features ≡ fitted
+  pub features : asked.features ≡ fitted_for asked.reels.items fitted
 
 -- the sense switches A to G: those are on that these letters name
 abbrev pub switches_named : List ℕ → List Bool
 switches_named letters = map (λ letter. list_any (λ each. nat_eq each letter) letters) (codes "ABCDEFG")
 
 -- and the call
+abbrev pub IsRunOn : Found → List ℕ → List Bool → Features → Call → Type 0
+IsRunOn found file on fitted asked = (job : Job) × (asked ≡ call.Run job) × IsJob found file on fitted job
+
 abbrev pub IsRun : Found → List ℕ → Call → Type 0
 IsRun found file asked =
-    (job : Job) × (asked ≡ call.Run job)
-    × IsJob found file (switches_named (unwrap_or (first_value found (codes "switches")) [])) (features_in found) job
+    IsRunOn found file (switches_named (unwrap_or (first_value found (codes "switches")) [])) (features_in found) asked
 
 -- a new journal, if the options name its file
 abbrev pub IsJournalIn : Found → Option NewJournal → Type 0
@@ -128,7 +126,7 @@ IsJournalIn found (Some journal) =
 -- `operate`, with these switches, on a machine with these features
 pub record IsOperating (found : Found) (on : List Bool) (fitted : Features) (asked : Operating) : Type 0 where
   pub file : IsNameIn found (codes "file") asked.file
-  pub load : IsFlagIn found (codes "load") (presses_key asked.start)
+  pub load : IsFlagIn found (codes "load") asked.is_deck
   pub cards : IsNameIn found (codes "cards") asked.cards
   pub switches : asked.switches ≡ on
   pub journal : IsJournalIn found asked.journal

@@ -1,14 +1,14 @@
 -- The features that an option names (own).
-use Rattle.std.specs.Prelude.{ℕ, ◌||◌, Bool, List, [], codes, option_map, unwrap_or}
+use Rattle.std.specs.Prelude.{ℕ, ◌||◌, Bool, List, codes}
 use Rattle.std.specs.List.{list_any}
 use Rattle.std.specs.Str.{bytes_eq}
-use Rattle.clap.specs.Words.{matched_of, raw_values}
 use Rattle.clap.specs.declared.parser.matches.Found.{Found}
 use Rattle.machine_panel.specs.Features.{feature_name}
 use Rattle.machine_panel.specs.declared.features.Feature.{Feature}
 use Rattle.machine_panel.specs.declared.features.Feature.TheVariants.{Multiply, MoveRecord, ModifyAddress, BitTest}
-use Rattle.machine_panel.specs.declared.features.Feature.TheVariants.{Lengths, ReadPunchRelease}
+use Rattle.machine_panel.specs.declared.features.Feature.TheVariants.{Lengths, ReadPunchRelease, Tapes}
 use Rattle.machine_panel.specs.declared.features.Features.{Features}
+use Rattle.program_arguments.specs.Options.{values_in}
 
 -- a feature is named by its name, or among all
 abbrev pub is_named : List (List ℕ) → Feature → Bool
@@ -25,8 +25,9 @@ features_named names =
       bit_test = is_named names BitTest;
       lengths = is_named names Lengths;
       read_punch_release = is_named names ReadPunchRelease;
+      tapes = is_named names Tapes;
     }
 
 -- what `--fit` names; without it there are none
 abbrev pub features_in : Found → Features
-features_in found = features_named (unwrap_or (option_map raw_values (matched_of found (codes "fit"))) [])
+features_in found = features_named (values_in found (codes "fit"))

@@ -1,3 +1,4 @@
 pub mod Options
 pub mod Calls
 pub mod Features
+pub mod Mounting

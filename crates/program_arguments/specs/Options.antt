@@ -1,10 +1,10 @@
 -- What the options of a subcommand say, as they were found among the words (own).
-use Rattle.std.specs.Prelude.{◌≡◌, ◌≢◌, ◌<◌, ◌^◌, ℕ, Bool, true, false, List, Option, None, Some, String}
+use Rattle.std.specs.Prelude.{◌≡◌, ◌≢◌, ◌<◌, ◌^◌, ℕ, Bool, true, false, List, [], Option, None, Some, String}
 use Rattle.std.specs.Prelude.{codes, option_map, option_and_then, string_bytes, unwrap_or, if◌then◌else◌}
 use Rattle.std.specs.Option.{option_or}
 use Rattle.std.specs.Str.{bytes_eq}
 use Rattle.std.specs.Str.Parse.{IsNumeral, digits_value, without_leading_plus}
-use Rattle.clap.specs.Words.{first_value, matched_of, one_text}
+use Rattle.clap.specs.Words.{first_value, matched_of, one_text, raw_values}
 use Rattle.clap.specs.declared.parser.matches.Found.{Found}
 use Rattle.clap.specs.declared.parser.matches.ValueSource.{ValueSource}
 use Rattle.clap.specs.declared.parser.matches.ValueSource.TheVariants.{CommandLine}
@@ -42,6 +42,10 @@ IsNumberIn bits found option number =
 abbrev pub IsNumberOr : ℕ → Found → List ℕ → ℕ → ℕ → Type 0
 IsNumberOr bits found option other number =
     (read : Option ℕ) × IsNumberIn bits found option read × (number ≡ unwrap_or read other)
+
+-- the values of an option; without the option there are none
+abbrev pub values_in : Found → List ℕ → List (List ℕ)
+values_in found option = unwrap_or (option_map raw_values (matched_of found option)) []
 
 -- where the value of an option comes from
 abbrev pub source_of : Found → List ℕ → Option ValueSource

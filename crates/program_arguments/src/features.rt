@@ -33,6 +33,7 @@ const NAMES: &[&str] = &[
     "bit-test",
     "lengths",
     "read-punch-release",
+    "tapes",
 ];
 
 /// These are the names of the features.
@@ -67,6 +68,7 @@ fn features_named(names: &[&str]) -> Features
         bit_test: is_named(names, Feature::BitTest),
         lengths: is_named(names, Feature::Lengths),
         read_punch_release: is_named(names, Feature::ReadPunchRelease),
+        tapes: is_named(names, Feature::Tapes),
     }
 }
 

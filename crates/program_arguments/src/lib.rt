@@ -17,6 +17,7 @@ mod features;
 mod graphics;
 mod journals;
 mod languages;
+mod mounting;
 mod operating;
 mod reeling;
 mod running;
@@ -28,7 +29,8 @@ mod switches;
 pub mod reading;
 
 pub use program_call::{
-    Assembling, Call, DEFAULT_SIZE, Job, NewJournal, Opening, Operating, Operators, Parity,
-    PlainService, Product, ReelTask, Reeling, Reported, Resuming, Seating, Showing, Start, Tables,
+    Assembling, Call, DEFAULT_SIZE, Job, MountedReel, NewJournal, Opening, Operating, Operators,
+    Parity, PlainService, Product, ReelSource, ReelTask, Reeling, Reported, Resuming, Seating,
+    Showing, Start, Tables,
 };
 pub use reading::read_call;

@@ -15,7 +15,7 @@ use crate::sizes::{SIZE, named_size_in};
 use crate::switches::{NO_LETTERS, SWITCHES, switches_in};
 use clap::{ArgMatches, Error};
 use machine_panel::Features;
-use program_call::{Call, Operating, Start};
+use program_call::{Call, Operating};
 use std::alloc::{AllocError, Global};
 
 /// The arguments of `operate`: what the machine begins with, its journal, and where lines come from.
@@ -110,14 +110,9 @@ fn operating_in(
 ) -> Result<Operating, AllocError>
     ensures { IfOk result (λ asked. IsOperating (found_of matches.now) switches features asked) }
 {
-    let start = if matches.get_flag("load") {
-        Start::LoadKey
-    } else {
-        Start::Entry
-    };
     let mut asked = Operating {
         file: None,
-        start,
+        is_deck: matches.get_flag("load"),
         cards: None,
         switches,
         journal: new_journal_in(alloc, matches)?,

@@ -17,6 +17,8 @@ pub(crate) struct Argument {
     pub kind: Kind,
     /// Whether it has to be there.
     pub is_required: bool,
+    /// What may be there in its place, and can't be there with it.
+    pub instead: &'static [&'static str],
     /// What has to be there with it: other arguments, or one of a group.
     pub needs: &'static [&'static str],
     /// What can't be there with it.
@@ -33,6 +35,8 @@ pub(crate) enum Kind {
     /// An option with a value, for which the help has this word, which this parser takes, and which is this one if none
     /// is named.
     Value(&'static str, ValueParser<'static>, &'static [&'static str]),
+    /// The same with any text for its value, and the option may come more than once.
+    Repeated(&'static str),
     /// An option with a value, for which the help has this word, and with this letter for a shorter name.
     Short(&'static str, char),
     /// The size of core storage, whose help is made of the list of sizes.
@@ -49,6 +53,7 @@ pub(crate) const FREE: Argument = Argument {
     name: "",
     kind: Kind::Flag,
     is_required: false,
+    instead: &[],
     needs: &[],
     excludes: &[],
     help: "",
@@ -91,6 +96,9 @@ fn alone<'a>(alloc: Global, sizes: &'a SizeTexts, of: &Argument) -> Arg<'a> {
         Kind::Value(value, parser, default) => {
             option(alloc, of.name, value, parser, of.help).default_values(default)
         },
+        Kind::Repeated(value) => {
+            option(alloc, of.name, value, TEXT, of.help).action(ArgAction::Append)
+        },
         Kind::Short(value, letter) => {
             option(alloc, of.name, value, TEXT, of.help).short(letter)
         },
@@ -104,9 +112,18 @@ fn alone<'a>(alloc: Global, sizes: &'a SizeTexts, of: &Argument) -> Arg<'a> {
     }
 }
 
+/// An argument that has to be there, or one of those in its place.
+fn required<'a>(arg: Arg<'a>, of: &Argument) -> Result<Arg<'a>, AllocError> {
+    if of.instead.is_empty() {
+        return Ok(arg.required(of.is_required));
+    }
+    arg.required_unless_present_any(of.instead)?
+        .conflicts_with_all(of.instead)
+}
+
 /// An argument among others.
 fn among<'a>(arg: Arg<'a>, of: &Argument) -> Result<Arg<'a>, AllocError> {
-    arg.required(of.is_required)
+    required(arg, of)?
         .requires_all(of.needs)?
         .conflicts_with_all(of.excludes)
 }

@@ -2,18 +2,22 @@
 ghost use Rattle.std.specs.Prelude.{◌≡◌, IfOk, OnOk, codes};
 ghost use Rattle.clap.specs.Words.{found_of};
 ghost use Rattle.program_arguments.specs.Options.{IsNameIn, IsNumberOr};
-ghost use Rattle.program_arguments.specs.Calls.{IsJob, IsRun};
+ghost use Rattle.program_arguments.specs.Calls.{IsJob, IsRun, IsRunOn};
+ghost use Rattle.program_arguments.specs.Mounting.{AreReelsIn};
 
 use crate::commands::{Session, Subcommand, refusal};
 use crate::features::{FIT, NAMED_TWICE, features_in};
 use crate::graphics::{GRAPHICS, OUT_GRAPHICS, SOURCE_GRAPHICS, graphics_by, graphics_in};
 use crate::languages::{LANGUAGE, language_in};
+use crate::mounting::{
+    LOAD_TAPE, MountRefusal, TAPE, fitted_for, program_file, reels_in, start_in,
+};
 use crate::options::{ANY_U32, Argument, FREE, Kind, TEXT, name_in};
 use crate::sizes::{SIZE, named_size_in};
 use crate::switches::{NO_LETTERS, SWITCHES, switches_in};
 use clap::{ArgMatches, Error};
 use machine_panel::Features;
-use program_call::{Call, Job, Start};
+use program_call::{Call, Job, MountedReel};
 use std::alloc::{AllocError, Global};
 
 /// The most instructions that are carried out if no number is named.
@@ -35,12 +39,14 @@ const RUNNING: &[Argument] = &[
         help: "FILE is a deck: presses the load key, which reads its first card and starts there",
         ..FREE
     },
+    LOAD_TAPE,
     Argument {
         name: "cards",
         kind: Kind::Value("DECK", TEXT, &[]),
         help: "The deck file, a card a line; its cards follow those of FILE if FILE is a deck",
         ..FREE
     },
+    TAPE,
     Argument {
         name: "punch",
         kind: Kind::Value("OUT", TEXT, &[]),
@@ -77,7 +83,7 @@ const RUNNING: &[Argument] = &[
     Argument {
         name: "file",
         kind: Kind::File,
-        is_required: true,
+        instead: &["load-tape"],
         help: "The file: a source, an image or a deck; - is a name like any other",
         ..FREE
     },
@@ -108,33 +114,51 @@ pub(crate) fn limit_in(matches: &ArgMatches<'_>) -> u32
 pub(crate) fn run_call(alloc: Global, matches: &ArgMatches<'_>, file: &str) -> Result<Call, Error>
     ensures { IfOk result (λ call. IsRun (found_of matches.now) file.now call) }
 {
-    match (switches_in(matches), features_in(matches)) {
-        (Some(switches), Some(features)) => {
-            Ok(Call::Run(job_in(alloc, matches, file, switches, features)?))
-        }
-        (None, _) => Err(refusal(alloc, run(), NO_LETTERS)?),
-        (Some(_), None) => Err(refusal(alloc, run(), NAMED_TWICE)?),
+    let Some(switches) = switches_in(matches) else {
+        return Err(refusal(alloc, run(), NO_LETTERS)?);
+    };
+    let Some(features) = features_in(matches) else {
+        return Err(refusal(alloc, run(), NAMED_TWICE)?);
+    };
+    run_on(alloc, matches, file, switches, features)
+}
+
+/// The same, with these switches and features.
+fn run_on(
+    alloc: Global,
+    matches: &ArgMatches<'_>,
+    file: &str,
+    switches: [bool; 7],
+    features: Features,
+) -> Result<Call, Error>
+    ensures { IfOk result (λ call. IsRunOn (found_of matches.now) file.now switches features call) }
+{
+    match reels_in(alloc, matches) {
+        Ok(reels) => Ok(Call::Run(job_in(alloc, matches, file, switches, features, reels)?)),
+        Err(MountRefusal::Memory) => Err(Error::from(AllocError)),
+        Err(MountRefusal::Value(text)) => Err(refusal(alloc, run(), text.as_str())?),
     }
 }
 
-/// The job of a file, with these switches and features, that the options of `run` ask for.
+/// The job of a file, with these switches, features and reels, that the options of `run` ask for.
 fn job_in(
     alloc: Global,
     matches: &ArgMatches<'_>,
     file: &str,
     switches: [bool; 7],
     features: Features,
+    reels: Vec<MountedReel>,
 ) -> Result<Job, AllocError>
+    requires { AreReelsIn (found_of matches.now) reels.items }
     ensures { IfOk result (λ job. IsJob (found_of matches.now) file.now switches features job) }
 {
-    let start = if matches.get_flag("load") {
-        Start::LoadKey
-    } else {
-        Start::Entry
-    };
+    let start = start_in(matches, reels.as_slice());
+    let file = program_file(file, start, reels.as_slice());
+    let features = fitted_for(reels.as_slice(), features);
     let mut job = Job {
         file: String::from_str(alloc, file)?,
         start,
+        reels,
         cards: None,
         punch: None,
         paper: None,

@@ -17,7 +17,7 @@ use program_call::{Call, Opening, Operators, PlainService, Seating};
 use serving_http::{Origin, OriginFault, read_origin};
 use std::alloc::{AllocError, Global};
 
-/// The port that a browser leaves out of an address, so that a page there couldn't tell whether it was asked for.
+/// The port that a browser leaves out of an address, so that a page there couldn't know whether it was asked for.
 const UNNAMED_PORT: u16 = 80;
 
 /// Any port.

@@ -1,5 +1,6 @@
 -- What is written of a source, ready: its image, its listing, or its tables (own).
-use Rattle.std.specs.Prelude.{ℕ, ⊤, Bool, true, false, ◌&&◌, if◌then◌else◌, List, [], ◌∷◌, Option, None, Some, IfSome, codes}
+use Rattle.std.specs.Prelude.{ℕ, Bool, true, false, ◌&&◌, if◌then◌else◌, List, [], ◌∷◌, Option, None, Some, IfSome, codes}
+use Rattle.autocoder_image.specs.ReadyImage.{text_of, HasPages}
 use Rattle.autocoder_listing.specs.Writing.{IsReadyFor, text_for}
 use Rattle.autocoder_listing.specs.declared.writing.ReadyListing.{ReadyListing}
 use Rattle.program_assemble.specs.Assemble.{with_part}
@@ -29,11 +30,11 @@ AreReadyFor source tables = IfSome tables.listing (IsReadyFor source)
 
 -- what is written of a source
 abbrev pub product_text : List ℕ → ReadyProduct → List ℕ
-product_text source (product.Image text) = text.items
+product_text source (product.Image ready) = text_of ready
 product_text source (product.Listing ready) = text_for source ready
 product_text source (product.Tables tables) = ready_text source tables
 
 abbrev pub IsReady : List ℕ → ReadyProduct → Type 0
-IsReady source (product.Image text) = ⊤
+IsReady source (product.Image ready) = HasPages ready
 IsReady source (product.Listing ready) = IsReadyFor source ready
 IsReady source (product.Tables tables) = AreReadyFor source tables

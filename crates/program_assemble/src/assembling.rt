@@ -4,6 +4,8 @@ ghost use Rattle.std.specs.Prelude.{OnErr};
 ghost use Rattle.core_1401.specs.Storage.{is_core_size};
 ghost use Rattle.machine_image.specs.Image.{IsInCore};
 ghost use Rattle.autocoder_statements.specs.SourceLine.{lines_of};
+ghost use Rattle.machine_image.specs.ImageText.{written_text, IsTextOf};
+ghost use Rattle.autocoder_image.specs.ReadyImage.{text_of, HasPages};
 ghost use Rattle.autocoder_listing.specs.Writing.{IsReadyFor, text_for};
 ghost use Rattle.autocoder_1401.specs.Assembly.{assembly_in, with_listing};
 ghost use Rattle.program_call.specs.declared.call.Product.TheVariants.{Image as InImage, Listing, Tables as InTables};
@@ -14,14 +16,14 @@ ghost use Rattle.program_assemble.specs.Assemble.{IsDeckOf, IsWhyNoDeckOf, Wrote
 
 use crate::fault::AssembleFault;
 use autocoder_1401::{
-    AssemblyTables, ReadyListing, assemble_image, assemble_listing, assemble_with_tables,
-    write_listing,
+    AssemblyTables, PackedImage, ReadyImage, ReadyListing, assemble_image, assemble_listing,
+    assemble_packed, assemble_with_tables, write_listing, write_packed,
 };
 use autocoder_deck::{DeckFault, write_deck};
 use autocoder_statements::{Language, split_line};
 use bytes_streams::{Sink, put_all};
 use core_1401::Core;
-use machine_image::{Image, write_image};
+use machine_image::Image;
 use program_call::{Product, Tables};
 use std::alloc::{AllocError, Global};
 
@@ -56,8 +58,8 @@ pub fn check_size(size: u16) -> Result<(), AssembleFault>
 /// What is written of a source, ready: it needs no more memory.
 #[derive(Drop)]
 pub(crate) enum ReadyProduct {
-    /// The text of its image.
-    Image(Vec<u8>),
+    /// Its image.
+    Image(ReadyImage),
     /// Its listing.
     Listing(ReadyListing),
     /// Its tables.
@@ -106,8 +108,8 @@ pub(crate) fn ready_product(
 {
     match product {
         Product::Image => {
-            let text = image_text(alloc, language, source, size)?;
-            Ok(ReadyProduct::Image(text))
+            let image = source_image(alloc, language, source, size)?;
+            Ok(ReadyProduct::Image(image))
         }
         Product::Listing => {
             let listing = source_listing(alloc, language, source, size)?;
@@ -135,9 +137,21 @@ pub(crate) fn write_ready_product<W: Sink>(
         (W.has_failed writer.new) result }
 {
     match ready {
-        ReadyProduct::Image(text) => write_text(text.as_slice(), writer),
+        ReadyProduct::Image(image) => write_ready_image(image, writer),
         ReadyProduct::Listing(listing) => write_ready(listing, source, writer),
         ReadyProduct::Tables(tables) => write_tables(tables, source, writer),
+    }
+}
+
+/// Writes the text of an image that is ready.
+fn write_ready_image<W: Sink>(ready: ReadyImage, writer: &mut W) -> Result<(), AssembleFault>
+    requires { HasPages ready }
+    ensures { Wrote (text_of ready) (W.received writer.old) (W.received writer.new)
+        (W.has_failed writer.new) result }
+{
+    match write_packed(ready, writer) {
+        Ok(()) => Ok(()),
+        Err(_) => Err(AssembleFault::Output),
     }
 }
 
@@ -175,20 +189,39 @@ fn image_of(
     }
 }
 
-/// The text of a source's image.
-fn image_text(
+/// The image of a source in few bytes.
+fn packed_image(
     alloc: Global,
     language: Language,
     source: &[u8],
     size: u16,
-) -> Result<Vec<u8>, AssembleFault>
-    requires { is_core_size size ≡ true }
-    ensures ok { IfOk result (λ text. IsProductOf language size source.now InImage text.items) }
+) -> Result<PackedImage, AssembleFault>
+    ensures ok { IfOk result (λ image.
+        assembly_in language size source.now ≡ Ok (with_listing language source.now image)) }
+    ensures again { is_core_size size ≡ true → IfOk result (λ image. IsTextOf (written_text image) image) }
     ensures err { IfErr result (IsWhyNotAssembled language size source.now) }
 {
-    let image = image_of(alloc, language, source, size)?;
-    match write_image(alloc, &image) {
-        Ok(text) => Ok(text),
+    match assemble_packed(alloc, language, source, size) {
+        Ok(image) => Ok(image),
+        Err(fault) => Err(AssembleFault::Source(fault)),
+    }
+}
+
+/// The image of a source, ready to be written.
+fn source_image(
+    alloc: Global,
+    language: Language,
+    source: &[u8],
+    size: u16,
+) -> Result<ReadyImage, AssembleFault>
+    requires { is_core_size size ≡ true }
+    ensures ok { IfOk result (λ ready. IsProductOf language size source.now InImage (text_of ready)) }
+    ensures ready { IfOk result HasPages }
+    ensures err { IfErr result (IsWhyNotAssembled language size source.now) }
+{
+    let image = packed_image(alloc, language, source, size)?;
+    match ReadyImage::reserve(alloc, image) {
+        Ok(ready) => Ok(ready),
         Err(_) => Err(AssembleFault::Memory),
     }
 }

@@ -96,12 +96,12 @@ fn deck_listing(alloc: Global, cards: &CardList, size: u16) -> Result<Vec<u8>, A
     ensures ok { IfOk result (λ listing. IsListingOfDeck size cards.now listing.items) }
     ensures err { IfErr result (IsWhyUnlisted size cards.now) }
 {
-    let mut machine = match Machine::power_on(alloc, size) {
+    let machine = match Machine::power_on(alloc, size) {
         Ok(machine) => machine,
         Err(CoreFault::Memory) => return Err(AssembleFault::Memory),
         Err(CoreFault::Size) => unreachable!(),
     };
-    let loaded = match loaded_image(alloc, &mut machine, cards, LOADING_STEPS) {
+    let loaded = match loaded_image(alloc, machine, cards, LOADING_STEPS) {
         Ok(loaded) => loaded,
         Err(LoadFault::Memory) => return Err(AssembleFault::Memory),
         Err(fault) => return Err(AssembleFault::Unloaded(fault)),

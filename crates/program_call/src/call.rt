@@ -169,15 +169,42 @@ pub enum Start {
     Entry,
     /// The load key is pressed, which reads the deck's first card.
     LoadKey,
+    /// The reel on this unit, 1 to 6, is loaded: the key that loads from tape is pressed.
+    LoadTape(u8),
+}
+
+/// Which reel is mounted on a tape unit before a job, and which file it goes to afterwards.
+#[derive(Debug, Drop, PartialEq, Eq)]
+pub enum ReelSource {
+    /// That of the file of this name. It has no ring, and the file is never written.
+    File(String),
+    /// That of the file of this name. It has a ring, and the file is written when the job has ended.
+    Ringed(String),
+    /// An empty reel with a ring. The file of this name is made when the job has ended; there is none before.
+    New(String),
+    /// An empty reel with a ring. No file gets it.
+    Scratch,
+}
+
+/// A reel that is mounted on a tape unit before a job.
+#[derive(Debug, Drop, PartialEq, Eq)]
+pub struct MountedReel {
+    /// The unit, 1 to 6.
+    pub unit: u8,
+    /// Which reel it is.
+    pub reel: ReelSource,
 }
 
 /// A job: a program, its deck, and where paper and punched cards go.
 #[derive(Debug, Drop, PartialEq, Eq)]
 pub struct Job {
-    /// The name of the file of the source or the image; or of the deck for which the load key is pressed.
+    /// The name of the file of the source or the image; or of the deck for which the load key is pressed; or of the reel
+    /// that is loaded from tape, which is one of `reels` too.
     pub file: String,
     /// How the program is started.
     pub start: Start,
+    /// The reels on the tape units, at most one on each; the machine is fitted with tapes if there are any.
+    pub reels: Vec<MountedReel>,
     /// The name of the deck's file; without one there are no cards.
     pub cards: Option<String>,
     /// The name of the file of the punched cards; without one they are counted alone.
@@ -214,8 +241,8 @@ pub struct Operating {
     /// The name of the file of the program: a source or an image, or the deck for which the load key is pressed. Without
     /// one nothing is loaded. If a journal is taken up it is a source, which is read for its labels.
     pub file: Option<String>,
-    /// How the program is made ready.
-    pub start: Start,
+    /// Whether `file` is a deck, for which the load key is pressed.
+    pub is_deck: bool,
     /// The name of the deck's file; without one there are no cards but those of `file`.
     pub cards: Option<String>,
     /// The sense switches A to G.

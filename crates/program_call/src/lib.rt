@@ -9,12 +9,15 @@
 
 pub mod call;
 
+// a reel's file and its ring
+pub mod mounted;
+
 // how many places core storage has for what is asked
 pub mod sizes;
 
 pub use call::{
-    Assembling, Call, DEFAULT_SIZE, Job, NewJournal, Opening, Operating, Operators, Parity,
-    PlainService, Product, ReelTask, Reeling, Reported, Resuming, Seating, Session, Showing, Start,
-    Tables,
+    Assembling, Call, DEFAULT_SIZE, Job, MountedReel, NewJournal, Opening, Operating, Operators,
+    Parity, PlainService, Product, ReelSource, ReelTask, Reeling, Reported, Resuming, Seating,
+    Session, Showing, Start, Tables,
 };
 pub use sizes::{is_refused, size_for};

@@ -8,7 +8,6 @@ use devices_1401::Card;
 use machine_panel::SwitchName;
 use operate_answers::put_head;
 use operate_program::Program;
-use program_call::Start;
 use program_run::RunFault;
 use room_alone::{Command, Room};
 use std::alloc::Global;
@@ -101,7 +100,7 @@ fn put_beginning(
 pub(crate) fn begin(
     rt: &(impl Files + Eprint + AllocGlobal),
     file: Option<String>,
-    start: Start,
+    is_deck: bool,
     cards: Option<String>,
     switches: [bool; 7],
     reading: Reading,
@@ -113,7 +112,7 @@ pub(crate) fn begin(
         mut room,
         program,
         deck,
-    } = open_room(rt, file, start, reading)?;
+    } = open_room(rt, file, is_deck, reading)?;
     let beyond = match cards {
         Some(cards) => Some(NamedDeck::read(rt, cards, reading.decks)?),
         None => None,

@@ -1,24 +1,28 @@
 //! The program of a file, and the room that it is loaded in.
-ghost use Rattle.std.specs.Prelude.{◌≡◌, ◌≢◌, false, IfErr, IfOk};
+ghost use Rattle.std.specs.Prelude.{◌≡◌, ◌≢◌, ◌++◌, false, IfErr, IfOk, OnOk};
 ghost use Rattle.autocoder_listing.specs.Rows.{rows_of};
 ghost use Rattle.autocoder_listing.specs.SymbolTable.{symbols_in};
 ghost use Rattle.autocoder_symbols.specs.Reading.{lines_in};
+ghost use Rattle.console_1401.specs.ImageLoading.{load_entries};
 ghost use Rattle.machine_image.specs.Image.{IsInCore};
 ghost use Rattle.program_call.specs.Sizes.{is_refused};
+ghost use Rattle.room_alone.specs.Journal.{refusal_of};
 
 use crate::decks::NamedDeck;
 use crate::fault::{OperateFault, unready};
-use autocoder_1401::{AssemblyProgram, assemble_program};
+use autocoder_1401::{AssemblyProgram, PackedImage, assemble_program};
 use autocoder_statements::Language;
-use console_1401::{put_features, put_image};
+use console_1401::{put_command, put_features};
 use core_1401::CoreFault;
+use machine_commands::Command;
 use machine_graphics::{Graphics, Suggestion};
+use machine_image::Segment;
 use machine_panel::Features;
 use operate_program::Program;
-use program_call::{DEFAULT_SIZE, Start, is_refused, size_for};
+use program_call::{DEFAULT_SIZE, is_refused, size_for};
 use program_run::{RunFault, is_image, read_program_text, report_source};
 use program_sessions::loaded_room;
-use room_alone::Room;
+use room_alone::{Room, RoomFault};
 use std::alloc::Global;
 use std::rt::Files;
 
@@ -108,6 +112,27 @@ fn assembled(
     }
 }
 
+/// Loads an image, as `put_image` does, one segment after the other.
+///
+/// # Errors
+///
+/// Those of `put_image`.
+fn put_packed(room: &mut Room, image: &PackedImage) -> Result<(), RoomFault>
+    requires size { image.now.size ≡ room.old.size }
+    requires in_core { IsInCore image.now }
+    ensures loaded { OnOk result (room.new.journal ≡ room.old.journal ++ load_entries image.now) }
+    ensures fault { IfErr result (λ fault. fault ≡ refusal_of room.new.journal) }
+{
+    let mut rest = image.segments();
+    while let Some((segment, beyond)) = rest.split_first() {
+        let Segment { address, cells } = segment;
+        put_command(room, Command::Deposit { address, cells })?;
+        rest = beyond;
+    }
+    let address = image.start();
+    put_command(room, Command::SetI { address })
+}
+
 /// A room at which the program of a source is loaded.
 fn of_source(
     rt: &(impl Eprint + AllocGlobal),
@@ -125,8 +150,8 @@ fn of_source(
         rows,
         symbols,
     } = made;
-    let mut room = bare_room(rt.alloc(), image.size, reading.features)?;
-    match put_image(&mut room, &image) {
+    let mut room = bare_room(rt.alloc(), image.size(), reading.features)?;
+    match put_packed(&mut room, &image) {
         Ok(()) => {}
         Err(fault) => return Err(unready(fault)),
     }
@@ -240,7 +265,7 @@ pub(crate) fn labels_of(
 pub(crate) fn open_room(
     rt: &(impl Files + Eprint + AllocGlobal),
     file: Option<String>,
-    start: Start,
+    is_deck: bool,
     reading: Reading,
 ) -> Result<Opened, OperateFault>
     ensures { IfErr result (λ why. why ≢ OperateFault.Faulty) }
@@ -248,9 +273,9 @@ pub(crate) fn open_room(
     if is_refused(reading.size) {
         return Err(OperateFault::Size);
     }
-    let deck = match (file, start) {
-        (Some(file), Start::Entry) => return of_file(rt, file, reading),
-        (Some(file), Start::LoadKey) => Some(NamedDeck::read(rt, file, reading.decks)?),
+    let deck = match (file, is_deck) {
+        (Some(file), false) => return of_file(rt, file, reading),
+        (Some(file), true) => Some(NamedDeck::read(rt, file, reading.decks)?),
         (None, _) => None,
     };
     let size = reading.size.unwrap_or(DEFAULT_SIZE);

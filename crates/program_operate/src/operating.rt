@@ -316,7 +316,7 @@ pub fn operate_at<R: Files<File = File> + Print + Eprint + AllocGlobal, I: Sourc
 {
     let Operating {
         file,
-        start,
+        is_deck,
         cards,
         switches,
         journal,
@@ -345,7 +345,7 @@ pub fn operate_at<R: Files<File = File> + Print + Eprint + AllocGlobal, I: Sourc
     if let Some(resumed) = resumed {
         return go_on(rt, resumed, file, reading, console, reader);
     }
-    let begun = begin(rt, file, start, cards, switches, reading)?;
+    let begun = begin(rt, file, is_deck, cards, switches, reading)?;
     match journal {
         Some(journal) => answer_in_new(rt, begun, journal, console, reader),
         None => {

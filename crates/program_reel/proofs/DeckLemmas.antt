@@ -1,10 +1,10 @@
 -- Records as cards, and cards as records.
 use Rattle.std.proofs.Common.{◌≡◌, ℕ, ◌+◌, ◌-◌, ◌<◌, ◌≤◌, Bool, true, false, List, [], ◌∷◌, ◌++◌, length, map}
-use Rattle.std.proofs.Common.{replicate, reverse}
+use Rattle.std.proofs.Common.{replicate}
 use Rattle.std.proofs.Common.{refl, sym, ap}
 use Rattle.std.proofs.Common.{◌∙◌, Result, Ok, Err, append_assoc, append-nil, arith, inl, inr}
 use Rattle.std.proofs.lemmas.Bool.{and_from, and_parts, eq-eqb, eqb-true, le-leb, lt-leb, not-true}
-use Rattle.std.proofs.lemmas.List.{length-map, reverse-append}
+use Rattle.std.proofs.lemmas.List.{length-map}
 use Rattle.std.specs.List.{flat_map, list_all}
 use Rattle.std.specs.Prelude.{◌⊎◌, nat_eq, not, if◌then◌else◌}
 use Rattle.devices_1401.specs.declared.card.Card.{Card}
@@ -59,7 +59,7 @@ unfolding cards_from
 cards_from-none parity number = refl
 
 -- a card's record is no tape mark
-long_is_none : (chars : List ℕ) → length chars ≡ 80 → is_tape_mark chars ≡ false
+pub long_is_none : (chars : List ℕ) → length chars ≡ 80 → is_tape_mark chars ≡ false
 long_is_none [] long = absurd (omega arith)
 long_is_none (char ∷ []) long = absurd (omega arith)
 long_is_none (char ∷ next ∷ chars) long = refl
@@ -140,15 +140,6 @@ from_again parity number (card ∷ cards) whole stay =
 pub deck_again : (parity : Parity) (cards : List Card) → are_whole cards ≡ true → StayAsTheyAre parity cards
     → reel_cards parity (deck_records parity cards) ≡ Ok cards
 deck_again parity cards whole stay = from_again parity 1 cards whole stay
-
--- the records of a deck on a reel, and one more
-pub records_more : (parity : Parity) (passed : List (List ℕ)) (card : Card) (deck : List Card)
-    → reverse (card_record parity card ∷ passed) ++ map (card_record parity) deck
-    ≡ reverse passed ++ map (card_record parity) (card ∷ deck)
-records_more parity passed card deck =
-    ap (λ (records : List (List ℕ)). records ++ map (card_record parity) deck)
-    (reverse-append (card_record parity card ∷ []) passed)
-    ∙ append_assoc (reverse passed) (card_record parity card ∷ []) (map (card_record parity) deck)
 
 -- why there are no cards, at a record
 pub no_cards_at : (parity : Parity) (number : ℕ) (text : List ℕ) (records rest beyond : List (List ℕ)) (first : List ℕ)

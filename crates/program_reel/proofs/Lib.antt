@@ -2,4 +2,5 @@ pub mod CountLemmas
 pub mod PutsLemmas
 pub mod ReelListingLemmas
 pub mod DeckLemmas
+pub mod ReelTextLemmas
 mod ReelExamples

@@ -1,7 +1,7 @@
 -- What is put into a page part by part is put as a whole.
 use Rattle.std.proofs.Common.{◌≡◌, ℕ, Bool, List, [], ◌++◌, Option, Result, Ok, Err, append_assoc, append-nil, ap}
 use Rattle.std.proofs.Common.{sym, ◌∙◌}
-use Rattle.std.proofs.Common.{inl, inr, subst}
+use Rattle.std.proofs.Common.{inl, inr, refl, subst}
 use Rattle.std.specs.Prelude.{⊤, IsTrue}
 use Rattle.bytes_pages.proofs.SentLemmas.{part_before, part_then, sent_before, sent_more, sent_part, sent_rest}
 use Rattle.bytes_pages.proofs.SentLemmas.{sent_then}
@@ -11,6 +11,7 @@ use Rattle.bytes_streams.specs.declared.failure.Failed.{Failed}
 use Rattle.program_reel.specs.Did.{Wrote}
 use Rattle.program_reel.specs.Writing.{Puts}
 use Rattle.program_reel.specs.declared.fault.ReelFault.{ReelFault}
+use Rattle.program_reel.specs.declared.fault.ReelFault.TheVariants as fault
 
 -- a part was put, and then another
 pub puts_then : (old between new : Option (List ℕ)) (failed : Bool) (page first next more less : List ℕ)
@@ -65,3 +66,18 @@ wrote_rest old between new failed text left outcome sent (inl done) =
     inl (done.0, sent_rest old between new text left sent done.1)
 wrote_rest old between new failed text left outcome sent (inr part) =
     inr (part.0, sent_part old between new text left sent part.1, part.2)
+
+-- all was put into an empty page, and what was left there was written
+pub wrote_page : (old between new : Option (List ℕ)) (failed : Bool) (page text left bytes : List ℕ)
+    (outcome : Result ⊤ ReelFault) → page ≡ [] → bytes ≡ left → Sent old between (page ++ text) left
+    → Wrote bytes between new failed outcome → Wrote text old new failed outcome
+wrote_page old between new failed page text left bytes outcome none is sent wrote =
+    wrote_rest old between new failed text left outcome
+    (subst (λ (front : List ℕ). Sent old between (front ++ text) left) none sent)
+    (subst (λ (all : List ℕ). Wrote all between new failed outcome) is wrote)
+
+-- a write failed before all was there
+pub wrote_part : (old new : Option (List ℕ)) (failed : Bool) (page text : List ℕ) → page ≡ []
+    → AppendsPart old new (page ++ text) × IsTrue failed → Wrote text old new failed (Err fault.Output)
+wrote_part old new failed page text none part =
+    inr (refl, subst (λ (front : List ℕ). AppendsPart old new (front ++ text)) none part.0, part.1)

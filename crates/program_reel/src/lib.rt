@@ -3,7 +3,8 @@
 //! ```text
 //! write_reel_listing(alloc, text, Parity::Odd, &mut writer)?  // 000001 00080 JONES, and so on
 //! reel_deck(alloc, text, Parity::Even)?                       // the text of a deck: a card for each record
-//! deck_reel(alloc, &cards, Parity::Even)?                     // the text of a reel: a record for each card
+//! ReelText::new(alloc, &cards, Parity::Even)?                 // the text of a reel: a record for each card,
+//!     .write(&mut writer)?                                    // made as it is written
 //! ```
 #![tactic(auto)]
 
@@ -29,4 +30,4 @@ pub use decks::reel_deck;
 pub use fault::ReelFault;
 pub use listing::write_reel_listing;
 pub use reel_file::{check_names, list_reel, write_reel, write_reel_deck};
-pub use reels::deck_reel;
+pub use reels::ReelText;

@@ -140,7 +140,7 @@ fn write_listing<W: Sink>(
 }
 
 /// Writes a page.
-fn write_page<W: Sink>(page: &[u8], writer: &mut W) -> Result<(), ReelFault>
+pub(crate) fn write_page<W: Sink>(page: &[u8], writer: &mut W) -> Result<(), ReelFault>
     ensures { Wrote page.now (W.received writer.old) (W.received writer.new) (W.has_failed writer.new) result }
 {
     match put_all(writer, page) {

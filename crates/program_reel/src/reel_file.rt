@@ -3,8 +3,10 @@
 use crate::decks::reel_deck;
 use crate::fault::ReelFault;
 use crate::listing::write_reel_listing;
-use crate::reels::deck_reel;
-use bytes_files::{FileFault, WriteFault, is_one_file, put_whole, read_whole};
+use crate::reels::ReelText;
+use bytes_files::{
+    FileFault, WriteFault, begin_whole, end_whole, is_one_file, put_whole, read_whole,
+};
 use bytes_streams::ToWriter;
 use job_runner::CardList;
 use machine_graphics::{Graphics, in_theirs};
@@ -50,6 +52,14 @@ pub fn check_names<R: Files + AllocGlobal>(rt: &R, file: &str, out: &str) -> Res
     }
 }
 
+/// What a file of this name that isn't written is reported as.
+fn unwritten(name: String, fault: WriteFault) -> ReelFault {
+    match fault {
+        WriteFault::Memory => ReelFault::Memory,
+        WriteFault::Unwritten => ReelFault::Unwritten(name),
+    }
+}
+
 /// Writes a text to the file of this name, whole or not at all; or to standard output, if the name is its.
 fn put_file(
     rt: &(impl Files + Print + AllocGlobal),
@@ -58,9 +68,20 @@ fn put_file(
 ) -> Result<(), ReelFault> {
     match put_whole(rt, name.as_str(), text) {
         Ok(()) => Ok(()),
-        Err(WriteFault::Memory) => Err(ReelFault::Memory),
-        Err(WriteFault::Unwritten) => Err(ReelFault::Unwritten(name)),
+        Err(fault) => Err(unwritten(name, fault)),
     }
+}
+
+/// Writes the text of a reel as it is made, to the file of this name, whole or not at all; or to standard output, if the
+/// name is its.
+fn put_reel_file(
+    rt: &(impl Files + Print + AllocGlobal),
+    name: &str,
+    text: ReelText<'_>,
+) -> Result<(), WriteFault> {
+    let mut writer = ToWriter::new(begin_whole(rt, name)?);
+    let written = text.write(&mut writer);
+    end_whole(rt, writer.into_inner(), written.is_ok())
 }
 
 /// Writes the listing of the reel of a file to standard output.
@@ -110,6 +131,9 @@ pub fn write_reel<R: Files + Print + AllocGlobal>(
     out: String,
     parity: Parity,
 ) -> Result<(), ReelFault> {
-    let text = deck_reel(rt.alloc(), cards, parity)?;
-    put_file(rt, out, text.as_slice())
+    let text = ReelText::new(rt.alloc(), cards, parity)?;
+    match put_reel_file(rt, out.as_str(), text) {
+        Ok(()) => Ok(()),
+        Err(fault) => Err(unwritten(out, fault)),
+    }
 }

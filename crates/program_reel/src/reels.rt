@@ -1,47 +1,72 @@
-//! The reel of a deck.
-ghost use Rattle.std.specs.Prelude.{◌≡◌, ◌+◌, ◌*◌, ◌≤◌, ◌<◌, ◌++◌, ◌∷◌, [], length, map, true, reverse, Ok};
-ghost use Rattle.std.specs.Prelude.{IfOk, IfErr, IfSome, MatchOption};
+//! The reel of a deck, written card by card.
+ghost use Rattle.std.specs.Prelude.{◌≡◌, ◌+◌, ◌*◌, ◌≤◌, ◌++◌, ◌∷◌, [], length, map, nat_lt, true, vec_capacity, Ok};
+ghost use Rattle.std.specs.Prelude.{IfOk, IfErr, IfSome, OnOk, MatchOption};
 ghost use Rattle.std.specs.List.{list_all};
+ghost use Rattle.bytes_pages.specs.Page.{most_in_page};
 ghost use Rattle.devices_1401.specs.Card.{card_columns};
-ghost use Rattle.machine_reels.specs.Reel.{after_write, most_characters, mounted, records_of, room_in};
+ghost use Rattle.machine_reels.specs.Held.{is_record};
+ghost use Rattle.machine_reels.specs.Reel.{most_characters};
 ghost use Rattle.machine_reels.specs.TapReading.{records_read};
-ghost use Rattle.machine_reels.specs.TapText.{tap_text};
-ghost use Rattle.program_reel.specs.Decks.{card_record, deck_records, reel_cards, IsWhyNoReelOf, StayAsTheyAre};
-ghost use Rattle.program_reel.specs.Decks.{are_whole};
+ghost use Rattle.machine_reels.specs.TapText.{length_text, record_text, tap_text};
+ghost use Rattle.program_reel.specs.Decks.{are_whole, card_record, deck_records, reel_cards};
+ghost use Rattle.program_reel.specs.Decks.{IsWhyNoReelOf, StayAsTheyAre};
+ghost use Rattle.program_reel.specs.Did.{Wrote};
+ghost use Rattle.program_reel.specs.Writing.{Puts};
 
 use crate::fault::ReelFault;
+use crate::lines::put_text;
+use crate::listing::write_page;
 use crate::parity::taped;
-use bcd_1401::Char;
+use bytes_pages::PAGE;
+use bytes_streams::{Failed, Sink};
 use devices_1401::{CARD_COLUMNS, Card};
 use job_runner::{CardList, Cards, Deck};
-use machine_reels::{MOST_CHARACTERS, Reel, write_tap};
+use machine_reels::MOST_CHARACTERS;
 use program_call::Parity;
 use std::alloc::Global;
 
 /// The most cards of a deck that becomes a reel, with a tape mark after them.
 const MOST_CARDS: usize = (MOST_CHARACTERS - 1) / CARD_COLUMNS;
 
-/// The characters of a card as they are on tape.
-fn card_record(parity: Parity, card: Card) -> [Char; CARD_COLUMNS]
-    ensures { result ≡ card_record parity card }
+/// The codes of the characters of a card as they are on tape.
+fn card_record(parity: Parity, card: Card) -> [u8; CARD_COLUMNS]
+    ensures value { result ≡ card_record parity card }
+    ensures range { list_all (λ char. nat_lt char 64) result ≡ true }
 {
-    let mut columns = [Char::BLANK; CARD_COLUMNS];
+    let mut codes = [0; CARD_COLUMNS];
     for i in 0..CARD_COLUMNS {
-        columns[i] = taped(parity, card.0[i]);
+        codes[i] = taped(parity, card.0[i]).code();
     }
-    columns
+    codes
 }
 
-/// Writes the record of a card onto a reel that has room for it.
-fn put_card(reel: &mut Reel, parity: Parity, card: Card)
-    requires { card_columns ≤ room_in reel.old }
-    ensures { reel.new ≡ after_write reel.old (card_record parity card) }
+/// A length in four bytes, the low byte first.
+#[tactic(auto, unfolding(machine_reels::specs::TapText::length_text))]
+fn length_text(length: usize) -> [u8; 4]
+    requires { length ≤ most_characters }
+    ensures { result ≡ length_text length }
+{
+    (length as u32).to_le_bytes()
+}
+
+/// Puts the record of a card.
+fn put_card<W: Sink>(
+    page: &mut Vec<u8>,
+    parity: Parity,
+    card: Card,
+    writer: &mut W,
+) -> Result<(), Failed>
+    requires { most_in_page ≤ vec_capacity page.old }
+    ensures puts { Puts (W.received writer.old) (W.received writer.new) (W.has_failed writer.new)
+        (page.old.items ++ record_text (card_record parity card)) page.new.items result }
+    ensures good { is_record (card_record parity card) ≡ true }
+    ensures capacity { vec_capacity page.old ≤ vec_capacity page.new }
 {
     let characters = card_record(parity, card);
-    match reel.write_record(&characters) {
-        Ok(()) => {},
-        Err(_) => unreachable!(),
-    }
+    let length = length_text(CARD_COLUMNS);
+    put_text(page, &length, writer)?;
+    put_text(page, &characters, writer)?;
+    put_text(page, &length, writer)
 }
 
 /// The next card of a deck in memory, which is always read.
@@ -55,59 +80,127 @@ fn next_card(deck: &mut Deck<'_>) -> Option<Card>
     }
 }
 
-/// Writes the records of a deck onto a reel without a record, which has room for them.
-fn put_deck(reel: &mut Reel, parity: Parity, cards: &CardList)
-    requires room { card_columns * length cards.now + 1 ≤ reel.old.capacity }
-    requires blank { reel.old ≡ mounted [] reel.old.capacity }
-    ensures records { records_of reel.new ≡ map (card_record parity) cards.now }
-    ensures room { 0 < room_in reel.new }
-    ensures ahead { reel.new.ahead ≡ [] }
-    ensures whole { are_whole cards.now ≡ true }
+/// Puts the records of the cards of a deck.
+fn put_deck<W: Sink>(
+    page: &mut Vec<u8>,
+    parity: Parity,
+    cards: &CardList,
+    writer: &mut W,
+) -> Result<(), Failed>
+    requires { most_in_page ≤ vec_capacity page.old }
+    ensures puts { Puts (W.received writer.old) (W.received writer.new) (W.has_failed writer.new)
+        (page.old.items ++ tap_text (map (card_record parity) cards.now)) page.new.items result }
+    ensures good { OnOk result (list_all is_record (map (card_record parity) cards.now) ≡ true) }
+    ensures whole { OnOk result (are_whole cards.now ≡ true) }
+    ensures capacity { vec_capacity page.old ≤ vec_capacity page.new }
 {
     let mut deck = Deck::new(cards);
     while let Some(card) = next_card(&mut deck) {
-        put_card(reel, parity, card);
+        put_card(page, parity, card, writer)?;
     }
+    Ok(())
 }
 
-/// The reel of a deck.
-fn reel_of_cards(alloc: Global, cards: &CardList, parity: Parity) -> Result<Reel, ReelFault>
-    ensures records { IfOk result (λ reel. records_of reel ≡ deck_records parity cards.now) }
-    ensures whole { IfOk result (λ reel. are_whole cards.now ≡ true) }
-    ensures err { IfErr result (IsWhyNoReelOf cards.now) }
+/// Puts all records of the reel of a deck, the tape mark last.
+fn put_reel<W: Sink>(
+    page: &mut Vec<u8>,
+    parity: Parity,
+    cards: &CardList,
+    writer: &mut W,
+) -> Result<(), Failed>
+    requires { most_in_page ≤ vec_capacity page.old }
+    ensures puts { Puts (W.received writer.old) (W.received writer.new) (W.has_failed writer.new)
+        (page.old.items ++ tap_text (deck_records parity cards.now)) page.new.items result }
+    ensures good { OnOk result (list_all is_record (map (card_record parity) cards.now) ≡ true) }
+    ensures whole { OnOk result (are_whole cards.now ≡ true) }
+    ensures capacity { vec_capacity page.old ≤ vec_capacity page.new }
 {
-    let count = cards.len();
-    if count > MOST_CARDS {
-        return Err(ReelFault::Full);
-    }
-    let Ok(mut reel) = Reel::new(alloc, CARD_COLUMNS * count + 1) else {
-        return Err(ReelFault::Memory);
-    };
-    put_deck(&mut reel, parity, cards);
-    match reel.write_tape_mark() {
-        Ok(()) => Ok(reel),
-        Err(_) => unreachable!(),
+    put_deck(page, parity, cards, writer)?;
+    let mark = length_text(0);
+    put_text(page, &mark, writer)
+}
+
+/// Writes the text of the reel of a deck by way of a page in which there is nothing.
+fn write_text<W: Sink>(
+    page: Vec<u8>,
+    parity: Parity,
+    cards: &CardList,
+    writer: &mut W,
+) -> Result<(), ReelFault>
+    requires none { page.items ≡ [] }
+    requires room { most_in_page ≤ vec_capacity page }
+    ensures wrote { Wrote (tap_text (deck_records parity cards.now)) (W.received writer.old) (W.received writer.new)
+        (W.has_failed writer.new) result }
+    ensures good { OnOk result (list_all is_record (map (card_record parity) cards.now) ≡ true) }
+    ensures whole { OnOk result (are_whole cards.now ≡ true) }
+{
+    let mut page = page;
+    match put_reel(&mut page, parity, cards, writer) {
+        Ok(()) => write_page(page.as_slice(), writer),
+        Err(_) => Err(ReelFault::Output),
     }
 }
 
 /// The text of the reel of a deck, a `.tap` file: a record of 80 characters for each card, and a tape mark after the
-/// last.
-///
-/// # Errors
-///
-/// `Full` if the deck has more characters than a reel can have; or `Memory`.
-pub fn deck_reel(alloc: Global, cards: &CardList, parity: Parity) -> Result<Vec<u8>, ReelFault>
-    ensures text { IfOk result (λ text. text.items ≡ tap_text (deck_records parity cards.now)) }
+/// last. It is made as it is written, a page at a time, and the page is reserved before.
+#[derive(Drop)]
+pub struct ReelText<'a> {
+    page: Vec<u8>,
+    parity: Parity,
+    cards: &'a CardList,
+    ghost none: { page.items ≡ [] },
+    ghost room: { most_in_page ≤ vec_capacity page },
+    ghost few: { card_columns * length cards.now + 1 ≤ most_characters },
+}
 
-    // The text is read as these records, and the deck that is made of them is this deck.
-    ensures read { IfOk result (λ text. records_read text.items ≡ Ok (deck_records parity cards.now)) }
-    ensures again { IfOk result (λ text. StayAsTheyAre parity cards.now
-        → reel_cards parity (deck_records parity cards.now) ≡ Ok cards.now) }
-    ensures err { IfErr result (IsWhyNoReelOf cards.now) }
-{
-    let reel = reel_of_cards(alloc, cards, parity)?;
-    match write_tap(alloc, &reel.records()) {
-        Ok(text) => Ok(text),
-        Err(_) => Err(ReelFault::Memory),
+impl<'a> ReelText<'a> {
+    /// The text of the reel of this deck; nothing is written yet.
+    ///
+    /// # Errors
+    ///
+    /// `Full` if the deck has more characters than a reel can have; or `Memory`.
+    pub fn new(
+        alloc: Global,
+        cards: &'a CardList,
+        parity: Parity,
+    ) -> Result<ReelText<'a>, ReelFault>
+        ensures parity { IfOk result (λ text. text.parity ≡ parity) }
+        ensures cards { IfOk result (λ text. text.cards.now ≡ cards.now) }
+        ensures err { IfErr result (IsWhyNoReelOf cards.now) }
+    {
+        if cards.len() > MOST_CARDS {
+            return Err(ReelFault::Full);
+        }
+        match Vec::with_capacity(alloc, PAGE) {
+            Ok(page) => Ok(ReelText {
+                page,
+                parity,
+                cards,
+            }),
+            Err(_) => Err(ReelFault::Memory),
+        }
+    }
+
+    /// Writes it.
+    ///
+    /// # Errors
+    ///
+    /// `Output` if it isn't written, or a part of it alone.
+    pub fn write<W: Sink>(self, writer: &mut W) -> Result<(), ReelFault>
+        ensures wrote { Wrote (tap_text (deck_records self.entry.parity self.entry.cards.now)) (W.received writer.old)
+            (W.received writer.new) (W.has_failed writer.new) result }
+
+        // The text is read as these records, and the deck that is made of them is this deck.
+        ensures read { OnOk result (records_read (tap_text (deck_records self.entry.parity self.entry.cards.now))
+            ≡ Ok (deck_records self.entry.parity self.entry.cards.now)) }
+        ensures again { OnOk result (StayAsTheyAre self.entry.parity self.entry.cards.now
+            → reel_cards self.entry.parity (deck_records self.entry.parity self.entry.cards.now) ≡ Ok self.entry.cards.now) }
+    {
+        let ReelText {
+            page,
+            parity,
+            cards,
+        } = self;
+        write_text(page, parity, cards, writer)
     }
 }

@@ -14,9 +14,12 @@ use Rattle.devices_1401.specs.declared.card.Card.{Card}
 use Rattle.machine_image.specs.Image.{IsInCore}
 use Rattle.machine_image.specs.ImageText.{written_text}
 use Rattle.job_runner.specs.Unattended.{with_deck}
+use Rattle.machine_tapes.specs.Tapes.{Tapes, no_tapes}
 use Rattle.machine_panel.specs.declared.stop.Stop.TheVariants as stop
 use Rattle.program_run.specs.RunFile.{InputNames, IsFaultOf, IsUnread, IsUnstored, IsUnwritten, WrittenNames}
-use Rattle.program_run.specs.RunJob.{HasHalted, IsBegun, IsReportOf, ReportsJob, ReportsStop, report_on, turned}
+use Rattle.program_run.specs.RunJob.{HasHalted, IsBegun, IsReportOf, ReportsJob, ReportsStop, begun_with, report_on}
+use Rattle.program_run.specs.RunJob.{turned}
+use Rattle.program_run.specs.RunReels.{AreMounted}
 use Rattle.machine_panel.specs.declared.features.Features.{Features}
 use Rattle.program_run.specs.RunJob.{IsLoadedText, set_up}
 use Rattle.program_run.specs.declared.fault.RunFault.{RunFault}
@@ -44,6 +47,8 @@ unwritten_reports names report (fault.Unloaded why) is = tt
 unwritten_reports names report (fault.Stopped ending) is = absurd is
 unwritten_reports names report (fault.Source why) is = tt
 unwritten_reports names report (fault.Image why) is = tt
+unwritten_reports names report (fault.Reel name why) is = tt
+unwritten_reports names report (fault.Exists name) is = tt
 unwritten_reports names report fault.Memory is = tt
 
 -- nor is a file that isn't read
@@ -59,6 +64,8 @@ unread_reports job how size names (fault.Unloaded why) is = tt
 unread_reports job how size names (fault.Stopped ending) is = absurd is
 unread_reports job how size names (fault.Source why) is = tt
 unread_reports job how size names (fault.Image why) is = tt
+unread_reports job how size names (fault.Reel name why) is = tt
+unread_reports job how size names (fault.Exists name) is = tt
 unread_reports job how size names fault.Memory is = tt
 
 -- the image of what a deck has loaded is in core
@@ -88,6 +95,8 @@ unstored_reports job how file (fault.Unloaded why) is = tt
 unstored_reports job how file (fault.Stopped ending) is = absurd is
 unstored_reports job how file (fault.Source why) is = absurd is
 unstored_reports job how file (fault.Image why) is = absurd is
+unstored_reports job how file (fault.Reel name why) is = absurd is
+unstored_reports job how file (fault.Exists name) is = absurd is
 unstored_reports job how file fault.Memory is = tt
 
 -- and it is a fault of its job
@@ -96,13 +105,15 @@ pub unstored_fault : (job : Job) (why : RunFault) → IsUnstored job.start (opti
 unstored_fault job fault.Output is = absurd is
 unstored_fault job fault.Size is = absurd is
 unstored_fault job (fault.File name why) is = absurd is
-unstored_fault job (fault.Unwritten name) is = inr (inr (inr (inr (inr is))))
+unstored_fault job (fault.Unwritten name) is = inr (inr (inr (inr (inr (inr (inl is))))))
 unstored_fault job (fault.OneFile first second) is = absurd is
 unstored_fault job (fault.Deck name why) is = absurd is
 unstored_fault job (fault.Unloaded why) is = inl is
 unstored_fault job (fault.Stopped ending) is = absurd is
 unstored_fault job (fault.Source why) is = absurd is
 unstored_fault job (fault.Image why) is = absurd is
+unstored_fault job (fault.Reel name why) is = absurd is
+unstored_fault job (fault.Exists name) is = absurd is
 unstored_fault job fault.Memory is = inl tt
 
 -- what a job begins with, and its report
@@ -110,38 +121,43 @@ abbrev pub IsBegunFor : Job → State → List Card → Type 0
 IsBegunFor job machine cards =
     IsBegun job.start job.language job.size (option_map string_bytes job.cards) machine cards
 
-abbrev pub report_for : Job → State → List Card → JobReport
-report_for job machine cards = report_on job.start job.limit (with_deck cards (set_up job.features job.switches machine))
+abbrev pub report_for : Job → State → Tapes → List Card → JobReport
+report_for job machine tapes cards =
+    report_on job.start job.limit (begun_with (set_up job.features job.switches machine) tapes cards)
 
-report_is_of : (job : Job) (machine : State) (cards : List Card) → IsBegunFor job machine cards
-    → IsReportOf job (report_for job machine cards)
-report_is_of job machine cards begun = record { machine = machine; cards = cards; begun = begun; report_is = refl }
+report_is_of : (job : Job) (machine : State) (tapes : Tapes) (cards : List Card) → IsBegunFor job machine cards
+    → AreMounted job.reels.items no_tapes tapes → IsReportOf job (report_for job machine tapes cards)
+report_is_of job machine tapes cards begun reels =
+    record { machine = machine; cards = cards; tapes = tapes; begun = begun; reels = reels; report_is = refl }
 
-pub job_reports : (job : Job) (machine : State) (cards : List Card) (why : RunFault) → IsBegunFor job machine cards
-    → ReportsStop (report_for job machine cards) why → ReportsJob job why
-job_reports job machine cards fault.Output begun is = tt
-job_reports job machine cards fault.Size begun is = tt
-job_reports job machine cards (fault.File name why) begun is = tt
-job_reports job machine cards (fault.Unwritten name) begun is = tt
-job_reports job machine cards (fault.OneFile first second) begun is = tt
-job_reports job machine cards (fault.Deck name why) begun is = tt
-job_reports job machine cards (fault.Unloaded why) begun is = tt
-job_reports job machine cards (fault.Stopped ending) begun is =
-    record { machine = machine; cards = cards; begun = begun; report_is = is }
-job_reports job machine cards (fault.Source why) begun is = tt
-job_reports job machine cards (fault.Image why) begun is = tt
-job_reports job machine cards fault.Memory begun is = tt
+pub job_reports : (job : Job) (machine : State) (tapes : Tapes) (cards : List Card) (why : RunFault)
+    → IsBegunFor job machine cards → AreMounted job.reels.items no_tapes tapes
+    → ReportsStop (report_for job machine tapes cards) why → ReportsJob job why
+job_reports job machine tapes cards fault.Output begun reels is = tt
+job_reports job machine tapes cards fault.Size begun reels is = tt
+job_reports job machine tapes cards (fault.File name why) begun reels is = tt
+job_reports job machine tapes cards (fault.Unwritten name) begun reels is = tt
+job_reports job machine tapes cards (fault.OneFile first second) begun reels is = tt
+job_reports job machine tapes cards (fault.Deck name why) begun reels is = tt
+job_reports job machine tapes cards (fault.Unloaded why) begun reels is = tt
+job_reports job machine tapes cards (fault.Stopped ending) begun reels is =
+    record { machine = machine; cards = cards; tapes = tapes; begun = begun; reels = reels; report_is = is }
+job_reports job machine tapes cards (fault.Source why) begun reels is = tt
+job_reports job machine tapes cards (fault.Image why) begun reels is = tt
+job_reports job machine tapes cards (fault.Reel name why) begun reels is = tt
+job_reports job machine tapes cards (fault.Exists name) begun reels is = tt
+job_reports job machine tapes cards fault.Memory begun reels is = tt
 
 -- the end of a run, as its call says it
-pub run_halted : (job : Job) (machine : State) (cards : List Card) (result : Result ⊤ RunFault)
-    → IsBegunFor job machine cards → OnOk result ((report_for job machine cards).stop ≡ stop.Halt)
-    → OnOk result (HasHalted job)
-run_halted job machine cards (Ok done) begun is =
-    (report_for job machine cards, report_is_of job machine cards begun, is)
-run_halted job machine cards (Err why) begun is = is
+pub run_halted : (job : Job) (machine : State) (tapes : Tapes) (cards : List Card) (result : Result ⊤ RunFault)
+    → IsBegunFor job machine cards → AreMounted job.reels.items no_tapes tapes
+    → OnOk result ((report_for job machine tapes cards).stop ≡ stop.Halt) → OnOk result (HasHalted job)
+run_halted job machine tapes cards (Ok done) begun reels is =
+    (report_for job machine tapes cards, report_is_of job machine tapes cards begun reels, is)
+run_halted job machine tapes cards (Err why) begun reels is = is
 
-pub run_stopped : (job : Job) (machine : State) (cards : List Card) (result : Result ⊤ RunFault)
-    → IsBegunFor job machine cards → IfErr result (ReportsStop (report_for job machine cards))
-    → IfErr result (ReportsJob job)
-run_stopped job machine cards (Ok done) begun is = is
-run_stopped job machine cards (Err why) begun is = job_reports job machine cards why begun is
+pub run_stopped : (job : Job) (machine : State) (tapes : Tapes) (cards : List Card) (result : Result ⊤ RunFault)
+    → IsBegunFor job machine cards → AreMounted job.reels.items no_tapes tapes
+    → IfErr result (ReportsStop (report_for job machine tapes cards)) → IfErr result (ReportsJob job)
+run_stopped job machine tapes cards (Ok done) begun reels is = is
+run_stopped job machine tapes cards (Err why) begun reels is = job_reports job machine tapes cards why begun reels is

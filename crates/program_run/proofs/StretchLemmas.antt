@@ -6,7 +6,7 @@ use Rattle.devices_1401.specs.declared.card.Card.{Card}
 use Rattle.devices_1401.specs.declared.print_line.PrintLine.{PrintLine}
 use Rattle.machine_panel.specs.declared.stop.Stop.{Stop}
 use Rattle.machine_panel.specs.declared.stop.Stop.TheVariants as stop
-use Rattle.cpu_1401.specs.State.{State}
+use Rattle.machine_tapes.specs.declared.taped_machine.TapedMachine.{TapedMachine}
 use Rattle.job_runner.specs.declared.paper.PaperPlace.{PaperPlace}
 use Rattle.job_runner.specs.Paper.{place_beyond}
 use Rattle.job_runner.specs.Unattended.{AtEnd, Begins, GoesOn, IsPartOf, Job, after_job, after_output, unattended}
@@ -16,12 +16,12 @@ use Rattle.program_run.specs.RunDeck.{rest_of}
 use Rattle.program_run.proofs.WrittenLemmas.{both_written, none_written, part_written_beyond, place_beyond_both}
 
 -- a job with these ends
-abbrev job_of : State → ℕ → Stop → List PrintLine → List Card → Job
+abbrev job_of : TapedMachine → ℕ → Stop → List PrintLine → List Card → Job
 job_of now steps why lines cards =
     record { state = now; steps = steps; stop = why; lines = lines; cards = cards }
 
 -- two jobs whose counts and outputs are equal
-same_job : (now : State) (why : Stop) (steps steps' : ℕ) (lines lines' : List PrintLine) (cards cards' : List Card)
+same_job : (now : TapedMachine) (why : Stop) (steps steps' : ℕ) (lines lines' : List PrintLine) (cards cards' : List Card)
     → steps ≡ steps' → lines ≡ lines' → cards ≡ cards' → job_of now steps why lines cards ≡ job_of now steps' why lines' cards'
 same_job now why steps steps' lines lines' cards cards' e_steps e_lines e_cards = rw (e_steps, e_lines, e_cards) refl
 
@@ -40,7 +40,7 @@ collected job all lines cards no_lines no_cards e =
 
 -- the same with the output as slices see it
 pub ran_part : {lines0 lines : List PrintLine} {cards0 cards : List Card} {items : List PrintLine} {others : List Card}
-    (job : Job) (now : State) (steps : ℕ) (why : Stop) → lines0 ≡ [] → cards0 ≡ []
+    (job : Job) (now : TapedMachine) (steps : ℕ) (why : Stop) → lines0 ≡ [] → cards0 ≡ []
     → after_output lines0 cards0 0 job ≡ job_of now steps why items others → lines ≡ items → cards ≡ others
     → job ≡ job_of now steps why lines cards
 ran_part {lines0} {lines} {cards0} {cards} {items} {others} job now steps why no_lines no_cards e e_lines e_cards =
@@ -48,14 +48,14 @@ ran_part {lines0} {lines} {cards0} {cards} {items} {others} job now steps why no
     ∙ same_job now why steps steps items lines others cards refl (sym e_lines) (sym e_cards)
 
 -- a job that has stopped has nothing left
-pub nothing_left : (now : State) (steps limit : ℕ) (why : Stop) (lines : List PrintLine) (cards : List Card)
+pub nothing_left : (now : TapedMachine) (steps limit : ℕ) (why : Stop) (lines : List PrintLine) (cards : List Card)
     → job_of now steps why lines cards ≡ after_output lines cards steps (rest_of (Some why) limit now)
 nothing_left now steps limit why lines cards =
     same_job now why steps (steps + 0) lines (lines ++ []) cards (cards ++ []) (omega arith) (sym (append-nil lines))
     (sym (append-nil cards))
 
 -- a part of a job is all of it if it stopped, or has as many steps
-all_of_it : (n left : ℕ) (why : Stop) (s : State) → n ≤ left → (why ≢ stop.Limit) ⊎ (left ≤ n)
+all_of_it : (n left : ℕ) (why : Stop) (s : TapedMachine) → n ≤ left → (why ≢ stop.Limit) ⊎ (left ≤ n)
     → (why ≢ stop.Limit → AtEnd n s) → unattended left s ≡ unattended n s
 all_of_it n left why s few (inl no_limit) ended =
     let parts : left ≡ n + (left - n) = omega arith in
@@ -65,7 +65,7 @@ all_of_it n left why s few (inr most) ended =
     ap (λ (k : ℕ). unattended k s) same
 
 -- a part of a job, and what is left of it
-pub stretch_job : (n left steps : ℕ) (why : Stop) (found : Option Stop) (s now : State) (lines : List PrintLine)
+pub stretch_job : (n left steps : ℕ) (why : Stop) (found : Option Stop) (s now : TapedMachine) (lines : List PrintLine)
     (cards : List Card) → n ≤ left → unattended n s ≡ job_of now steps why lines cards
     → (found ≡ None → (why ≡ stop.Limit) × (n < left))
     → ((w : Stop) → found ≡ Some w → (w ≡ why) × ((why ≢ stop.Limit) ⊎ (left ≤ n)))
@@ -87,7 +87,7 @@ stretch_job n left steps why (Some w) s now lines cards few part none some count
     ∙ nothing_left now steps (left - steps) w lines cards
 
 -- what a part of a job writes is a beginning of what the job writes
-pub stretch_begins : (n left : ℕ) (s : State) (part : Job) → n ≤ left → unattended n s ≡ part → Begins n s
+pub stretch_begins : (n left : ℕ) (s : TapedMachine) (part : Job) → n ≤ left → unattended n s ≡ part → Begins n s
     → IsPartOf part.lines part.cards (unattended left s)
 stretch_begins n left s part few e first =
     let parts : n + (left - n) ≡ left = omega arith in
@@ -95,7 +95,7 @@ stretch_begins n left s part few e first =
     (subst (λ (k : ℕ). IsPartOf (unattended n s).lines (unattended n s).cards (unattended k s)) parts (first (left - n)))
 
 -- how far a job is: what was written, what was counted, and what is left
-pub record SoFar (limit left : ℕ) (start now : State) (first at : Received) (place : PaperPlace) (printed punched : ℕ)
+pub record SoFar (limit left : ℕ) (start now : TapedMachine) (first at : Received) (place : PaperPlace) (printed punched : ℕ)
     : Type 0 where
   pub lines : List PrintLine
   pub cards : List Card
@@ -107,7 +107,7 @@ pub record SoFar (limit left : ℕ) (start now : State) (first at : Received) (p
   pub within : left ≤ limit
 
 -- before the first stretch
-pub at_first : (limit : ℕ) (start : State) (first : Received)
+pub at_first : (limit : ℕ) (start : TapedMachine) (first : Received)
     → SoFar limit limit start start first first first_place 0 0
 at_first limit start first =
     let none : 0 ≡ limit - limit = omega arith in
@@ -134,7 +134,7 @@ output_twice lines more cards others steps ran job =
     (sym (append_assoc cards others job.cards))
 
 -- a stretch that follows what was written
-pub record Grown (limit left : ℕ) (start after : State) (first new : Received) (stretch : Stretch)
+pub record Grown (limit left : ℕ) (start after : TapedMachine) (first new : Received) (stretch : Stretch)
     (printed punched : ℕ) : Type 0 where
   pub lines : List PrintLine
   pub cards : List Card
@@ -150,7 +150,7 @@ counts_add : (X : Type 0) (xs ys : List X) (so_far more : ℕ) → so_far ≡ mi
     → min (so_far + more) most_counted ≡ min (length (xs ++ ys)) most_counted
 counts_add X xs ys so_far more e e_more = rw (e, e_more) (simp length-append (omega arith))
 
-pub grown : {limit left : ℕ} {start now after : State} {first at new : Received} {place : PaperPlace} {printed punched : ℕ}
+pub grown : {limit left : ℕ} {start now after : TapedMachine} {first at new : Received} {place : PaperPlace} {printed punched : ℕ}
     {stretch : Stretch} → SoFar limit left start now first at place printed punched
     → RanStretch left place now after at new stretch → stretch.steps ≤ left
     → Grown limit left start after first new stretch printed punched
@@ -179,7 +179,7 @@ grown {limit} {left} {start} {now} {after} {first} {at} {new} {place} {printed} 
     }
 
 -- the job goes on
-pub goes_on_so_far : {limit left : ℕ} {start after : State} {first new : Received} {stretch : Stretch}
+pub goes_on_so_far : {limit left : ℕ} {start after : TapedMachine} {first new : Received} {stretch : Stretch}
     {printed punched printed' punched' : ℕ} → Grown limit left start after first new stretch printed punched
     → stretch.stop ≡ None → left ≤ limit → printed' ≡ min (printed + stretch.printed) most_counted
     → punched' ≡ min (punched + stretch.punched) most_counted
@@ -198,7 +198,7 @@ goes_on_so_far {limit} {left} {after = after} {stretch = stretch} g more within 
 }
 
 -- the job is at its end
-whole_job : {limit left : ℕ} {start after : State} {first new : Received} {stretch : Stretch}
+whole_job : {limit left : ℕ} {start after : TapedMachine} {first new : Received} {stretch : Stretch}
     {printed punched : ℕ} {why : Stop} (g : Grown limit left start after first new stretch printed punched)
     → stretch.stop ≡ Some why
     → unattended limit start ≡ job_of after (limit - (left - stretch.steps)) why g.lines g.cards
@@ -208,15 +208,21 @@ whole_job {limit} {left} {after = after} {stretch = stretch} {why = why} g is =
     (rest_of end (left - stretch.steps) after)) is
     ∙ sym (nothing_left after (limit - (left - stretch.steps)) (left - stretch.steps) why g.lines g.cards)
 
-pub all_written : {limit left : ℕ} {start after : State} {first new : Received} {stretch : Stretch}
+pub all_written : {limit left : ℕ} {start after : TapedMachine} {first new : Received} {stretch : Stretch}
     {printed punched : ℕ} {why : Stop} → Grown limit left start after first new stretch printed punched
     → stretch.stop ≡ Some why
     → HasWritten first_place (unattended limit start).lines (unattended limit start).cards first new
 all_written {first = first} {new = new} g is =
     subst (λ (job : Job). HasWritten first_place job.lines job.cards first new) (sym (whole_job g is)) g.written
 
+-- and so is the machine
+pub all_ended : {limit left : ℕ} {start after : TapedMachine} {first new : Received} {stretch : Stretch}
+    {printed punched : ℕ} {why : Stop} → Grown limit left start after first new stretch printed punched
+    → stretch.stop ≡ Some why → after ≡ (unattended limit start).state
+all_ended g is = sym (ap (λ (job : Job). job.state) (whole_job g is))
+
 -- a stretch that broke off
-pub part_so_far : {limit left : ℕ} {start now : State} {first at new : Received} {place : PaperPlace}
+pub part_so_far : {limit left : ℕ} {start now : TapedMachine} {first at new : Received} {place : PaperPlace}
     {printed punched : ℕ} → SoFar limit left start now first at place printed punched
     → HasWrittenPart place (unattended left now).lines (unattended left now).cards at new
     → HasWrittenPart first_place (unattended limit start).lines (unattended limit start).cards first new

@@ -6,3 +6,5 @@ pub mod RunTrace
 pub mod RunFile
 pub mod RunJob
 pub mod OneFile
+pub mod RunStart
+pub mod RunReels

@@ -21,6 +21,7 @@ outcome_after stop.Overlap ending = Err (fault.Stopped ending)
 outcome_after stop.Carriage ending = Err (fault.Stopped ending)
 outcome_after stop.NotFitted ending = Err (fault.Stopped ending)
 outcome_after stop.DChar ending = Err (fault.Stopped ending)
+outcome_after stop.Tape ending = Err (fault.Stopped ending)
 
 -- what the end of a job is for the program
 abbrev pub job_outcome : Ending → Result ⊤ RunFault

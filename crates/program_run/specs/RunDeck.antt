@@ -1,4 +1,4 @@
--- What a program that runs with a deck writes and tells (own).
+-- What a program that runs with a deck writes and reports (own).
 use Rattle.std.specs.Prelude.{◌≡◌, ℕ, ◌-◌, ◌^◌, ◌==◌, Bool, false, IsTrue, if◌then◌else◌}
 use Rattle.std.specs.Prelude.{List, [], length, map, min, Option, None, Some, option_map}
 use Rattle.std.specs.Io.KnownBytes.{Appends}
@@ -7,14 +7,15 @@ use Rattle.devices_1401.specs.declared.card.Card.{Card}
 use Rattle.devices_1401.specs.declared.print_line.PrintLine.{PrintLine}
 use Rattle.machine_panel.specs.declared.stop.Stop.{Stop}
 use Rattle.machine_panel.specs.declared.stop.Stop.TheVariants as stop
-use Rattle.cpu_1401.specs.CardsAndPrinter.{load}
-use Rattle.cpu_1401.specs.State.{State}
 use Rattle.machine_graphics.specs.Graphics.{ours_of}
 use Rattle.machine_graphics.specs.declared.graphics.Graphics.{Graphics}
 use Rattle.job_runner.specs.DeckText.{card_text}
 use Rattle.job_runner.specs.declared.paper.PaperPlace.{PaperPlace}
 use Rattle.job_runner.specs.Paper.{paper_text, place_beyond}
-use Rattle.job_runner.specs.Unattended.{Job, after_output, ended, unattended}
+use Rattle.job_runner.specs.Unattended.{Job, after_output, ended, taped_load, taped_with_deck, unattended}
+use Rattle.machine_tapes.specs.TapeLoading.{loaded_from}
+use Rattle.machine_tapes.specs.TapedStep.{TapedStepped}
+use Rattle.machine_tapes.specs.declared.taped_machine.TapedMachine.{TapedMachine}
 use Rattle.bytes_streams.specs.Sink.{AppendsPart}
 use Rattle.program_call.specs.declared.call.Start.{Start}
 use Rattle.program_call.specs.declared.call.Start.TheVariants as start
@@ -67,13 +68,13 @@ IsWhyUnwritten broken.Punch paper paper' punch punch' = (paper' ≡ paper) × Is
 IsWhyUnwritten broken.Trace paper paper' punch punch' = (paper' ≡ paper) × (punch' ≡ punch)
 
 -- what is left of a job: nothing if it has stopped
-abbrev pub rest_of : Option Stop → ℕ → State → Job
-rest_of None limit s = unattended limit s
-rest_of (Some why) limit s = record { state = s; steps = 0; stop = why; lines = []; cards = [] }
+abbrev pub rest_of : Option Stop → ℕ → TapedMachine → Job
+rest_of None limit t = unattended limit t
+rest_of (Some why) limit t = record { state = t; steps = 0; stop = why; lines = []; cards = [] }
 
 -- a stretch wrote what its steps print and punch, and leaves the rest of the job
-pub record RanStretch (limit : ℕ) (place : PaperPlace) (before after : State) (old new : Received) (stretch : Stretch)
-    : Type 0 where
+pub record RanStretch (limit : ℕ) (place : PaperPlace) (before after : TapedMachine) (old new : Received)
+    (stretch : Stretch) : Type 0 where
   pub lines : List PrintLine
   pub cards : List Card
   pub written : HasWritten place lines cards old new
@@ -83,23 +84,38 @@ pub record RanStretch (limit : ℕ) (place : PaperPlace) (before after : State) 
   pub job : unattended limit before
       ≡ after_output lines cards stretch.steps (rest_of stretch.stop (limit - stretch.steps) after)
 
--- the job of a machine that is started at its entry, or by the load key, for which there must be a card
-abbrev pub started_job : Start → ℕ → State → Job
-started_job start.Entry limit s = unattended limit s
-started_job start.LoadKey limit s =
-    if length s.devices.hopper == 0 then ended 0 stop.Reader s else unattended limit (load s)
+-- a job that begins with a key pressed: nothing is carried out if the key has stopped it
+abbrev pub job_by : Option Stop → ℕ → TapedMachine → Job
+job_by None limit t = unattended limit t
+job_by (Some why) limit t = ended 0 why t
+
+abbrev pub pressed_job : ℕ → TapedStepped → Job
+pressed_job limit pressed = job_by pressed.stop limit pressed.taped
+
+-- the job of a machine that is started at its entry, by the load key, for which there must be a card, or by the key that
+-- loads from tape
+abbrev pub started_job : Start → ℕ → TapedMachine → Job
+started_job start.Entry limit t = unattended limit t
+started_job start.LoadKey limit t =
+    if length t.machine.devices.hopper == 0 then ended 0 stop.Reader t else unattended limit (taped_load t)
+started_job (start.LoadTape unit) limit t = pressed_job limit (loaded_from unit t)
+
+-- a machine with its tape units is that of a job at its end, but for cards of its deck that weren't fed
+pub record IsAtEndOf (job : Job) (t : TapedMachine) : Type 0 where
+  pub left : List Card
+  pub state : taped_with_deck left t ≡ job.state
 
 -- how high lines and cards are counted
 abbrev pub most_counted : ℕ
 most_counted = 2 ^ 64 - 1
 
--- what is told of a job, whose hopper held this many cards
+-- what is reported of a job, whose hopper held this many cards
 abbrev pub report_of : ℕ → Job → JobReport
 report_of held job = record {
   stop = job.stop;
-  i = job.state.i;
+  i = job.state.machine.i;
   steps = job.steps;
-  read = held - length job.state.devices.hopper;
+  read = held - length job.state.machine.devices.hopper;
   printed = min (length job.lines) most_counted;
   punched = min (length job.cards) most_counted;
 }

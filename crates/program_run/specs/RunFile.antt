@@ -5,7 +5,9 @@ use Rattle.machine_panel.specs.declared.stop.Stop.TheVariants as stop
 use Rattle.program_call.specs.declared.call.Job.{Job}
 use Rattle.program_call.specs.declared.call.Start.{Start}
 use Rattle.program_call.specs.declared.call.Start.TheVariants as start
+use Rattle.program_call.specs.declared.call.MountedReel.{MountedReel}
 use Rattle.program_call.specs.Sizes.{is_refused}
+use Rattle.program_run.specs.RunReels.{IsNewReel, IsReadReel, IsUnmounted, IsWrittenReel}
 use Rattle.program_run.specs.declared.fault.RunFault.{RunFault}
 use Rattle.program_run.specs.declared.fault.RunFault.TheVariants as fault
 
@@ -21,6 +23,8 @@ IsUnreadFile file (fault.Unloaded why) = ⊥
 IsUnreadFile file (fault.Stopped ending) = ⊥
 IsUnreadFile file (fault.Source why) = ⊥
 IsUnreadFile file (fault.Image why) = ⊥
+IsUnreadFile file (fault.Reel name why) = ⊥
+IsUnreadFile file (fault.Exists name) = ⊥
 IsUnreadFile file fault.Memory = ⊤
 
 -- a file of this name that can't be read, or is no deck
@@ -35,6 +39,8 @@ IsOfFile file (fault.Unloaded why) = ⊥
 IsOfFile file (fault.Stopped ending) = ⊥
 IsOfFile file (fault.Source why) = ⊥
 IsOfFile file (fault.Image why) = ⊥
+IsOfFile file (fault.Reel name why) = ⊥
+IsOfFile file (fault.Exists name) = ⊥
 IsOfFile file fault.Memory = ⊤
 
 -- the names of the files that a run reads: its program, and its deck if it has one
@@ -65,22 +71,29 @@ IsUnread how size names (fault.Unloaded why) = how ≡ start.LoadKey
 IsUnread how size names (fault.Stopped ending) = ⊥
 IsUnread how size names (fault.Source why) = how ≡ start.Entry
 IsUnread how size names (fault.Image why) = how ≡ start.Entry
+IsUnread how size names (fault.Reel name why) = ⊥
+IsUnread how size names (fault.Exists name) = ⊥
 IsUnread how size names fault.Memory = ⊤
 
--- the names of the files that a run writes, each if there is one
+-- the names of the files that a run writes, each if there is one; and its reels, of which some are read and written
 pub record WrittenNames : Type 0 where
   pub paper : Option (List ℕ)
   pub punch : Option (List ℕ)
   pub trace : Option (List ℕ)
   pub image : Option (List ℕ)
+  pub reels : List MountedReel
 
-abbrev pub written_names : Option (List ℕ) → Option (List ℕ) → Option (List ℕ) → Option (List ℕ) → WrittenNames
-written_names paper punch trace image = record { paper = paper; punch = punch; trace = trace; image = image }
+abbrev pub written_names : Option (List ℕ) → Option (List ℕ) → Option (List ℕ) → Option (List ℕ) → List MountedReel
+    → WrittenNames
+written_names paper punch trace image reels =
+    record { paper = paper; punch = punch; trace = trace; image = image; reels = reels }
 
 -- a file that isn't written is one of them
 abbrev pub IsWrittenName : WrittenNames → List ℕ → Type 0
 IsWrittenName names name =
-    (names.paper ≡ Some name) ⊎ ((names.punch ≡ Some name) ⊎ ((names.trace ≡ Some name) ⊎ (names.image ≡ Some name)))
+    (names.paper ≡ Some name)
+    ⊎ ((names.punch ≡ Some name)
+    ⊎ ((names.trace ≡ Some name) ⊎ ((names.image ≡ Some name) ⊎ IsWrittenReel names.reels name)))
 
 -- what isn't written: the file of this name, or standard output if there is no name
 abbrev pub IsUnwrittenFile : Option (List ℕ) → RunFault → Type 0
@@ -94,6 +107,8 @@ IsUnwrittenFile file (fault.Unloaded why) = ⊥
 IsUnwrittenFile file (fault.Stopped ending) = ⊥
 IsUnwrittenFile file (fault.Source why) = ⊥
 IsUnwrittenFile file (fault.Image why) = ⊥
+IsUnwrittenFile file (fault.Reel name why) = ⊥
+IsUnwrittenFile file (fault.Exists name) = ⊥
 IsUnwrittenFile file fault.Memory = ⊤
 
 -- what isn't written: one of these files, or standard output
@@ -108,6 +123,8 @@ IsUnwritten names (fault.Unloaded why) = ⊥
 IsUnwritten names (fault.Stopped ending) = ⊥
 IsUnwritten names (fault.Source why) = ⊥
 IsUnwritten names (fault.Image why) = ⊥
+IsUnwritten names (fault.Reel name why) = ⊥
+IsUnwritten names (fault.Exists name) = ⊥
 IsUnwritten names fault.Memory = ⊤
 
 -- why there is no image of what a deck has loaded: it isn't loaded, or the image's file isn't written
@@ -122,9 +139,11 @@ IsUnstored how file (fault.Unloaded why) = how ≡ start.LoadKey
 IsUnstored how file (fault.Stopped ending) = ⊥
 IsUnstored how file (fault.Source why) = ⊥
 IsUnstored how file (fault.Image why) = ⊥
+IsUnstored how file (fault.Reel name why) = ⊥
+IsUnstored how file (fault.Exists name) = ⊥
 IsUnstored how file fault.Memory = ⊤
 
--- how a run fails that has begun: what isn't written, or a stop that is no halt
+-- how a run fails that has begun: what isn't written, a new reel whose file is there, or a stop that is no halt
 abbrev pub IsOfRun : WrittenNames → RunFault → Type 0
 IsOfRun names fault.Output = ⊤
 IsOfRun names fault.Size = ⊥
@@ -136,6 +155,8 @@ IsOfRun names (fault.Unloaded why) = ⊥
 IsOfRun names (fault.Stopped ending) = ending.report.stop ≢ stop.Halt
 IsOfRun names (fault.Source why) = ⊥
 IsOfRun names (fault.Image why) = ⊥
+IsOfRun names (fault.Reel name why) = ⊥
+IsOfRun names (fault.Exists name) = IsNewReel names.reels (string_bytes name)
 IsOfRun names fault.Memory = ⊤
 
 -- the names of the files that a job reads, and of those that it writes
@@ -144,11 +165,11 @@ inputs_of job = input_names (string_bytes job.file) (option_map string_bytes job
 
 abbrev pub written_of : Job → WrittenNames
 written_of job = written_names (option_map string_bytes job.paper) (option_map string_bytes job.punch)
-    (option_map string_bytes job.trace) (option_map string_bytes job.image)
+    (option_map string_bytes job.trace) (option_map string_bytes job.image) job.reels.items
 
 -- a file that is read or written
 abbrev pub IsName : InputNames → WrittenNames → List ℕ → Type 0
-IsName inputs outputs name = IsInput inputs name ⊎ IsWrittenName outputs name
+IsName inputs outputs name = IsInput inputs name ⊎ (IsReadReel outputs.reels name ⊎ IsWrittenName outputs name)
 
 -- why names are refused: two of them lead to one file, the second one of a file that is written
 abbrev pub IsOneFile : InputNames → WrittenNames → RunFault → Type 0
@@ -163,10 +184,13 @@ IsOneFile inputs outputs (fault.Unloaded why) = ⊥
 IsOneFile inputs outputs (fault.Stopped ending) = ⊥
 IsOneFile inputs outputs (fault.Source why) = ⊥
 IsOneFile inputs outputs (fault.Image why) = ⊥
+IsOneFile inputs outputs (fault.Reel name why) = ⊥
+IsOneFile inputs outputs (fault.Exists name) = ⊥
 IsOneFile inputs outputs fault.Memory = ⊤
 
 -- what a run of files fails by
 abbrev pub IsFaultOf : Job → RunFault → Type 0
 IsFaultOf job why =
     IsUnread job.start job.size (inputs_of job) why
-    ⊎ (IsOneFile (inputs_of job) (written_of job) why ⊎ IsOfRun (written_of job) why)
+    ⊎ (IsUnmounted job.reels.items why
+    ⊎ (IsOneFile (inputs_of job) (written_of job) why ⊎ IsOfRun (written_of job) why))

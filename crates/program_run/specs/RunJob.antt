@@ -17,11 +17,14 @@ use Rattle.devices_1401.specs.declared.card.Card.{Card}
 use Rattle.machine_image.specs.ImageText.{IsTextOf, written_text}
 use Rattle.machine_image.specs.declared.image.Image.{Image}
 use Rattle.job_runner.specs.DeckText.{deck_of}
-use Rattle.job_runner.specs.Unattended.{with_deck}
+use Rattle.job_runner.specs.Unattended.{taped_with_deck, with_deck}
+use Rattle.machine_tapes.specs.declared.taped_machine.TapedMachine.{TapedMachine}
+use Rattle.machine_tapes.specs.Tapes.{Tapes, no_tapes}
 use Rattle.machine_panel.specs.declared.stop.Stop.TheVariants as stop
 use Rattle.autocoder_statements.specs.declared.language.Language.{Language}
 use Rattle.program_run.specs.Program.{is_meant_as_image, with_image}
 use Rattle.program_run.specs.RunDeck.{report_of, started_job}
+use Rattle.program_run.specs.RunReels.{AreMounted}
 use Rattle.program_run.specs.declared.fault.RunFault.{RunFault}
 use Rattle.program_run.specs.declared.fault.RunFault.TheVariants as fault
 use Rattle.program_run.specs.declared.job_report.JobReport.{JobReport}
@@ -51,10 +54,15 @@ pub record HasLoader (size : Option ℕ) (machine : State) (cards : List Card) :
   pub deck : deck_of text ≡ Ok cards
   pub machine_is : machine ≡ power_on (unwrap_or size 4000)
 
--- what the program's file gives: a machine, and its own cards
+-- a machine at power-on, and no cards
+abbrev pub IsBare : Option ℕ → State → List Card → Type 0
+IsBare size machine cards = (machine ≡ power_on (unwrap_or size 4000)) × (cards ≡ [])
+
+-- what the program's file gives: a machine, and its own cards; a reel gives none
 abbrev pub HasFile : Start → Language → Option ℕ → State → List Card → Type 0
 HasFile start.Entry language size machine cards = HasProgram language size machine cards
 HasFile start.LoadKey language size machine cards = HasLoader size machine cards
+HasFile (start.LoadTape unit) language size machine cards = IsBare size machine cards
 
 -- the cards of some text
 abbrev pub IsDeckText : List Card → Type 0
@@ -88,8 +96,8 @@ abbrev pub set_up : Features → List Bool → State → State
 set_up features switches s = with_switches switches (fitted_with features s)
 
 -- what is reported of a machine that is started so
-abbrev pub report_on : Start → ℕ → State → JobReport
-report_on how limit s = report_of (length s.devices.hopper) (started_job how limit s)
+abbrev pub report_on : Start → ℕ → TapedMachine → JobReport
+report_on how limit t = report_of (length t.machine.devices.hopper) (started_job how limit t)
 
 -- the image of what these cards load on a machine of this size with these features and switches, at the entry of their
 -- program
@@ -104,14 +112,20 @@ abbrev pub IsLoadedText : Option ℕ → Features → List Bool → List Card �
 IsLoadedText size features switches cards text =
     (image : Image) × IsLoadedImage size features switches cards image × (text ≡ written_text image)
 
--- the report of a job: its files are read, the machine is fitted, its switches are set, and it is started and goes on to
--- its limit at most
+-- a machine with tape units, and a deck
+abbrev pub begun_with : State → Tapes → List Card → TapedMachine
+begun_with machine tapes cards = taped_with_deck cards (record { machine = machine; tapes = tapes })
+
+-- the report of a job: its files are read, its reels are mounted, the machine is fitted, its switches are set, and it is
+-- started and goes on to its limit at most
 pub record IsReportOf (job : Job) (report : JobReport) : Type 0 where
   pub machine : State
   pub cards : List Card
+  pub tapes : Tapes
   pub begun : IsBegun job.start job.language job.size (option_map string_bytes job.cards) machine cards
+  pub reels : AreMounted job.reels.items no_tapes tapes
   pub report_is :
-      report ≡ report_on job.start job.limit (with_deck cards (set_up job.features job.switches machine))
+      report ≡ report_on job.start job.limit (begun_with (set_up job.features job.switches machine) tapes cards)
 
 -- a job that ran to a halt
 abbrev pub HasHalted : Job → Type 0
@@ -129,6 +143,8 @@ ReportsStop report (fault.Unloaded why) = ⊤
 ReportsStop report (fault.Stopped ending) = ending.report ≡ report
 ReportsStop report (fault.Source why) = ⊤
 ReportsStop report (fault.Image why) = ⊤
+ReportsStop report (fault.Reel name why) = ⊤
+ReportsStop report (fault.Exists name) = ⊤
 ReportsStop report fault.Memory = ⊤
 
 -- a fault that reports a stop has the report of a job
@@ -143,4 +159,6 @@ ReportsJob job (fault.Unloaded why) = ⊤
 ReportsJob job (fault.Stopped ending) = IsReportOf job ending.report
 ReportsJob job (fault.Source why) = ⊤
 ReportsJob job (fault.Image why) = ⊤
+ReportsJob job (fault.Reel name why) = ⊤
+ReportsJob job (fault.Exists name) = ⊤
 ReportsJob job fault.Memory = ⊤

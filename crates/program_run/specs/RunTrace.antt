@@ -3,8 +3,11 @@ use Rattle.std.specs.Prelude.{◌≡◌, ⊤, IsTrue, ℕ, ◌-◌, ◌==◌, Bo
 use Rattle.std.specs.Prelude.{Option, None, Some}
 use Rattle.std.specs.Io.KnownBytes.{Appends}
 use Rattle.machine_panel.specs.declared.stop.Stop.{Stop}
-use Rattle.cpu_1401.specs.CardsAndPrinter.{load}
 use Rattle.cpu_1401.specs.State.{State}
+use Rattle.machine_tapes.specs.TapeLoading.{loaded_from}
+use Rattle.machine_tapes.specs.TapedStep.{TapedStepped}
+use Rattle.machine_tapes.specs.declared.taped_machine.TapedMachine.{TapedMachine}
+use Rattle.job_runner.specs.Unattended.{taped_load}
 use Rattle.program_call.specs.declared.call.Start.{Start}
 use Rattle.program_call.specs.declared.call.Start.TheVariants as start
 use Rattle.program_run.specs.declared.deck_running.Broken.{Broken}
@@ -43,11 +46,11 @@ most_at_once true = 1
 most_at_once false = 500
 
 -- the trace of what is left of a job: nothing if it has stopped
-abbrev pub rest_traced : Option Stop → ℕ → State → List ℕ
-rest_traced None limit s = trace_text limit s
-rest_traced (Some why) limit s = []
+abbrev pub rest_traced : Option Stop → ℕ → TapedMachine → List ℕ
+rest_traced None limit t = trace_text limit t
+rest_traced (Some why) limit t = []
 
--- why something wasn't written: if a write to the trace failed, that is told, and else none has failed
+-- why something wasn't written: if a write to the trace failed, that is reported, and else none has failed
 abbrev pub IsWhyUntraced : Broken → Bool → Bool → Type 0
 IsWhyUntraced broken.Memory trace trace' = trace' ≡ trace
 IsWhyUntraced broken.Paper trace trace' = trace' ≡ trace
@@ -55,13 +58,20 @@ IsWhyUntraced broken.Punch trace trace' = trace' ≡ trace
 IsWhyUntraced broken.Trace trace trace' = IsTrue trace'
 
 -- a stretch wrote the lines of its steps, and leaves the rest of the trace
-pub record TracedStretch (is : Bool) (limit steps : ℕ) (found : Option Stop) (before after : State)
+pub record TracedStretch (is : Bool) (limit steps : ℕ) (found : Option Stop) (before after : TapedMachine)
     (old new : Option (List ℕ)) : Type 0 where
   pub lines : List ℕ
   pub written : Appends old new lines
   pub whole : traced is (trace_text limit before) ≡ lines ++ traced is (rest_traced found (limit - steps) after)
 
--- the trace of the job of a machine that is started at its entry, or by the load key, for which there must be a card
-abbrev pub started_trace : Start → ℕ → State → List ℕ
-started_trace start.Entry limit s = trace_text limit s
-started_trace start.LoadKey limit s = if length s.devices.hopper == 0 then [] else trace_text limit (load s)
+-- the trace of a job that begins with a key pressed, unless the key has stopped it
+abbrev pub pressed_trace : ℕ → TapedStepped → List ℕ
+pressed_trace limit pressed = rest_traced pressed.stop limit pressed.taped
+
+-- the trace of the job of a machine that is started at its entry, by the load key, for which there must be a card, or by
+-- the key that loads from tape
+abbrev pub started_trace : Start → ℕ → TapedMachine → List ℕ
+started_trace start.Entry limit t = trace_text limit t
+started_trace start.LoadKey limit t =
+    if length t.machine.devices.hopper == 0 then [] else trace_text limit (taped_load t)
+started_trace (start.LoadTape unit) limit t = pressed_trace limit (loaded_from unit t)

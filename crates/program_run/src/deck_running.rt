@@ -1,17 +1,21 @@
 //! A machine run with a deck, whose paper and punched cards are written as they come.
-ghost use Rattle.std.specs.Prelude.{◌≡◌, ◌<◌, ◌≤◌, ◌+◌, ◌⊎◌, ◌≢◌, false, length, min};
-ghost use Rattle.std.specs.Prelude.{[], Option, None, Some, IfOk, IfErr, OnOk, OnErr, is_some, option_and_then};
+ghost use Rattle.std.specs.Prelude.{◌≡◌, ◌<◌, ◌≤◌, ◌+◌, ◌⊎◌, ◌≢◌, false, true, length, min};
+ghost use Rattle.std.specs.Prelude.{[], Option, None, Some, IfOk, IfErr, IfSome, MatchOption, OnOk, OnErr, is_some};
+ghost use Rattle.std.specs.Prelude.{option_and_then};
 ghost use Rattle.std.specs.Io.KnownBytes.{Appends};
 ghost use Rattle.bytes_streams.specs.Sink.{AppendsPart};
 ghost use Rattle.job_runner.specs.Paper.{paper_text, place_beyond};
-ghost use Rattle.job_runner.specs.Unattended.{ended, unattended, with_deck};
-ghost use Rattle.program_run.specs.RunDeck.{HasWritten, HasWrittenPart, IsWhyUnwritten, RanStretch, cards_text};
+ghost use Rattle.job_runner.specs.Unattended.{ended, taped_emptied, taped_with_deck, unattended, with_deck};
+ghost use Rattle.machine_operations.specs.TapeUnit.{tape_units};
+ghost use Rattle.program_run.specs.RunDeck.{HasWritten, HasWrittenPart, IsAtEndOf, IsWhyUnwritten, RanStretch};
+ghost use Rattle.program_run.specs.RunDeck.{cards_text};
 ghost use Rattle.program_run.specs.RunDeck.{failed_of, first_place, received, report_of, started_job};
+ghost use Rattle.program_run.specs.RunStart.{GoesOnAs, StopsAs};
 ghost use Rattle.program_run.specs.RunTrace.{IsWhyUntraced, TracedStretch, seen_if, started_trace, traced};
-ghost use Rattle.program_run.specs.TraceText.{trace_text};
+ghost use Rattle.program_run.specs.TraceText.{mark_after, trace_text};
 
 use crate::job_report::JobReport;
-use crate::tracing::Trace;
+use crate::outputs::Outputs;
 use crate::watching::{HowFar, Watch};
 use bytes_streams::{Sink, put_all};
 use cpu_1401::{Machine, Stop};
@@ -19,7 +23,8 @@ use devices_1401::{Card, PrintLine};
 use job_runner::{
     CardList, Collected, Deck, PaperPlace, press_load_key, put_cards, put_paper, run_job,
 };
-use job_trace::Work;
+use job_trace::{TapeMark, Work};
+use machine_tapes::{TapeInstruction, TapedMachine, Tapes, tape_instruction, taped_step_law};
 use program_call::Start;
 use std::alloc::Global;
 use thiserror::Error;
@@ -56,7 +61,7 @@ struct Stretch {
     punched: u64,
 }
 
-/// Writes what was printed, after the paper so far, and tells where the paper goes on.
+/// Writes what was printed, after the paper so far, and reports where the paper goes on.
 #[tactic(auto, using(crate::proofs::WrittenLemmas::nothing_yet))]
 fn write_paper<W: Sink>(
     alloc: Global,
@@ -120,6 +125,30 @@ fn stop_of_job(stop: Stop, part: u32, steps: u32) -> Option<Stop>
     }
 }
 
+/// How far the reel is of a unit after a step that ended so, if the step has carried out a tape instruction. Without a
+/// trace nobody asks: the records of a reel are counted from its beginning.
+fn mark_after(
+    is_traced: bool,
+    this: Option<TapeInstruction>,
+    why: Option<Stop>,
+    tapes: &Tapes,
+) -> Option<TapeMark>
+    requires least { IfSome this (λ this. 1 ≤ this.unit.number) }
+    requires most { IfSome this (λ this. this.unit.number ≤ tape_units) }
+    ensures { is_traced ≡ true → result ≡ mark_after this why tapes.now }
+{
+    if !is_traced {
+        return None;
+    }
+    match (this, why) {
+        (Some(this), None) => Some(TapeMark {
+            unit: this.unit.number,
+            passed: tapes.unit(this.unit.number).reel.records_passed() as u64,
+        }),
+        (Some(_), Some(_)) | (None, _) => None,
+    }
+}
+
 /// The stop that a step ended with; none if the limit was met.
 fn stop_of_step(stop: Stop) -> Option<Stop>
     ensures none { result ≡ None → stop ≡ Stop.Limit }
@@ -135,69 +164,77 @@ fn stop_of_step(stop: Stop) -> Option<Stop>
 /// its line if there is a trace.
 fn run_stretch<'d, W: Sink, P: Sink, F: Sink>(
     alloc: Global,
-    machine: &mut Machine,
+    taped: &mut TapedMachine,
     deck: &mut Deck<'d>,
     left: u32,
     place: PaperPlace,
-    paper: &mut W,
-    punch: &mut P,
-    trace: &mut Trace<F>,
+    outputs: &mut Outputs<W, P, F>,
 ) -> Result<Stretch, Broken>
-    requires seen { trace.old.before ≡ seen_if (is_some trace.old.before) machine.old }
-    requires file { is_some trace.old.before ≡ is_some trace.old.file }
+    requires seen { outputs.old.trace.before ≡ seen_if (is_some outputs.old.trace.before) taped.old.machine }
+    requires file { is_some outputs.old.trace.before ≡ is_some outputs.old.trace.file }
     ensures ran { IfOk result (RanStretch left place
-        (with_deck deck.old machine.old)
-        (with_deck deck.new machine.new)
-        (received (W.received paper.old) (P.received punch.old))
-        (received (W.received paper.new) (P.received punch.new))) }
+        (taped_with_deck deck.old taped.old)
+        (taped_with_deck deck.new taped.new)
+        (received (W.received outputs.old.paper) (P.received outputs.old.punch))
+        (received (W.received outputs.new.paper) (P.received outputs.new.punch))) }
     ensures most { IfOk result (λ stretch. stretch.steps ≤ left) }
     ensures some { IfOk result (λ stretch. stretch.stop ≡ None → 0 < stretch.steps) }
-    ensures good { OnOk result ((W.has_failed paper.new ≡ W.has_failed paper.old)
-        × (P.has_failed punch.new ≡ P.has_failed punch.old)) }
+    ensures good { OnOk result ((W.has_failed outputs.new.paper ≡ W.has_failed outputs.old.paper)
+        × (P.has_failed outputs.new.punch ≡ P.has_failed outputs.old.punch)) }
     ensures part { OnErr result (HasWrittenPart place
-        (unattended left (with_deck deck.old machine.old)).lines
-        (unattended left (with_deck deck.old machine.old)).cards
-        (received (W.received paper.old) (P.received punch.old))
-        (received (W.received paper.new) (P.received punch.new))) }
-    ensures why { IfErr result (λ why. IsWhyUnwritten why (W.has_failed paper.old) (W.has_failed paper.new)
-        (P.has_failed punch.old) (P.has_failed punch.new)) }
+        (unattended left (taped_with_deck deck.old taped.old)).lines
+        (unattended left (taped_with_deck deck.old taped.old)).cards
+        (received (W.received outputs.old.paper) (P.received outputs.old.punch))
+        (received (W.received outputs.new.paper) (P.received outputs.new.punch))) }
+    ensures why { IfErr result (λ why. IsWhyUnwritten why
+        (W.has_failed outputs.old.paper) (W.has_failed outputs.new.paper)
+        (P.has_failed outputs.old.punch) (P.has_failed outputs.new.punch)) }
     ensures seen { IfOk result (λ stretch. stretch.stop ≡ None
-        → trace.new.before ≡ seen_if (is_some trace.old.before) machine.new) }
-    ensures file { is_some trace.new.file ≡ is_some trace.old.file }
-    ensures traced { IfOk result (λ stretch. TracedStretch (is_some trace.old.before) left stretch.steps stretch.stop
-        (with_deck deck.old machine.old)
-        (with_deck deck.new machine.new)
-        (option_and_then F.received trace.old.file) (option_and_then F.received trace.new.file)) }
-    ensures traced_part { OnErr result (AppendsPart (option_and_then F.received trace.old.file)
-        (option_and_then F.received trace.new.file) (traced (is_some trace.old.before)
-        (trace_text left (with_deck deck.old machine.old)))) }
-    ensures traced_good { OnOk result (failed_of F.has_failed trace.new.file ≡ failed_of F.has_failed trace.old.file) }
-    ensures why_untraced { IfErr result (λ why. IsWhyUntraced why (failed_of F.has_failed trace.old.file)
-        (failed_of F.has_failed trace.new.file)) }
+        → outputs.new.trace.before ≡ seen_if (is_some outputs.old.trace.before) taped.new.machine) }
+    ensures file { is_some outputs.new.trace.file ≡ is_some outputs.old.trace.file }
+    ensures traced { IfOk result (λ stretch. TracedStretch (is_some outputs.old.trace.before)
+        left stretch.steps stretch.stop
+        (taped_with_deck deck.old taped.old)
+        (taped_with_deck deck.new taped.new)
+        (option_and_then F.received outputs.old.trace.file) (option_and_then F.received outputs.new.trace.file)) }
+    ensures traced_part { OnErr result (AppendsPart (option_and_then F.received outputs.old.trace.file)
+        (option_and_then F.received outputs.new.trace.file) (traced (is_some outputs.old.trace.before)
+        (trace_text left (taped_with_deck deck.old taped.old)))) }
+    ensures traced_good { OnOk result (failed_of F.has_failed outputs.new.trace.file
+        ≡ failed_of F.has_failed outputs.old.trace.file) }
+    ensures why_untraced { IfErr result (λ why. IsWhyUntraced why (failed_of F.has_failed outputs.old.trace.file)
+        (failed_of F.has_failed outputs.new.trace.file)) }
 {
+    taped_step_law();
     let mut output = Collected::new(alloc);
-    let regs = machine.regs();
-    let held = cards_held(machine, deck);
-    let limit = left.min(trace.most_at_once());
+    let regs = taped.machine.regs();
+    let held = cards_held(&taped.machine, deck);
+    let limit = left.min(outputs.trace.most_at_once());
+    let is_traced = outputs.trace.is_on();
+    let next = tape_instruction(&taped.machine);
     // A deck in memory is always read, and what is kept in memory is refused for its lack alone.
-    let Ok(end) = run_job(machine, deck, limit, &mut output) else {
+    let Ok(end) = run_job(taped, deck, limit, &mut output) else {
         return Err(Broken::Memory);
     };
     let lines = output.lines.as_slice();
     let cards = output.cards.as_slice();
-    let next = write_paper(alloc, place, lines, paper)?;
-    write_cards(alloc, cards, punch)?;
+    let place = write_paper(alloc, place, lines, &mut outputs.paper)?;
+    write_cards(alloc, cards, &mut outputs.punch)?;
     let stop = stop_of_job(end.stop, limit, left);
+    let why = stop_of_step(end.stop);
     let work = Work {
         printed: usize::from(regs.paper) < lines.len(),
-        read: cards_held(machine, deck) < held,
+        read: cards_held(&taped.machine, deck) < held,
         punched: usize::from(regs.stacker) < cards.len(),
+        tape: mark_after(is_traced, next, why, &taped.tapes),
     };
-    trace.put_line(alloc, limit, machine, work, stop_of_step(end.stop))?;
+    outputs
+        .trace
+        .put_line(alloc, limit, &taped.machine, work, why)?;
     Ok(Stretch {
         steps: end.steps,
         stop,
-        place: next,
+        place,
         printed: lines.len() as u64,
         punched: cards.len() as u64,
     })
@@ -208,67 +245,71 @@ fn run_stretch<'d, W: Sink, P: Sink, F: Sink>(
 /// cards there were at the start.
 fn run_deck<'d, W: Sink, P: Sink, F: Sink, T: Watch>(
     alloc: Global,
-    machine: &mut Machine,
+    taped: &mut TapedMachine,
     deck: &mut Deck<'d>,
     held: u64,
     limit: u32,
-    paper: &mut W,
-    punch: &mut P,
-    trace: &mut Trace<F>,
+    outputs: &mut Outputs<W, P, F>,
     watch: &mut T,
 ) -> Result<JobReport, Broken>
     ensures report { IfOk result (λ report. report ≡ report_of held
-        (unattended limit (with_deck deck.old machine.old))) }
+        (unattended limit (taped_with_deck deck.old taped.old))) }
+    ensures end { OnOk result (taped_with_deck deck.new taped.new
+        ≡ (unattended limit (taped_with_deck deck.old taped.old)).state) }
     ensures written { OnOk result (HasWritten first_place
-        (unattended limit (with_deck deck.old machine.old)).lines
-        (unattended limit (with_deck deck.old machine.old)).cards
-        (received (W.received paper.old) (P.received punch.old))
-        (received (W.received paper.new) (P.received punch.new))) }
+        (unattended limit (taped_with_deck deck.old taped.old)).lines
+        (unattended limit (taped_with_deck deck.old taped.old)).cards
+        (received (W.received outputs.old.paper) (P.received outputs.old.punch))
+        (received (W.received outputs.new.paper) (P.received outputs.new.punch))) }
     ensures part { OnErr result (HasWrittenPart first_place
-        (unattended limit (with_deck deck.old machine.old)).lines
-        (unattended limit (with_deck deck.old machine.old)).cards
-        (received (W.received paper.old) (P.received punch.old))
-        (received (W.received paper.new) (P.received punch.new))) }
-    ensures why { IfErr result (λ why. IsWhyUnwritten why (W.has_failed paper.old) (W.has_failed paper.new)
-        (P.has_failed punch.old) (P.has_failed punch.new)) }
-    ensures traced { OnOk result (Appends (option_and_then F.received trace.old.file)
-        (option_and_then F.received trace.new.file) (traced (is_some trace.old.file)
-        (trace_text limit (with_deck deck.old machine.old)))) }
-    ensures traced_part { OnErr result (AppendsPart (option_and_then F.received trace.old.file)
-        (option_and_then F.received trace.new.file) (traced (is_some trace.old.file)
-        (trace_text limit (with_deck deck.old machine.old)))) }
-    ensures why_untraced { IfErr result (λ why. IsWhyUntraced why (failed_of F.has_failed trace.old.file)
-        (failed_of F.has_failed trace.new.file)) }
+        (unattended limit (taped_with_deck deck.old taped.old)).lines
+        (unattended limit (taped_with_deck deck.old taped.old)).cards
+        (received (W.received outputs.old.paper) (P.received outputs.old.punch))
+        (received (W.received outputs.new.paper) (P.received outputs.new.punch))) }
+    ensures why { IfErr result (λ why. IsWhyUnwritten why
+        (W.has_failed outputs.old.paper) (W.has_failed outputs.new.paper)
+        (P.has_failed outputs.old.punch) (P.has_failed outputs.new.punch)) }
+    ensures traced { OnOk result (Appends (option_and_then F.received outputs.old.trace.file)
+        (option_and_then F.received outputs.new.trace.file) (traced (is_some outputs.old.trace.file)
+        (trace_text limit (taped_with_deck deck.old taped.old)))) }
+    ensures traced_part { OnErr result (AppendsPart (option_and_then F.received outputs.old.trace.file)
+        (option_and_then F.received outputs.new.trace.file) (traced (is_some outputs.old.trace.file)
+        (trace_text limit (taped_with_deck deck.old taped.old)))) }
+    ensures why_untraced { IfErr result (λ why. IsWhyUntraced why (failed_of F.has_failed outputs.old.trace.file)
+        (failed_of F.has_failed outputs.new.trace.file)) }
 {
-    trace.begin(alloc, machine)?;
+    outputs.trace.begin(alloc, &taped.machine)?;
     let mut left = limit;
     let mut place = PaperPlace::FIRST;
     let mut printed: u64 = 0;
     let mut punched: u64 = 0;
     loop {
-        let stretch = run_stretch(alloc, machine, deck, left, place, paper, punch, trace)?;
+        let stretch = run_stretch(alloc, taped, deck, left, place, outputs)?;
         left -= stretch.steps;
         place = stretch.place;
         printed = printed.saturating_add(stretch.printed);
         punched = punched.saturating_add(stretch.punched);
         let steps = limit - left;
-        let cards = cards_held(machine, deck);
+        let cards = cards_held(&taped.machine, deck);
         match stretch.stop {
             Some(stop) => {
                 return Ok(JobReport {
                     stop,
-                    i: machine.regs().i,
+                    i: taped.machine.regs().i,
                     steps,
                     read: held.saturating_sub(cards),
                     printed,
                     punched,
                 });
             }
-            None => watch.saw(HowFar {
-                steps,
-                cards,
-                printed,
-            }),
+            None => watch.saw(
+                HowFar {
+                    steps,
+                    cards,
+                    printed,
+                },
+                &taped.tapes,
+            ),
         }
     }
 }
@@ -280,43 +321,44 @@ fn cards_held<'d>(machine: &Machine, deck: &Deck<'d>) -> u64
     u64::from(machine.regs().hopper) + deck.left() as u64
 }
 
-/// Reports a machine whose load key finds no card as stopped at its reader, and writes what lies on its paper and
-/// in its stacker.
+/// Reports a machine as stopped by the key that was to start it, and writes what lies on its paper and in its stacker.
 #[tactic(auto, unfolding(job_runner::specs::Unattended::unattended, crate::specs::TraceText::trace_text))]
-fn run_no_card<'d, W: Sink, P: Sink, F: Sink, T: Watch>(
+fn run_nothing<'d, W: Sink, P: Sink, F: Sink, T: Watch>(
     alloc: Global,
-    machine: &mut Machine,
+    taped: &mut TapedMachine,
     deck: &mut Deck<'d>,
     held: u64,
-    paper: &mut W,
-    punch: &mut P,
-    trace: &mut Trace<F>,
+    stop: Stop,
+    outputs: &mut Outputs<W, P, F>,
     watch: &mut T,
 ) -> Result<JobReport, Broken>
     ensures report { IfOk result (λ report. report ≡ report_of held
-        (ended 0 Stop.Reader (with_deck deck.old machine.old))) }
+        (ended 0 stop (taped_with_deck deck.old taped.old))) }
+    ensures end { OnOk result (taped_with_deck deck.new taped.new
+        ≡ taped_emptied (taped_with_deck deck.old taped.old)) }
     ensures written { OnOk result (HasWritten first_place
-        machine.old.devices.paper machine.old.devices.stacker
-        (received (W.received paper.old) (P.received punch.old))
-        (received (W.received paper.new) (P.received punch.new))) }
+        taped.old.machine.devices.paper taped.old.machine.devices.stacker
+        (received (W.received outputs.old.paper) (P.received outputs.old.punch))
+        (received (W.received outputs.new.paper) (P.received outputs.new.punch))) }
     ensures part { OnErr result (HasWrittenPart first_place
-        machine.old.devices.paper machine.old.devices.stacker
-        (received (W.received paper.old) (P.received punch.old))
-        (received (W.received paper.new) (P.received punch.new))) }
-    ensures why { IfErr result (λ why. IsWhyUnwritten why (W.has_failed paper.old) (W.has_failed paper.new)
-        (P.has_failed punch.old) (P.has_failed punch.new)) }
-    ensures traced { OnOk result (Appends (option_and_then F.received trace.old.file)
-        (option_and_then F.received trace.new.file) (traced (is_some trace.old.file)
+        taped.old.machine.devices.paper taped.old.machine.devices.stacker
+        (received (W.received outputs.old.paper) (P.received outputs.old.punch))
+        (received (W.received outputs.new.paper) (P.received outputs.new.punch))) }
+    ensures why { IfErr result (λ why. IsWhyUnwritten why
+        (W.has_failed outputs.old.paper) (W.has_failed outputs.new.paper)
+        (P.has_failed outputs.old.punch) (P.has_failed outputs.new.punch)) }
+    ensures traced { OnOk result (Appends (option_and_then F.received outputs.old.trace.file)
+        (option_and_then F.received outputs.new.trace.file) (traced (is_some outputs.old.trace.file)
         [])) }
-    ensures traced_part { OnErr result (AppendsPart (option_and_then F.received trace.old.file)
-        (option_and_then F.received trace.new.file) (traced (is_some trace.old.file)
+    ensures traced_part { OnErr result (AppendsPart (option_and_then F.received outputs.old.trace.file)
+        (option_and_then F.received outputs.new.trace.file) (traced (is_some outputs.old.trace.file)
         [])) }
-    ensures why_untraced { IfErr result (λ why. IsWhyUntraced why (failed_of F.has_failed trace.old.file)
-        (failed_of F.has_failed trace.new.file)) }
+    ensures why_untraced { IfErr result (λ why. IsWhyUntraced why (failed_of F.has_failed outputs.old.trace.file)
+        (failed_of F.has_failed outputs.new.trace.file)) }
 {
-    let report = run_deck(alloc, machine, deck, held, 0, paper, punch, trace, watch)?;
+    let report = run_deck(alloc, taped, deck, held, 0, outputs, watch)?;
     Ok(JobReport {
-        stop: Stop::Reader,
+        stop,
         i: report.i,
         steps: report.steps,
         read: report.read,
@@ -325,9 +367,28 @@ fn run_no_card<'d, W: Sink, P: Sink, F: Sink, T: Watch>(
     })
 }
 
-/// Runs a machine with these cards after those in its hopper, from its entry or by the load key, until it stops or
-/// until this many instructions were carried out. What it prints and punches is written every 500 steps at the latest,
-/// and the watch is told as often how far it is.
+/// Presses the key that starts a machine, if there is one, and says why the machine can't be started, if it can't.
+fn press_start<'d>(taped: &mut TapedMachine, deck: &mut Deck<'d>, start: Start) -> Option<Stop>
+    ensures { MatchOption result
+        (GoesOnAs start (taped_with_deck deck.old taped.old) (taped_with_deck deck.new taped.new))
+        (λ why. StopsAs start why (taped_with_deck deck.old taped.old) (taped_with_deck deck.new taped.new)) }
+{
+    taped_step_law();
+    match start {
+        Start::Entry => None,
+        Start::LoadKey => match press_load_key(&mut taped.machine, deck) {
+            Ok(true) => None,
+            Ok(false) => Some(Stop::Reader),
+            // A deck in memory is always read.
+            Err(_) => unreachable!(),
+        },
+        Start::LoadTape(unit) => taped.load_from_tape(unit),
+    }
+}
+
+/// Runs a machine with its tape units, with these cards after those in its hopper, from its entry, by the load key or by
+/// the key that loads from tape, until it stops or until this many instructions were carried out. What it prints and
+/// punches is written every 500 steps at the latest, and the watch sees as often how far it is.
 ///
 /// # Errors
 ///
@@ -335,57 +396,46 @@ fn run_no_card<'d, W: Sink, P: Sink, F: Sink, T: Watch>(
 /// been.
 pub fn run_started<W: Sink, P: Sink, F: Sink, T: Watch>(
     alloc: Global,
-    machine: &mut Machine,
+    taped: &mut TapedMachine,
     cards: &CardList,
     start: Start,
     limit: u32,
-    paper: &mut W,
-    punch: &mut P,
-    trace: &mut Trace<F>,
+    outputs: &mut Outputs<W, P, F>,
     watch: &mut T,
 ) -> Result<JobReport, Broken>
     ensures report { IfOk result (λ report. report ≡ report_of
-        (length (with_deck cards.now machine.old).devices.hopper)
-        (started_job start limit (with_deck cards.now machine.old))) }
+        (length (taped_with_deck cards.now taped.old).machine.devices.hopper)
+        (started_job start limit (taped_with_deck cards.now taped.old))) }
+
+    // The machine with its tape units is that of the job at its end.
+    ensures end { OnOk result
+        (IsAtEndOf (started_job start limit (taped_with_deck cards.now taped.old)) taped.new) }
     ensures written { OnOk result (HasWritten first_place
-        (started_job start limit (with_deck cards.now machine.old)).lines
-        (started_job start limit (with_deck cards.now machine.old)).cards
-        (received (W.received paper.old) (P.received punch.old))
-        (received (W.received paper.new) (P.received punch.new))) }
+        (started_job start limit (taped_with_deck cards.now taped.old)).lines
+        (started_job start limit (taped_with_deck cards.now taped.old)).cards
+        (received (W.received outputs.old.paper) (P.received outputs.old.punch))
+        (received (W.received outputs.new.paper) (P.received outputs.new.punch))) }
     ensures part { OnErr result (HasWrittenPart first_place
-        (started_job start limit (with_deck cards.now machine.old)).lines
-        (started_job start limit (with_deck cards.now machine.old)).cards
-        (received (W.received paper.old) (P.received punch.old))
-        (received (W.received paper.new) (P.received punch.new))) }
-    ensures why { IfErr result (λ why. IsWhyUnwritten why (W.has_failed paper.old) (W.has_failed paper.new)
-        (P.has_failed punch.old) (P.has_failed punch.new)) }
-    ensures traced { OnOk result (Appends (option_and_then F.received trace.old.file)
-        (option_and_then F.received trace.new.file) (traced (is_some trace.old.file)
-        (started_trace start limit (with_deck cards.now machine.old)))) }
-    ensures traced_part { OnErr result (AppendsPart (option_and_then F.received trace.old.file)
-        (option_and_then F.received trace.new.file) (traced (is_some trace.old.file)
-        (started_trace start limit (with_deck cards.now machine.old)))) }
-    ensures why_untraced { IfErr result (λ why. IsWhyUntraced why (failed_of F.has_failed trace.old.file)
-        (failed_of F.has_failed trace.new.file)) }
+        (started_job start limit (taped_with_deck cards.now taped.old)).lines
+        (started_job start limit (taped_with_deck cards.now taped.old)).cards
+        (received (W.received outputs.old.paper) (P.received outputs.old.punch))
+        (received (W.received outputs.new.paper) (P.received outputs.new.punch))) }
+    ensures why { IfErr result (λ why. IsWhyUnwritten why
+        (W.has_failed outputs.old.paper) (W.has_failed outputs.new.paper)
+        (P.has_failed outputs.old.punch) (P.has_failed outputs.new.punch)) }
+    ensures traced { OnOk result (Appends (option_and_then F.received outputs.old.trace.file)
+        (option_and_then F.received outputs.new.trace.file) (traced (is_some outputs.old.trace.file)
+        (started_trace start limit (taped_with_deck cards.now taped.old)))) }
+    ensures traced_part { OnErr result (AppendsPart (option_and_then F.received outputs.old.trace.file)
+        (option_and_then F.received outputs.new.trace.file) (traced (is_some outputs.old.trace.file)
+        (started_trace start limit (taped_with_deck cards.now taped.old)))) }
+    ensures why_untraced { IfErr result (λ why. IsWhyUntraced why (failed_of F.has_failed outputs.old.trace.file)
+        (failed_of F.has_failed outputs.new.trace.file)) }
 {
     let mut deck = Deck::new(cards);
-    let held = cards_held(machine, &deck);
-    match start {
-        Start::Entry => run_deck(
-            alloc, machine, &mut deck, held, limit, paper, punch, trace, watch,
-        ),
-        Start::LoadKey => {
-            // A deck in memory is always read.
-            let Ok(loaded) = press_load_key(machine, &mut deck) else {
-                return Err(Broken::Memory);
-            };
-            if loaded {
-                run_deck(
-                    alloc, machine, &mut deck, held, limit, paper, punch, trace, watch,
-                )
-            } else {
-                run_no_card(alloc, machine, &mut deck, held, paper, punch, trace, watch)
-            }
-        }
+    let held = cards_held(&taped.machine, &deck);
+    match press_start(taped, &mut deck, start) {
+        None => run_deck(alloc, taped, &mut deck, held, limit, outputs, watch),
+        Some(why) => run_nothing(alloc, taped, &mut deck, held, why, outputs, watch),
     }
 }

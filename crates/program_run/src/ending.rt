@@ -7,7 +7,10 @@ use crate::stopped_at::{RunSource, instruction_text};
 use bcd_1401::Cell;
 use core_1401::Core;
 use cpu_1401::{Machine, Stop};
-use job_stops::{Reason, halt_address, reason_told};
+use job_stops::{Reason, halt_address, load_reason_told, taped_reason_told};
+use machine_reels::TapeRecords;
+use machine_tapes::{Drive, TapedMachine, Tapes};
+use program_call::Start;
 use std::alloc::Global;
 use std::fmt;
 
@@ -24,6 +27,62 @@ pub struct Ending {
     pub reason: Option<Reason>,
     /// Whether the hopper was empty while sense switch A was off, and a branch on the last card is in core storage.
     pub lacks_switch: bool,
+    /// How far the reel of each tape unit is, unit 1 first; `None` of a unit that has none.
+    pub reels: [Option<ReelPlace>; 6],
+}
+
+/// How far a reel is. Tape marks are counted as records.
+#[derive(Clone, Copy, Debug, PartialEq, Eq)]
+pub struct ReelPlace {
+    /// How many records the head has passed.
+    pub passed: usize,
+    /// How many records there are.
+    pub records: usize,
+}
+
+/// How many records these are.
+fn count_of(records: &TapeRecords<'_>) -> usize {
+    let mut count: usize = 0;
+    let mut rest = records.again();
+    while let Some((_, beyond)) = rest.split_first() {
+        count = count.saturating_add(1);
+        rest = beyond;
+    }
+    count
+}
+
+/// How far the reel of a unit is; `None` if it has none.
+fn reel_place(drive: &Drive) -> Option<ReelPlace> {
+    if drive.reel.capacity() == 0 {
+        return None;
+    }
+    Some(ReelPlace {
+        passed: drive.reel.records_passed(),
+        records: count_of(&drive.reel.records()),
+    })
+}
+
+/// How far the reel of each unit is.
+fn reel_places(tapes: &Tapes) -> [Option<ReelPlace>; 6] {
+    [
+        reel_place(tapes.unit(1)),
+        reel_place(tapes.unit(2)),
+        reel_place(tapes.unit(3)),
+        reel_place(tapes.unit(4)),
+        reel_place(tapes.unit(5)),
+        reel_place(tapes.unit(6)),
+    ]
+}
+
+/// Why a machine that was started so has stopped: why its next step stops, or why its first record isn't loaded.
+fn why_stopped(taped: &TapedMachine, start: Start, stop: Stop) -> Option<Reason>
+    ensures { IfSome result (λ why. stop_named why ≡ stop) }
+{
+    match (taped_reason_told(taped, stop), start) {
+        (Some(why), _) => Some(why),
+        (None, Start::LoadTape(number)) => load_reason_told(taped, number, stop),
+        (None, Start::Entry | Start::LoadKey) => None,
+    }
 }
 
 /// The cell at a place, if it is in core.
@@ -67,16 +126,19 @@ fn lacks_switch(report: JobReport, machine: &Machine) -> bool {
 }
 
 impl Ending {
-    /// How a job ended that left the machine so. The source is the program's, if it had one.
+    /// How a job ended that was started so, and left the machine with its tape units so. The source is the program's, if
+    /// it had one.
     pub fn of(
         alloc: Global,
         report: JobReport,
-        machine: &Machine,
+        taped: &TapedMachine,
+        start: Start,
         source: Option<&RunSource>,
     ) -> Ending
         ensures report { result.report ≡ report }
         ensures reason { IfSome result.reason (λ why. stop_named why ≡ report.stop) }
     {
+        let machine = &taped.machine;
         let at = stop_address(report, machine);
         let instruction = match instruction_text(alloc, machine.core(), at, source) {
             Ok(text) => text,
@@ -86,8 +148,9 @@ impl Ending {
             report,
             at,
             instruction,
-            reason: reason_told(machine, report.stop),
+            reason: why_stopped(taped, start, report.stop),
             lacks_switch: lacks_switch(report, machine),
+            reels: reel_places(&taped.tapes),
         }
     }
 }
@@ -99,7 +162,7 @@ fn stop_address(report: JobReport, machine: &Machine) -> u16 {
         Stop::Limit | Stop::Reader | Stop::Forms | Stop::Stacker => report.i,
         Stop::NoMark | Stop::OpCode | Stop::Length => report.i,
         Stop::Address | Stop::Overlap | Stop::Carriage => report.i,
-        Stop::NotFitted | Stop::DChar => report.i,
+        Stop::NotFitted | Stop::DChar | Stop::Tape => report.i,
     }
 }
 
@@ -116,7 +179,7 @@ fn put_stop<W: fmt::Write>(f: &mut fmt::Formatter<W>, ending: &Ending) -> fmt::R
     f.write_str(")")
 }
 
-/// Why, if there is something to be told.
+/// Why, if there is something to be reported.
 fn put_reason<W: fmt::Write>(f: &mut fmt::Formatter<W>, ending: &Ending) -> fmt::Result {
     if let Some(why) = &ending.reason {
         write!(f, ": {why}")?;
@@ -134,10 +197,21 @@ fn put_reason<W: fmt::Write>(f: &mut fmt::Formatter<W>, ending: &Ending) -> fmt:
     Ok(())
 }
 
+/// How far each reel is.
+fn put_reels<W: fmt::Write>(f: &mut fmt::Formatter<W>, reels: &[Option<ReelPlace>]) -> fmt::Result {
+    for (n, reel) in reels.iter().enumerate() {
+        if let Some(ReelPlace { passed, records }) = *reel {
+            write!(f, ", tape {} at record {passed} of {records}", n + 1)?;
+        }
+    }
+    Ok(())
+}
+
 impl fmt::Display for Ending {
     fn fmt<W: fmt::Write>(&self, f: &mut fmt::Formatter<W>) -> fmt::Result {
         put_stop(f, self)?;
         put_reason(f, self)?;
-        write!(f, " after {}", self.report)
+        write!(f, " after {}", self.report)?;
+        put_reels(f, &self.reels)
     }
 }

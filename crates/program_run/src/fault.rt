@@ -9,6 +9,7 @@ use bytes_files::FileFault;
 use cpu_1401::Stop;
 use job_runner::DeckTextFault;
 use machine_image::ImageFault;
+use machine_reels::TapFault;
 use thiserror::Error;
 
 /// What a run may fail by.
@@ -44,6 +45,12 @@ pub enum RunFault {
     /// The file has no image's text.
     #[error("image refused: {0}")]
     Image(ImageFault),
+    /// The file of this name has no reel's text.
+    #[error("{0}: reel refused: {1}")]
+    Reel(String, TapFault),
+    /// There is a file of this name already, which a new reel would overwrite.
+    #[error("{0}: already exists")]
+    Exists(String),
     /// Memory was refused.
     #[error("memory refused")]
     Memory,
@@ -62,6 +69,6 @@ pub fn job_outcome(ending: Ending) -> Result<(), RunFault>
         Stop::Limit | Stop::Reader | Stop::Forms | Stop::Stacker => Err(RunFault::Stopped(ending)),
         Stop::NoMark | Stop::OpCode | Stop::Length => Err(RunFault::Stopped(ending)),
         Stop::Address | Stop::Overlap | Stop::Carriage => Err(RunFault::Stopped(ending)),
-        Stop::NotFitted | Stop::DChar => Err(RunFault::Stopped(ending)),
+        Stop::NotFitted | Stop::DChar | Stop::Tape => Err(RunFault::Stopped(ending)),
     }
 }

@@ -1,5 +1,7 @@
 //! The files that a run reads: its program, and its deck.
 ghost use Rattle.std.specs.Prelude.{◌≡◌, ◌++◌, [], true, false, None, Ok, Err, IfOk, IfErr, map, option_map, string_bytes};
+ghost use Rattle.std.specs.Prelude.{unwrap_or};
+ghost use Rattle.cpu_1401.specs.State.{power_on};
 ghost use Rattle.machine_graphics.specs.Graphics.{chain_of, ours_of};
 ghost use Rattle.job_runner.specs.DeckText.{deck_of};
 ghost use Rattle.program_run.specs.Program.{IsNoImage, IsNoProgram, is_meant_as_image};
@@ -27,7 +29,7 @@ use std::rt::Files;
 /// # Errors
 ///
 /// `File`, with the name as it was given; else `Memory`.
-fn read_file(rt: &(impl Files + AllocGlobal), name: String) -> Result<Vec<u8>, RunFault>
+pub(crate) fn read_file(rt: &(impl Files + AllocGlobal), name: String) -> Result<Vec<u8>, RunFault>
     ensures { IfErr result (IsUnreadFile (string_bytes name)) }
 {
     match read_whole(rt, name.as_str()) {
@@ -37,7 +39,7 @@ fn read_file(rt: &(impl Files + AllocGlobal), name: String) -> Result<Vec<u8>, R
     }
 }
 
-/// Tells on standard error that a deck of this name has small letters.
+/// Reports on standard error that a deck of this name has small letters.
 pub fn tell_small_letters(rt: &impl Eprint, name: &str) {
     let _ = eprintln!(rt; "ibm1401: {name}: small letters are read as capitals");
 }
@@ -123,7 +125,7 @@ pub fn report_source(
 {
     report_suggestion(rt, name, suggested_by(fault, suggested));
     match fault {
-        None => report_warnings(rt, name, language, text, size),
+        None => report_warnings(rt, name, language, text),
         Some(first) => report_faults(rt, name, language, text, size, first),
     }
 }
@@ -271,7 +273,17 @@ fn read_loader(
     ensures fault { IfErr result (IsUnread Start.LoadKey size (input_names (string_bytes file) None)) }
 {
     let cards = read_cards(rt, file, asked)?;
-    match Machine::power_on(rt.alloc(), size.unwrap_or(DEFAULT_SIZE)) {
+    bare_inputs(rt.alloc(), size, cards)
+}
+
+/// A machine at power-on, and these cards.
+fn bare_inputs(alloc: Global, size: Option<u16>, cards: CardList) -> Result<Inputs, RunFault>
+    requires { is_refused size ≡ false }
+    ensures machine { IfOk result (λ inputs. inputs.machine ≡ power_on (unwrap_or size 4000)) }
+    ensures cards { IfOk result (λ inputs. inputs.cards ≡ cards) }
+    ensures err { IfErr result (λ why. why ≡ RunFault.Memory) }
+{
+    match Machine::power_on(alloc, size.unwrap_or(DEFAULT_SIZE)) {
         Ok(machine) => Ok(Inputs {
             machine,
             cards,
@@ -333,6 +345,7 @@ fn read_own(
     match start {
         Start::Entry => read_program(rt, file, language, asked.source, size),
         Start::LoadKey => read_loader(rt, file, asked.decks, size),
+        Start::LoadTape(_) => bare_inputs(rt.alloc(), size, CardList::new(rt.alloc())),
     }
 }
 

@@ -4,7 +4,7 @@
 //! run_file(rt, ErrorOutput::Other, job)?  // the paper on standard output, how it ended on standard error
 //! ```
 //!
-//! `run_started` is the part that knows no file: a machine, cards, and sinks for what goes out.
+//! `run_started` is the part that knows no file: a machine with its tape units, cards, and sinks for what goes out.
 #![tactic(auto)]
 
 // what a run begins with
@@ -13,11 +13,12 @@ mod inputs;
 mod loaded_image;
 mod one_file;
 pub mod programs;
+mod reels;
 mod source_reports;
 
-// a machine run with a deck; where what comes goes, and who is told
+// a machine run with a deck; where what comes goes, and who hears of it
 pub mod deck_running;
-mod outputs;
+pub mod outputs;
 pub mod punch_file;
 pub mod tracing;
 pub mod watching;
@@ -35,6 +36,7 @@ pub use ending::Ending;
 pub use fault::{RunFault, job_outcome};
 pub use inputs::{read_cards, read_program_text, report_source, tell_small_letters};
 pub use job_report::JobReport;
+pub use outputs::Outputs;
 pub use program_call::{is_refused, size_for};
 pub use programs::{image_machine, is_image, loaded_machine, program_of};
 pub use punch_file::PunchFile;

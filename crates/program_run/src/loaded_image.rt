@@ -41,7 +41,7 @@ fn loaded_text(
         Err(CoreFault::Memory) => return Err(RunFault::Memory),
     };
     set_up(&mut machine, features, switches);
-    let loaded = match loaded_image(alloc, &mut machine, cards, LOADING_STEPS) {
+    let loaded = match loaded_image(alloc, machine, cards, LOADING_STEPS) {
         Ok(loaded) => loaded,
         Err(LoadFault::Memory) => return Err(RunFault::Memory),
         Err(fault) => return Err(RunFault::Unloaded(fault)),
@@ -96,6 +96,6 @@ pub(crate) fn store_image<R: Files + Print + AllocGlobal>(
             };
             put_image(rt, name.as_str(), text.as_slice())
         }
-        (Start::Entry, _) | (_, None) => Ok(()),
+        (Start::Entry | Start::LoadTape(_), _) | (_, None) => Ok(()),
     }
 }

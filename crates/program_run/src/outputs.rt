@@ -1,6 +1,7 @@
 //! The files that a run writes: its paper, its punched cards, and its trace.
 ghost use Rattle.std.specs.Prelude.{Some, IfErr, option_map, string_bytes};
 ghost use Rattle.program_run.specs.RunFile.{IsUnwritten, IsUnwrittenFile, written_names};
+ghost use Rattle.program_run.specs.RunReels.{IsNotPut};
 
 use crate::deck_running::Broken;
 use crate::fault::RunFault;
@@ -9,6 +10,8 @@ use crate::tracing::Trace;
 use bytes_files::{LimitedFile, WriteFault, create};
 use bytes_streams::ToWriter;
 use machine_graphics::Graphics;
+use program_call::MountedReel;
+use std::alloc::Global;
 use std::rt::Files;
 
 /// The names of the files that a run writes.
@@ -22,39 +25,46 @@ pub(crate) struct OutputNames {
     pub trace: Option<String>,
     /// The file of the image of what a deck has loaded; without one there is none.
     pub image: Option<String>,
+    /// The reels, of which those with a ring are written.
+    pub reels: Vec<MountedReel>,
     /// The chain whose graphics the punched cards have.
     pub graphics: Graphics,
 }
 
 impl OutputNames {
     /// The fault of a run that broke off.
-    pub fn fault_of(self, broken: Broken) -> RunFault
-        ensures { IsUnwritten (written_names (option_map string_bytes self.paper) (option_map string_bytes self.punch)
-            (option_map string_bytes self.trace) (option_map string_bytes self.image)) result }
+    pub fn fault_of(&self, alloc: Global, broken: Broken) -> RunFault
+        ensures { IsUnwritten (written_names (option_map string_bytes self.now.paper)
+            (option_map string_bytes self.now.punch) (option_map string_bytes self.now.trace)
+            (option_map string_bytes self.now.image) self.now.reels.items) result }
     {
-        let Self {
-            paper,
-            punch,
-            trace,
-            image: _,
-            graphics: _,
-        } = self;
         match broken {
             Broken::Memory => RunFault::Memory,
-            Broken::Paper => unwritten(paper),
-            Broken::Punch => unwritten(punch),
-            Broken::Trace => unwritten(trace),
+            Broken::Paper => unwritten(alloc, &self.paper),
+            Broken::Punch => unwritten(alloc, &self.punch),
+            Broken::Trace => unwritten(alloc, &self.trace),
         }
     }
 }
 
 /// The fault of a file of this name that isn't written, or of standard output if there is no name.
-pub(crate) fn unwritten(name: Option<String>) -> RunFault
-    ensures { IsUnwrittenFile (option_map string_bytes name) result }
+fn unwritten(alloc: Global, name: &Option<String>) -> RunFault
+    ensures { IsUnwrittenFile (option_map string_bytes name.now) result }
 {
     match name {
-        Some(name) => RunFault::Unwritten(name),
+        Some(name) => unwritten_file(alloc, name.as_str()),
         None => RunFault::Output,
+    }
+}
+
+/// The fault of a file of this name that isn't written.
+pub(crate) fn unwritten_file(alloc: Global, name: &str) -> RunFault
+    ensures file { IsUnwrittenFile (Some name.now) result }
+    ensures named { IsNotPut name.now result }
+{
+    match String::from_str(alloc, name) {
+        Ok(name) => RunFault::Unwritten(name),
+        Err(_) => RunFault::Memory,
     }
 }
 
@@ -63,14 +73,17 @@ pub(crate) type OutputFile<F> = ToWriter<LimitedFile<F>>;
 
 /// Where a run writes.
 #[derive(Drop)]
-pub(crate) struct Outputs<W, F> {
+pub struct Outputs<W, P, F> {
     /// Where the paper goes.
     pub paper: W,
-    /// The file of the punched cards, if there is one.
-    pub punch: PunchFile<F>,
+    /// Where the punched cards go.
+    pub punch: P,
     /// The trace, if there is one.
     pub trace: Trace<F>,
 }
+
+/// Where a run of files writes: its paper, a file of the punched cards if there is one, and a trace if there is one.
+pub(crate) type FileOutputs<W, F> = Outputs<W, PunchFile<OutputFile<F>>, OutputFile<F>>;
 
 /// New files, in place of those of these names; without a name for the paper it has none.
 ///
@@ -80,10 +93,10 @@ pub(crate) struct Outputs<W, F> {
 pub(crate) fn create_outputs<R: Files + AllocGlobal>(
     rt: &R,
     names: &OutputNames,
-) -> Result<Outputs<Option<OutputFile<R::File>>, OutputFile<R::File>>, RunFault>
+) -> Result<FileOutputs<Option<OutputFile<R::File>>, R::File>, RunFault>
     ensures { IfErr result (IsUnwritten (written_names (option_map string_bytes names.now.paper)
         (option_map string_bytes names.now.punch) (option_map string_bytes names.now.trace)
-        (option_map string_bytes names.now.image))) }
+        (option_map string_bytes names.now.image) names.now.reels.items)) }
 {
     let paper = match create_if_named(rt, &names.paper) {
         Ok(paper) => paper,
@@ -130,9 +143,6 @@ fn create_named<R: Files + AllocGlobal>(rt: &R, name: &str) -> Result<OutputFile
     match create(rt, name) {
         Ok(file) => Ok(file),
         Err(WriteFault::Memory) => Err(RunFault::Memory),
-        Err(WriteFault::Unwritten) => match String::from_str(rt.alloc(), name) {
-            Ok(name) => Err(RunFault::Unwritten(name)),
-            Err(_) => Err(RunFault::Memory),
-        },
+        Err(WriteFault::Unwritten) => Err(unwritten_file(rt.alloc(), name)),
     }
 }

@@ -3,17 +3,19 @@ ghost use Rattle.std.specs.Prelude.{◌≡◌, true, false, Err, IfOk, IfErr, On
 ghost use Rattle.core_1401.specs.Storage.{is_core_size};
 ghost use Rattle.cpu_1401.specs.State.{power_on};
 ghost use Rattle.machine_image.specs.Image.{IsInCore};
+ghost use Rattle.machine_loading.specs.Loading.{load_commands};
 ghost use Rattle.program_run.specs.Program.{IsAssembled, IsImageMachine, IsNoImage, after_commands, is_meant_as_image};
 ghost use Rattle.program_run.specs.Program.{with_image};
 ghost use Rattle.program_call.specs.Sizes.{is_refused, size_for};
 
 use crate::fault::RunFault;
-use autocoder_1401::assemble_image;
+use autocoder_1401::{PackedImage, assemble_packed};
 use autocoder_statements::Language;
 use core_1401::CoreFault;
 use cpu_1401::Machine;
+use machine_commands::Command;
 use machine_execution::carry_out;
-use machine_image::{Image, LentImage, lend_image};
+use machine_image::{LentImage, Segment, lend_image};
 use machine_loading::LoadCommands;
 use program_call::size_for;
 use std::alloc::Global;
@@ -37,12 +39,12 @@ pub fn program_of(
     language: Language,
     text: &[u8],
     size: Option<u16>,
-) -> Result<Image, RunFault>
+) -> Result<PackedImage, RunFault>
     requires { is_refused size ≡ false }
     ensures source { IsAssembled language (size_for size language text.now) text.now result }
     ensures in_core { IfOk result IsInCore }
 {
-    match assemble_image(alloc, language, text, size_for(size, language, text)) {
+    match assemble_packed(alloc, language, text, size_for(size, language, text)) {
         Ok(image) => Ok(image),
         Err(fault) => Err(RunFault::Source(fault)),
     }
@@ -74,18 +76,32 @@ fn carry_each(machine: &mut Machine, commands: LoadCommands<'_>)
     }
 }
 
+/// Deposits the segments of an image on a machine, in order, and sets the I register to its entry.
+fn carry_image(machine: &mut Machine, image: &PackedImage)
+    ensures { machine.new ≡ after_commands machine.old (load_commands image.now) }
+{
+    let mut rest = image.segments();
+    while let Some((segment, beyond)) = rest.split_first() {
+        let Segment { address, cells } = segment;
+        let _ = carry_out(machine, &Command::Deposit { address, cells });
+        rest = beyond;
+    }
+    let address = image.start();
+    let _ = carry_out(machine, &Command::SetI { address });
+}
+
 /// A machine of an image's size at power-on that has the image's cells, and begins at its entry.
 ///
 /// # Errors
 ///
 /// `Memory` if there is no room for core storage.
-pub fn loaded_machine(alloc: Global, image: &Image) -> Result<Machine, RunFault>
+pub fn loaded_machine(alloc: Global, image: &PackedImage) -> Result<Machine, RunFault>
     requires { IsInCore image.now }
     ensures ok { IfOk result (λ machine. machine ≡ with_image image.now) }
     ensures err { OnErr result (result ≡ Err RunFault.Memory) }
 {
-    let mut machine = machine_of(alloc, image.size)?;
-    carry_each(&mut machine, LoadCommands::of_kept(image));
+    let mut machine = machine_of(alloc, image.size())?;
+    carry_image(&mut machine, image);
     Ok(machine)
 }
 

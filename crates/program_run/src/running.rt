@@ -1,9 +1,11 @@
 //! What the subcommand `run` does.
 ghost use Rattle.std.specs.Prelude.{◌≡◌, true, Err, IfOk, IfErr, OnOk, option_map, string_bytes};
-ghost use Rattle.job_runner.specs.Unattended.{with_deck};
+ghost use Rattle.job_runner.specs.Unattended.{taped_with_deck};
+ghost use Rattle.program_run.specs.RunDeck.{IsAtEndOf, started_job};
 ghost use Rattle.program_run.specs.Run.{job_outcome};
 ghost use Rattle.program_run.specs.RunFile.{IsFaultOf, IsOfRun, IsUnwritten, written_names};
-ghost use Rattle.program_run.specs.RunJob.{HasHalted, ReportsJob, ReportsStop, report_on, set_up, with_switches};
+ghost use Rattle.program_run.specs.RunJob.{HasHalted, ReportsJob, ReportsStop, begun_with, report_on, set_up};
+ghost use Rattle.program_run.specs.RunJob.{with_switches};
 ghost use Rattle.program_call.specs.Sizes.{is_refused};
 
 use crate::deck_running::{Broken, run_started};
@@ -13,13 +15,15 @@ use crate::inputs::{InputGraphics, Inputs, read_inputs};
 use crate::job_report::JobReport;
 use crate::loaded_image::store_image;
 use crate::one_file::{Clash, check_names};
-use crate::outputs::{OutputFile, OutputNames, Outputs, create_outputs};
+use crate::outputs::{FileOutputs, OutputFile, OutputNames, Outputs, create_outputs};
+use crate::reels::{read_reels, write_reels};
 use crate::watching::{Shown, Unwatched, Watch};
 use bytes_streams::{Sink, ToWriter};
 use cpu_1401::{Machine, Stop};
 use job_runner::CardList;
 use machine_graphics::Graphics;
 use machine_panel::Features;
+use machine_tapes::{TapedMachine, Tapes};
 use program_call::{Job, Start, is_refused};
 use std::io;
 use std::rt::{Clock, Files};
@@ -52,37 +56,30 @@ pub(crate) fn set_up(machine: &mut Machine, features: Features, switches: &[bool
 }
 
 /// Runs a machine with its cards, and shows how far it is if standard error is a terminal.
-fn run_shown<R: Eprint + Clock + AllocGlobal, W: Sink + Drop, F: Sink + Drop>(
+fn run_shown<R: Eprint + Clock + AllocGlobal, W: Sink, P: Sink, F: Sink>(
     rt: &R,
     error_output: ErrorOutput,
-    machine: &mut Machine,
+    taped: &mut TapedMachine,
     cards: &CardList,
     start: Start,
     limit: u32,
-    mut outputs: Outputs<W, F>,
+    outputs: &mut Outputs<W, P, F>,
 ) -> Result<JobReport, Broken>
-    ensures { IfOk result (λ report. report ≡ report_on start limit (with_deck cards.now machine.old)) }
+    ensures report { IfOk result (λ report. report ≡ report_on start limit (taped_with_deck cards.now taped.old)) }
+    ensures end { OnOk result
+        (IsAtEndOf (started_job start limit (taped_with_deck cards.now taped.old)) taped.new) }
 {
     let alloc = rt.alloc();
-    let Outputs {
-        paper,
-        punch,
-        trace,
-    } = &mut outputs;
     match error_output {
         ErrorOutput::Terminal => {
             let mut shown = Shown::new(rt);
-            let ended = run_started(
-                alloc, machine, cards, start, limit, paper, punch, trace, &mut shown,
-            );
+            let ended = run_started(alloc, taped, cards, start, limit, outputs, &mut shown);
             shown.end();
             ended
         }
         ErrorOutput::Other => {
             let mut watch = Unwatched;
-            run_started(
-                alloc, machine, cards, start, limit, paper, punch, trace, &mut watch,
-            )
+            run_started(alloc, taped, cards, start, limit, outputs, &mut watch)
         }
     }
 }
@@ -91,13 +88,15 @@ fn run_shown<R: Eprint + Clock + AllocGlobal, W: Sink + Drop, F: Sink + Drop>(
 fn run_into<R: Files + Print + Eprint + Clock + AllocGlobal>(
     rt: &R,
     error_output: ErrorOutput,
-    machine: &mut Machine,
+    taped: &mut TapedMachine,
     cards: &CardList,
     start: Start,
     limit: u32,
-    outputs: Outputs<Option<OutputFile<R::File>>, OutputFile<R::File>>,
+    outputs: FileOutputs<Option<OutputFile<R::File>>, R::File>,
 ) -> Result<JobReport, Broken>
-    ensures { IfOk result (λ report. report ≡ report_on start limit (with_deck cards.now machine.old)) }
+    ensures report { IfOk result (λ report. report ≡ report_on start limit (taped_with_deck cards.now taped.old)) }
+    ensures end { OnOk result
+        (IsAtEndOf (started_job start limit (taped_with_deck cards.now taped.old)) taped.new) }
 {
     let Outputs {
         paper,
@@ -106,20 +105,20 @@ fn run_into<R: Files + Print + Eprint + Clock + AllocGlobal>(
     } = outputs;
     match paper {
         Some(paper) => {
-            let outputs = Outputs {
+            let mut outputs = Outputs {
                 paper,
                 punch,
                 trace,
             };
-            run_shown(rt, error_output, machine, cards, start, limit, outputs)
+            run_shown(rt, error_output, taped, cards, start, limit, &mut outputs)
         }
         None => {
-            let outputs = Outputs {
+            let mut outputs = Outputs {
                 paper: ToWriter::new(io::writer(rt)),
                 punch,
                 trace,
             };
-            run_shown(rt, error_output, machine, cards, start, limit, outputs)
+            run_shown(rt, error_output, taped, cards, start, limit, &mut outputs)
         }
     }
 }
@@ -132,24 +131,26 @@ fn run_into<R: Files + Print + Eprint + Clock + AllocGlobal>(
 fn run_inputs<R: Files + Print + Eprint + Clock + AllocGlobal>(
     rt: &R,
     error_output: ErrorOutput,
-    machine: &mut Machine,
+    taped: &mut TapedMachine,
     cards: &CardList,
     start: Start,
     limit: u32,
-    names: OutputNames,
+    names: &OutputNames,
 ) -> Result<JobReport, RunFault>
-    ensures report { IfOk result (λ report. report ≡ report_on start limit (with_deck cards.now machine.old)) }
-    ensures fault { IfErr result (IsUnwritten (written_names (option_map string_bytes names.paper)
-        (option_map string_bytes names.punch) (option_map string_bytes names.trace)
-        (option_map string_bytes names.image))) }
+    ensures report { IfOk result (λ report. report ≡ report_on start limit (taped_with_deck cards.now taped.old)) }
+    ensures end { OnOk result
+        (IsAtEndOf (started_job start limit (taped_with_deck cards.now taped.old)) taped.new) }
+    ensures fault { IfErr result (IsUnwritten (written_names (option_map string_bytes names.now.paper)
+        (option_map string_bytes names.now.punch) (option_map string_bytes names.now.trace)
+        (option_map string_bytes names.now.image) names.now.reels.items)) }
 {
-    let outputs = match create_outputs(rt, &names) {
+    let outputs = match create_outputs(rt, names) {
         Ok(outputs) => outputs,
         Err(fault) => return Err(fault),
     };
-    match run_into(rt, error_output, machine, cards, start, limit, outputs) {
+    match run_into(rt, error_output, taped, cards, start, limit, outputs) {
         Ok(report) => Ok(report),
-        Err(broken) => Err(names.fault_of(broken)),
+        Err(broken) => Err(names.fault_of(rt.alloc(), broken)),
     }
 }
 
@@ -159,10 +160,11 @@ fn run_inputs<R: Files + Print + Eprint + Clock + AllocGlobal>(
 /// # Errors
 ///
 /// `Size` if there is no core storage of the size named; `OneFile` if two of the names lead to one file, the second one
-/// of a file that is written; `File`, `Source`, `Image` or `Deck` if there is no program or no deck; `Unloaded` if there
-/// is no image of what the deck has loaded; `Unwritten` or `Output` if a file can't be made, or paper, cards or trace aren't written; `Stopped` if the machine stopped
-/// otherwise than by a halt; or `Memory`.
-#[tactic(auto, using(crate::proofs::RunJobLemmas::unread_reports, crate::proofs::RunJobLemmas::unstored_reports, crate::proofs::RunJobLemmas::unstored_fault, crate::proofs::RunJobLemmas::run_halted, crate::proofs::RunJobLemmas::run_stopped))]
+/// of a file that is written; `File`, `Source`, `Image` or `Deck` if there is no program or no deck; `File` or `Reel` if
+/// there is no reel, and `Exists` if a new reel's file is there; `Unloaded` if there is no image of what the deck has
+/// loaded; `Unwritten` or `Output` if a file can't be made, or paper, cards, trace or a reel aren't written; `Stopped` if
+/// the machine stopped otherwise than by a halt; or `Memory`. Reels are written whatever else isn't.
+#[tactic(auto, using(crate::proofs::RunJobLemmas::unread_reports, crate::proofs::RunJobLemmas::unstored_reports, crate::proofs::RunJobLemmas::unstored_fault, crate::proofs::RunJobLemmas::run_halted, crate::proofs::RunJobLemmas::run_stopped, crate::proofs::ReelLemmas::unmounted_reports))]
 pub fn run_file<R: Files + Print + Eprint + Clock + AllocGlobal>(
     rt: &R,
     error_output: ErrorOutput,
@@ -182,6 +184,7 @@ pub fn run_file<R: Files + Print + Eprint + Clock + AllocGlobal>(
     let Job {
         file,
         start,
+        reels,
         cards,
         punch,
         paper,
@@ -204,9 +207,10 @@ pub fn run_file<R: Files + Print + Eprint + Clock + AllocGlobal>(
         punch,
         trace,
         image,
+        reels,
         graphics: punch_graphics.unwrap_or(Graphics::Ours),
     };
-    match check_names(rt, file.as_str(), &cards, &names) {
+    match check_names(rt, file.as_str(), start, &cards, &names) {
         Ok(()) => {}
         Err(Clash::Memory) => return Err(RunFault::Memory),
         Err(Clash::Names(first, second)) => return Err(RunFault::OneFile(first, second)),
@@ -217,6 +221,10 @@ pub fn run_file<R: Files + Print + Eprint + Clock + AllocGlobal>(
     };
     let mut inputs = match read_inputs(rt, file, start, language, asked, size, cards) {
         Ok(inputs) => inputs,
+        Err(fault) => return Err(fault),
+    };
+    let tapes = match read_reels(rt, names.reels.as_slice()) {
+        Ok(tapes) => tapes,
         Err(fault) => return Err(fault),
     };
     match store_image(
@@ -232,42 +240,64 @@ pub fn run_file<R: Files + Print + Eprint + Clock + AllocGlobal>(
         Err(fault) => return Err(fault),
     }
     set_up(&mut inputs.machine, features, &switches);
-    run_and_tell(rt, error_output, inputs, start, limit, names)
+    run_and_tell(rt, error_output, inputs, tapes, start, limit, names)
 }
 
-/// Runs what was read, writes to the files of these names, and tells how it ended.
-#[tactic(auto, using(crate::proofs::RunJobLemmas::unwritten_reports))]
+/// Runs what was read, with these tape units, writes to the files of these names, and reports how it ended.
+#[tactic(auto, using(crate::proofs::RunJobLemmas::unwritten_reports, crate::proofs::ReelLemmas::unwritten_reel_reports, crate::proofs::ReelLemmas::unwritten_of_run))]
 fn run_and_tell<R: Files + Print + Eprint + Clock + AllocGlobal>(
     rt: &R,
     error_output: ErrorOutput,
     inputs: Inputs,
+    tapes: Tapes,
     start: Start,
     limit: u32,
     names: OutputNames,
 ) -> Result<(), RunFault>
-    ensures halted { OnOk result ((report_on start limit (with_deck inputs.cards inputs.machine)).stop ≡ Stop.Halt) }
-    ensures stopped { IfErr result (ReportsStop (report_on start limit (with_deck inputs.cards inputs.machine))) }
+    ensures halted { OnOk result
+        ((report_on start limit (begun_with inputs.machine tapes inputs.cards)).stop ≡ Stop.Halt) }
+    ensures stopped { IfErr result
+        (ReportsStop (report_on start limit (begun_with inputs.machine tapes inputs.cards))) }
     ensures fault { IfErr result (IsOfRun (written_names (option_map string_bytes names.paper)
         (option_map string_bytes names.punch) (option_map string_bytes names.trace)
-        (option_map string_bytes names.image))) }
+        (option_map string_bytes names.image) names.reels.items)) }
 {
     let Inputs {
-        mut machine,
+        machine,
         cards,
         source,
     } = inputs;
-    match run_inputs(rt, error_output, &mut machine, &cards, start, limit, names) {
+    let mut taped = TapedMachine { machine, tapes };
+    let ran = run_inputs(rt, error_output, &mut taped, &cards, start, limit, &names);
+    let written = write_reels(rt, &taped.tapes, names.reels.as_slice());
+    match ran {
         Ok(report) => {
-            tell_ending(
-                rt,
-                Ending::of(rt.alloc(), report, &machine, source.as_ref()),
-            )
+            let ending = Ending::of(rt.alloc(), report, &taped, start, source.as_ref());
+            tell_both(rt, ending, written)
         }
         Err(fault) => Err(fault),
     }
 }
 
-/// Tells on standard error how a program ended that halted; any other stop is a fault, which tells it.
+/// Reports how a job ended, and whether its reels are written: if one isn't, that is the fault.
+fn tell_both(
+    rt: &impl Eprint,
+    ending: Ending,
+    written: Result<(), RunFault>,
+) -> Result<(), RunFault>
+    ensures whole { OnOk written (result ≡ job_outcome ending) }
+    ensures err { IfErr written (λ why. result ≡ Err why) }
+{
+    match written {
+        Ok(()) => tell_ending(rt, ending),
+        Err(fault) => {
+            let _ = eprintln!(rt; "ibm1401: {ending}");
+            Err(fault)
+        }
+    }
+}
+
+/// Reports on standard error how a program ended that halted; any other stop is a fault, which reports it.
 pub fn tell_ending(rt: &impl Eprint, ending: Ending) -> Result<(), RunFault>
     ensures { result ≡ job_outcome ending }
 {

@@ -3,11 +3,10 @@ ghost use Rattle.std.specs.Prelude.{◌≡◌, false};
 ghost use Rattle.program_call.specs.Sizes.{is_refused};
 
 use autocoder_1401::{
-    Asked, AsmKind, FaultPages, asked_warnings, explained_faults, fault_lines, warning_lines,
+    AsmKind, FaultPages, explained_faults, fault_lines, lost_warnings, warning_lines,
 };
 use autocoder_statements::Language;
 use autocoder_symbols::AsmFault;
-use machine_panel::Features;
 use program_call::size_for;
 use std::alloc::{AllocError, Global};
 
@@ -87,14 +86,8 @@ pub(crate) fn report_warnings(
     name: &str,
     language: Language,
     source: &[u8],
-    size: Option<u16>,
-)
-    requires { is_refused size ≡ false }
-{
-    let size = size_for(size, language, source);
-    // What isn't read is the same, whatever the machine is fitted with.
-    let features = Features::NONE;
-    let Ok(found) = asked_warnings(rt.alloc(), Asked::Lost, language, source, size, features) else {
+) {
+    let Ok(found) = lost_warnings(rt.alloc(), language, source) else {
         return;
     };
     for page in found.as_slice().chunks(PAGE) {

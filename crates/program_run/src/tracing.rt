@@ -48,6 +48,13 @@ impl<F: Sink> Trace<F> {
         Ok(())
     }
 
+    /// Whether there is a trace.
+    pub fn is_on(&self) -> bool
+        ensures { result ≡ is_some self.now.before }
+    {
+        self.before.is_some()
+    }
+
     /// How many steps are carried out at once: one if there is a trace.
     pub fn most_at_once(&self) -> u32
         ensures { result ≡ most_at_once (is_some self.now.before) }

@@ -1,5 +1,7 @@
-//! How far a run is, told while it goes on.
+//! How far a run is, shown while it goes on.
 
+use machine_operations::TAPE_UNITS;
+use machine_tapes::Tapes;
 use std::rt::Clock;
 use std::time::{Duration, Instant};
 
@@ -14,24 +16,24 @@ pub struct HowFar {
     pub printed: u64,
 }
 
-/// Is told now and then how far a run is.
+/// Hears now and then how far a run is.
 pub trait Watch {
-    /// Sees how far the run is.
-    fn saw(&mut self, how_far: HowFar);
+    /// Sees how far the run is, and how far the reels are.
+    fn saw(&mut self, how_far: HowFar, tapes: &Tapes);
 }
 
-/// Tells nobody.
+/// Reports to nobody.
 #[derive(Drop)]
 pub struct Unwatched;
 
 impl Watch for Unwatched {
-    fn saw(&mut self, _how_far: HowFar) {}
+    fn saw(&mut self, _how_far: HowFar, _tapes: &Tapes) {}
 }
 
 /// How many times a run is seen before the clock is asked again.
 const BETWEEN_LOOKS: u32 = 16;
 
-/// How many seconds a run goes on before it is told how far it is, and again each time.
+/// How many seconds a run goes on before it is shown how far it is, and again each time.
 const BETWEEN_LINES: u64 = 1;
 
 /// Shows how far the run is each second, on one line of the terminal that standard error is.
@@ -54,6 +56,17 @@ impl<'a, R: Clock + Eprint> Shown<'a, R> {
         }
     }
 
+    /// Shows how many records the head has passed on each unit that is ready.
+    fn show_reels(&self, tapes: &Tapes) {
+        for number in 1..TAPE_UNITS + 1 {
+            let drive = tapes.unit(number);
+            if drive.is_ready {
+                let passed = drive.reel.records_passed();
+                let _ = eprint!(self.rt; ", tape {number} at record {passed}");
+            }
+        }
+    }
+
     /// Takes the line away again.
     pub fn end(&self) {
         if self.is_told {
@@ -63,7 +76,7 @@ impl<'a, R: Clock + Eprint> Shown<'a, R> {
 }
 
 impl<R: Clock + Eprint> Watch for Shown<'_, R> {
-    fn saw(&mut self, how_far: HowFar) {
+    fn saw(&mut self, how_far: HowFar, tapes: &Tapes) {
         self.seen = self.seen.wrapping_add(1);
         if self.seen % BETWEEN_LOOKS != 0 {
             return;
@@ -79,7 +92,9 @@ impl<R: Clock + Eprint> Watch for Shown<'_, R> {
             cards,
             printed,
         } = how_far;
-        let _ = eprint!(self.rt; "\r{steps} steps, {cards} cards left, {printed} lines\x1b[K");
+        let _ = eprint!(self.rt; "\r{steps} steps, {cards} cards left, {printed} lines");
+        self.show_reels(tapes);
+        let _ = eprint!(self.rt; "\x1b[K");
         self.last = Some(now);
         self.is_told = true;
     }

@@ -160,6 +160,7 @@ word_all feature.ModifyAddress = refl
 word_all feature.BitTest = refl
 word_all feature.Lengths = refl
 word_all feature.ReadPunchRelease = refl
+word_all feature.Tapes = refl
 
 if_all : (test : Bool) (text other : List ℕ) → list_all no_tab text ≡ true → list_all no_tab other ≡ true
     → list_all no_tab (if test then text else other) ≡ true

@@ -599,6 +599,7 @@ BCE:'branch if the character is equal',SAR:'store the A register',SBR:'store the
 NOP:'no operation',H:'halt',SS:'select a stacker',R:'read a card',W:'print a line',WM:'print word marks',
 P:'punch a card',WR:'print and read',RP:'read and punch',WP:'print and punch',WRP:'print, read and punch',
 CC:'control the carriage',M:'multiply',D:'divide',MCM:'move a record',MA:'modify an address',
+CU:'control a tape unit',
 BBE:'branch if bits are equal',SRF:'start the read feed',SPF:'start the punch feed',
 },
 legendRead:'card read 001-080',legendPunch:'card punched 101-180',legendPrint:'line printed 201-332',
@@ -736,6 +737,7 @@ ADDRESS:'The instruction at I needs a place that isn\'t in core, or a field with
 OVERLAP:'The fields of the instruction at I share places.',
 CARRIAGE:'A skip to a channel without a hole in the carriage tape: it has 1, 9 and 12.',
 DCHAR:'The last character of the instruction at I asks for nothing that it can do.',
+TAPE:'The tape unit that the instruction at I names has no reel.',
 },
 replies:{
 'REFUSED 1':'That place isn\'t in core.',
@@ -902,6 +904,7 @@ SAR:'A-Register speichern',SBR:'B-Register speichern',NOP:'keine Operation',H:'a
 SS:'Ablage w\xe4hlen',R:'Karte lesen',W:'Zeile drucken',WM:'Wortmarken drucken',P:'Karte stanzen',
 WR:'drucken und lesen',RP:'lesen und stanzen',WP:'drucken und stanzen',WRP:'drucken, lesen und stanzen',
 CC:'Vorschub steuern',M:'multiplizieren',D:'dividieren',MCM:'Satz \xfcbertragen',MA:'Adresse \xe4ndern',
+CU:'Bandeinheit steuern',
 BBE:'springen, wenn Bits gleich sind',SRF:'Lesevorschub ansto\xdfen',SPF:'Stanzvorschub ansto\xdfen',
 },
 legendRead:'gelesene Karte 001-080',legendPunch:'gestanzte Karte 101-180',legendPrint:'Druckzeile 201-332',
@@ -1047,6 +1050,7 @@ ADDRESS:'Der Befehl bei I braucht eine Stelle, die es nicht gibt, oder ein Feld 
 OVERLAP:'Die Felder des Befehls bei I teilen sich Stellen.',
 CARRIAGE:'Ein Sprung zu einem Kanal ohne Loch im Vorschubstreifen: er hat 1, 9 und 12.',
 DCHAR:'Das letzte Zeichen des Befehls bei I verlangt nichts, was er kann.',
+TAPE:'Die Bandeinheit, die der Befehl bei I nennt, hat kein Band.',
 },
 replies:{
 'REFUSED 1':'Diese Stelle gibt es nicht.',
@@ -2274,15 +2278,19 @@ print();
 document.body.classList.remove('prints-card');
 }
 const IDLE={attractMs:180000,pauseMs:90000,seatMs:20000,mostAfter:JOURNAL_ENTRIES / 2};
-const attract={on:false,stop:false,yields:false,touched:performance.now(),pressed:performance.now(),
-ended:-Infinity};
+const attract={on:false,stop:false,yields:false,press:false,touched:performance.now(),
+pressed:performance.now(),ended:-Infinity};
 function touch(event){
 attract.touched=attract.pressed=performance.now();
 if(run)run.wake();
-if(guide.state !=='attract'||event.isTrusted===false)return;
+if(event.isTrusted===false)return;
+const isClick=event.type==='click',ends=guide.state==='attract',goesOn=isClick&&attract.press;
+attract.press=ends&&!isClick;
+if(ends){
 if(attract.on)attract.stop=true;
 else takeOver();
 stopRun();
+}else if(!goesOn)return;
 if(event.key==='Tab')return;
 event.preventDefault();
 event.stopPropagation();
@@ -3115,7 +3123,7 @@ begin();
 /// The `content-security-policy` of the page: its own script and style by their SHA-256, exchanges with its own server,
 /// and nothing else.
 pub const POLICY: &str = "default-src 'none'; \
-    script-src 'sha256-EqLuMEp3NbmVffc/h1z37kOe3yk7c1AitIeNUnb8SqI='; \
+    script-src 'sha256-/7U3uqPrGSwMTXJiiSx0xFT0+jPETULr2QzVoyXk5ug='; \
     style-src 'sha256-59aFZCQciM0a7kK5TsM8yNoux63Ji81fTk2rUPrgvQE='; \
     img-src data:; \
     connect-src 'self'; \

@@ -19,7 +19,7 @@ fn expect_warnings(
 }
 
 /// Instructions and chains, of which each machine carries out those of lines 7, 9 and 12 alone, and none those of lines
-/// 16 and 18 to 20.
+/// 16 and 18.
 const SOURCE: &[u8] = b"     ENTRY     M    A,B
                D    A,B
                MCM  A,B
@@ -75,6 +75,8 @@ fn a_feature_drops_its_own_warnings(rt: HostRuntime) {
     let read_punch_release = [1, 2, 3, 4, 5, 6, 8, 10, 11, 13, 14, 16, 18, 19, 20];
     let feature = Feature::ReadPunchRelease;
     expect_unfitted(&rt, Features::NONE.with(feature), &read_punch_release);
+    let tapes = [1, 2, 3, 4, 5, 6, 8, 10, 11, 13, 14, 15, 16, 17, 18];
+    expect_unfitted(&rt, Features::NONE.with(Feature::Tapes), &tapes);
 }
 
 #[test]
@@ -85,7 +87,7 @@ fn a_chain_of_bit_tests_takes_two_features(rt: HostRuntime) {
 
 #[test]
 fn all_features_leave_what_no_machine_has(rt: HostRuntime) {
-    expect_unfitted(&rt, Features::ALL, &[16, 18, 19, 20]);
+    expect_unfitted(&rt, Features::ALL, &[16, 18]);
 }
 
 #[test]

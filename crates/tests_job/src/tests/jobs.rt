@@ -10,16 +10,22 @@ use job_runner::{
     CardList, Cards, Collected, Deck, DeckTextFault, JobEnd, JobFault, Output, PaperPlace,
     ReadDeck, press_load_key, put_cards, put_paper, read_deck, run_job,
 };
+use machine_tapes::TapedMachine;
 use std::process::Abort;
 
 /// Columns 1 to 4 of each card are listed and punched, until it was the last one.
 const LIST_AND_PUNCH: &[u8] = b"~,001101~1~M004204~M004104~2~4~B533A~B507~.~ ";
 
 /// A machine that lists and punches, with sense switch A on, without which no card is the last one.
-fn lister(rt: &(impl Abort + AllocGlobal)) -> Machine {
+fn lister(rt: &(impl Abort + AllocGlobal)) -> TapedMachine {
     let mut machine = machine_with(rt, 500, LIST_AND_PUNCH);
     machine.switch(0, true);
-    machine
+    bare(rt, machine)
+}
+
+/// A machine whose units have no reels.
+fn bare(rt: &(impl Abort + AllocGlobal), machine: Machine) -> TapedMachine {
+    TapedMachine::without_reels(rt.alloc(), machine).expect(rt, "room")
 }
 
 /// The characters of a number, in four digits, with blanks after it.
@@ -52,13 +58,13 @@ fn list_of(rt: &(impl Abort + AllocGlobal), cards: &[Card]) -> CardList {
 /// Runs a job, and compares how it ends.
 fn expect_end<R: Cards, W: Output>(
     rt: &impl Abort,
-    machine: &mut Machine,
+    taped: &mut TapedMachine,
     cards: &mut R,
     limit: u32,
     output: &mut W,
     wanted: Result<JobEnd, JobFault>,
 ) {
-    let end = run_job(machine, cards, limit, output);
+    let end = run_job(taped, cards, limit, output);
     expect_same(rt, &end, &wanted, limit);
 }
 
@@ -94,7 +100,7 @@ fn expect_lines(rt: &impl Abort, lines: &[PrintLine], count: u16) {
 /// Runs a job with these cards, compares how it ends, and returns what is put out.
 fn output_of(
     rt: &(impl Abort + AllocGlobal),
-    machine: &mut Machine,
+    taped: &mut TapedMachine,
     cards: &[Card],
     limit: u32,
     wanted: JobEnd,
@@ -102,7 +108,7 @@ fn output_of(
     let list = list_of(rt, cards);
     let mut deck = Deck::new(&list);
     let mut output = Collected::new(rt.alloc());
-    expect_end(rt, machine, &mut deck, limit, &mut output, Ok(wanted));
+    expect_end(rt, taped, &mut deck, limit, &mut output, Ok(wanted));
     output
 }
 
@@ -113,26 +119,26 @@ fn expect_output(rt: &impl Abort, output: &Collected, count: u16, cards: &[Card]
 }
 
 /// Lists and punches a long deck, and compares all that is put out.
-fn expect_long(rt: &(impl Abort + AllocGlobal), machine: &mut Machine, cards: &[Card]) {
+fn expect_long(rt: &(impl Abort + AllocGlobal), taped: &mut TapedMachine, cards: &[Card]) {
     let stop = Stop::Halt;
     let end = JobEnd { steps: 8_422, stop };
-    let output = output_of(rt, machine, cards, 1_000_000, end);
-    expect_i(rt, machine, 534);
+    let output = output_of(rt, taped, cards, 1_000_000, end);
+    expect_i(rt, &taped.machine, 534);
     expect_output(rt, &output, 1_203, cards);
 }
 
 #[test]
 fn a_long_deck_is_read_printed_and_punched(rt: HostRuntime) {
-    let mut machine = lister(&rt);
+    let mut taped = lister(&rt);
     let cards = numbered(&rt, 1_203);
-    expect_long(&rt, &mut machine, cards.as_slice());
+    expect_long(&rt, &mut taped, cards.as_slice());
 }
 
 /// Lists and punches a number of cards within a limit of steps, and compares how that ends.
 fn expect_listed(rt: &(impl Abort + AllocGlobal), limit: u32, count: u16, wanted: JobEnd) {
-    let mut machine = lister(rt);
+    let mut taped = lister(rt);
     let cards = numbered(rt, count);
-    output_of(rt, &mut machine, cards.as_slice(), limit, wanted);
+    output_of(rt, &mut taped, cards.as_slice(), limit, wanted);
 }
 
 /// The same for each limit, number of cards, number of steps, and stop.
@@ -197,34 +203,39 @@ impl Output for Broken {
 }
 
 /// Runs a job with a jammed reader, and compares how it ends.
-fn expect_jammed(rt: &(impl Abort + AllocGlobal), machine: &mut Machine, wanted: JobFault) {
+fn expect_jammed(rt: &(impl Abort + AllocGlobal), taped: &mut TapedMachine, wanted: JobFault) {
     let mut output = Collected::new(rt.alloc());
-    expect_end(rt, machine, &mut Jammed, 10, &mut output, Err(wanted));
+    expect_end(rt, taped, &mut Jammed, 10, &mut output, Err(wanted));
 }
 
 /// Runs a job of three cards with a broken printer and punch, and compares how it ends.
-fn expect_broken(rt: &(impl Abort + AllocGlobal), machine: &mut Machine, wanted: JobFault) {
+fn expect_broken(rt: &(impl Abort + AllocGlobal), taped: &mut TapedMachine, wanted: JobFault) {
     let cards = numbered(rt, 3);
     let list = list_of(rt, cards.as_slice());
     let mut deck = Deck::new(&list);
-    expect_end(rt, machine, &mut deck, 10, &mut Broken, Err(wanted));
+    expect_end(rt, taped, &mut deck, 10, &mut Broken, Err(wanted));
 }
 
 #[test]
 fn a_failed_read_and_a_failed_write_are_told_apart(rt: HostRuntime) {
-    let mut machine = lister(&rt);
-    expect_jammed(&rt, &mut machine, JobFault::Read);
-    expect_broken(&rt, &mut machine, JobFault::Write);
+    let mut taped = lister(&rt);
+    expect_jammed(&rt, &mut taped, JobFault::Read);
+    expect_broken(&rt, &mut taped, JobFault::Write);
 }
 
 /// Presses the load key, and compares what it finds.
 fn expect_loaded<R: Cards>(
     rt: &impl Abort,
-    machine: &mut Machine,
+    taped: &mut TapedMachine,
     cards: &mut R,
     wanted: Result<bool, JobFault>,
 ) {
-    expect_same(rt, &press_load_key(machine, cards), &wanted, "the load key");
+    expect_same(
+        rt,
+        &press_load_key(&mut taped.machine, cards),
+        &wanted,
+        "the load key",
+    );
 }
 
 /// The deck of a text.
@@ -233,42 +244,42 @@ fn deck_of(rt: &(impl Abort + AllocGlobal), text: &[u8]) -> ReadDeck {
 }
 
 /// Loads the first of two cards, which moves on to the second one and halts.
-fn expect_first_card(rt: &(impl Abort + AllocGlobal), machine: &mut Machine, cards: &CardList) {
+fn expect_first_card(rt: &(impl Abort + AllocGlobal), taped: &mut TapedMachine, cards: &CardList) {
     let mut deck = Deck::new(cards);
     let mut output = Collected::new(rt.alloc());
-    expect_loaded(rt, machine, &mut deck, Ok(true));
-    expect_at(rt, machine, (1, 1));
+    expect_loaded(rt, taped, &mut deck, Ok(true));
+    expect_at(rt, &taped.machine, (1, 1));
     let stop = Stop::Halt;
     let end = Ok(JobEnd { steps: 2, stop });
-    expect_end(rt, machine, &mut deck, 10, &mut output, end);
-    expect_at(rt, machine, (9, 1));
+    expect_end(rt, taped, &mut deck, 10, &mut output, end);
+    expect_at(rt, &taped.machine, (9, 1));
 }
 
 #[test]
 fn the_load_key_reads_the_first_card(rt: HostRuntime) {
     let read = deck_of(&rt, b",008009.\nREST\n");
-    let mut machine = machine_of(&rt, 1_400);
-    expect_first_card(&rt, &mut machine, &read.cards);
+    let mut taped = bare(&rt, machine_of(&rt, 1_400));
+    expect_first_card(&rt, &mut taped, &read.cards);
 }
 
 /// Presses the load key, and compares what it finds; the registers stay as they are.
 fn expect_not_loaded<R: Cards>(
     rt: &impl Abort,
-    machine: &mut Machine,
+    taped: &mut TapedMachine,
     cards: &mut R,
     wanted: Result<bool, JobFault>,
 ) {
-    let before = machine.regs();
-    expect_loaded(rt, machine, cards, wanted);
-    expect_same(rt, &machine.regs(), &before, "registers");
+    let before = taped.machine.regs();
+    expect_loaded(rt, taped, cards, wanted);
+    expect_same(rt, &taped.machine.regs(), &before, "registers");
 }
 
 #[test]
 fn the_load_key_finds_no_card_or_a_jammed_reader(rt: HostRuntime) {
-    let mut machine = machine_of(&rt, 1_400);
+    let mut taped = bare(&rt, machine_of(&rt, 1_400));
     let none = CardList::new(rt.alloc());
-    expect_not_loaded(&rt, &mut machine, &mut Deck::new(&none), Ok(false));
-    expect_not_loaded(&rt, &mut machine, &mut Jammed, Err(JobFault::Read));
+    expect_not_loaded(&rt, &mut taped, &mut Deck::new(&none), Ok(false));
+    expect_not_loaded(&rt, &mut taped, &mut Jammed, Err(JobFault::Read));
 }
 
 /// Reads a deck, and compares whether it has small letters and the text of its cards.

@@ -101,6 +101,9 @@ fn each_reason_is_told_in_words(rt: HostRuntime) {
         &Reason::UnknownD { char, d },
         "the d-character blank means nothing to the operation M",
     );
+    expect_text(&rt, &Reason::NoUnit, "no tape unit has this name");
+    let unit = 6;
+    expect_text(&rt, &Reason::NoReel { unit }, "tape unit 6 has no reel");
 }
 
 /// Compares the texts of reasons of operands.
@@ -444,8 +447,15 @@ fn a_feature_leaves_lengths_that_no_machine_has(rt: HostRuntime) {
                 700,
                 b"A",
                 b"~M%U1700R~.",
+                Stop::Tape,
+                "tape unit 1 has no reel",
+            ),
+            (
+                700,
+                b"A",
+                b"~M%T0700R~.",
                 Stop::NotFitted,
-                "the operation M isn't fitted with 8 characters",
+                "no tape unit has this name",
             ),
         ],
     );

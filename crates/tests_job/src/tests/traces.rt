@@ -13,6 +13,7 @@ const NOTHING: Work = Work {
     printed: false,
     read: false,
     punched: false,
+    tape: None,
 };
 
 /// Puts a card in the hopper that has ABC in its first columns.

@@ -2,8 +2,8 @@
 
 use super::{cells_of, expect_same, expect_text};
 use autocoder_1401::{
-    AsmFault, AsmKind, Assembly, Image, ImageFault, Listing, ListingLine, Segment, Segments,
-    assemble, read_image, write_image,
+    AsmFault, AsmKind, Assembly, Image, ImageFault, Listing, ListingLine, PackedImage, Segment,
+    Segments, assemble, read_image, write_image,
 };
 use std::process::Abort;
 
@@ -62,6 +62,20 @@ pub(super) fn expect_image(rt: &(impl Abort + AllocGlobal), call: &str, image: &
     expect_same(rt, call, &found, &(wanted.size, wanted.start));
     let segments = wanted.segments.as_slice();
     expect_same(rt, call, &image.segments.as_slice(), &segments);
+}
+
+/// The same of an image in few bytes.
+pub(super) fn expect_packed(rt: &(impl Abort + AllocGlobal), call: &str, image: &PackedImage) {
+    let wanted = five_and_five(rt);
+    let found = (image.size(), image.start());
+    expect_same(rt, call, &found, &(wanted.size, wanted.start));
+    let mut rest = image.segments();
+    for segment in wanted.segments.as_slice() {
+        let (first, others) = rest.split_first().expect(rt, call);
+        expect_same(rt, call, &first, segment);
+        rest = others;
+    }
+    expect_same(rt, call, &rest.split_first().is_some(), &false);
 }
 
 #[test]

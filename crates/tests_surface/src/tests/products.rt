@@ -1,6 +1,6 @@
 //! What else is made of a source: its image alone, rows, tables, a listing that is written, and what is said of it.
 
-use super::assembler::{SOURCE, expect_image, expect_listing};
+use super::assembler::{SOURCE, expect_image, expect_listing, expect_packed};
 use super::{cells_of, expect_same, expect_text};
 use autocoder_1401::messages::warning_column;
 use autocoder_1401::{
@@ -53,7 +53,7 @@ fn the_rows_of_a_listing(rt: HostRuntime) {
         symbols,
     } = made.expect(&rt, "a program");
     expect_same(&rt, "symbols", &symbols.len(), &3);
-    expect_image(&rt, "assemble_program", &image);
+    expect_packed(&rt, "assemble_program", &image);
     let (number, address, characters) = (2, 400, *b"?423420 ");
     let wanted = Row {
         number,

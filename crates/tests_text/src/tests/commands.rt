@@ -131,7 +131,7 @@ fn what_fits_a_machine_has_its_text_and_no_line(rt: HostRuntime) {
         &rt,
         rt.alloc(),
         Features::ALL,
-        "FIT MULTIPLY MOVE-RECORD MODIFY-ADDRESS BIT-TEST LENGTHS READ-PUNCH-RELEASE",
+        "FIT MULTIPLY MOVE-RECORD MODIFY-ADDRESS BIT-TEST LENGTHS READ-PUNCH-RELEASE TAPES",
     );
 }
 

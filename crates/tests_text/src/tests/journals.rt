@@ -226,7 +226,7 @@ fn the_first_wrong_line_is_told(rt: HostRuntime) {
                 Wrong::Answer,
             ),
             (
-                "JOURNAL1 1400\n1\t0\tFIT LENGTHS\tOK\n2\t0\tFIT TAPES\tOK\n",
+                "JOURNAL1 1400\n1\t0\tFIT LENGTHS\tOK\n2\t0\tFIT DISKS\tOK\n",
                 3,
                 Wrong::Command,
             ),

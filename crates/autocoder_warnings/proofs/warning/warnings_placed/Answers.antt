@@ -1,6 +1,5 @@
 -- The warnings are those by what is known of all lines.
 use Rattle.std.proofs.Common.{◌≡◌, ℕ, List, [], ◌++◌, IfOk, replicate, ◌∙◌, ap, subst}
-use Rattle.std.specs.List.{filter}
 use Rattle.bcd_1401.specs.declared.cell.Cell.{Cell}
 use Rattle.machine_panel.specs.declared.features.Features.{Features}
 use Rattle.autocoder_diagnostics.specs.Noted.{known_of}
@@ -11,8 +10,7 @@ use Rattle.autocoder_placing.specs.View.{places_of}
 use Rattle.autocoder_warnings.specs.FittedNotes.{known_with}
 use Rattle.autocoder_warnings.specs.Loss.{losses_of}
 use Rattle.autocoder_warnings.specs.Overlap.{overlaps_from}
-use Rattle.autocoder_warnings.specs.Warnings.{is_asked, warnings_from, all_warnings}
-use Rattle.autocoder_warnings.specs.declared.warning.Asked.{Asked}
+use Rattle.autocoder_warnings.specs.Warnings.{warnings_from, all_warnings}
 use Rattle.autocoder_warnings.specs.declared.warning.Warning.{Warning}
 use Rattle.autocoder_warnings.proofs.warning.warnings_placed.Goals as goal
 
@@ -23,30 +21,27 @@ returns-clause-ok c =
     let lines = c.args.lines.now in
     let this = c.in_ok-this.this in
     let made = c.in_ok-made.made in
-    let of : Asked → Features → List Warning → Known → List Cell → Placement → Placement → List ℕ → List Warning =
-    λ asked features so_far known storage all above fillers. so_far
-    ++ filter (is_asked asked) (warnings_from features known storage 1 (addresses_from above lines)
-    (overlaps_from lines fillers 0 (filled_from all above lines)) (losses_of source) lines) in
+    let of : Features → List Warning → Known → List Cell → Placement → Placement → List ℕ → List Warning =
+    λ features so_far known storage all above fillers. so_far
+    ++ warnings_from features known storage 1 (addresses_from above lines)
+    (overlaps_from lines fillers 0 (filled_from all above lines)) (losses_of source) lines in
     let all = places_of c.args.all.now in
-    let asked = c.args.asked in
     let features = c.args.features in
-    let same : of this.asked this.features made.warnings.items (known_of this.notes) this.storage.items all (places_of made.so_far)
-    made.fillers.items ≡ filter (is_asked asked) (all_warnings features size source lines) =
-    ap (λ (which : Asked). of which this.features made.warnings.items (known_of this.notes) this.storage.items all
-    (places_of made.so_far) made.fillers.items) c.in_ok-this.ensures.asked
-    ∙ ap (λ (fitted : Features). of asked fitted made.warnings.items (known_of this.notes) this.storage.items all
+    let same : of this.features made.warnings.items (known_of this.notes) this.storage.items all (places_of made.so_far)
+    made.fillers.items ≡ all_warnings features size source lines =
+    ap (λ (fitted : Features). of fitted made.warnings.items (known_of this.notes) this.storage.items all
     (places_of made.so_far) made.fillers.items) c.in_ok-this.ensures.features
-    ∙ ap (λ (so_far : List Warning). of asked features so_far (known_of this.notes) this.storage.items all (places_of made.so_far)
+    ∙ ap (λ (so_far : List Warning). of features so_far (known_of this.notes) this.storage.items all (places_of made.so_far)
     made.fillers.items) c.in_ok-made.ensures.warnings
-    ∙ ap (λ (known : Known). of asked features [] known this.storage.items all (places_of made.so_far) made.fillers.items)
+    ∙ ap (λ (known : Known). of features [] known this.storage.items all (places_of made.so_far) made.fillers.items)
     c.in_ok-this.ensures.notes
-    ∙ ap (λ (storage : List Cell). of asked features [] (known_with features lines) storage all (places_of made.so_far) made.fillers.items)
+    ∙ ap (λ (storage : List Cell). of features [] (known_with features lines) storage all (places_of made.so_far) made.fillers.items)
     c.in_ok-this.ensures.storage
-    ∙ ap (λ (above : Placement). of asked features [] (known_with features lines) (filled size lines) all above made.fillers.items)
+    ∙ ap (λ (above : Placement). of features [] (known_with features lines) (filled size lines) all above made.fillers.items)
     c.in_ok-made.ensures.placed
-    ∙ ap (λ (fillers : List ℕ). of asked features [] (known_with features lines) (filled size lines) all (unplaced all) fillers)
+    ∙ ap (λ (fillers : List ℕ). of features [] (known_with features lines) (filled size lines) all (unplaced all) fillers)
     c.in_ok-made.ensures.fillers
-    ∙ ap (λ (whole : Placement). of asked features [] (known_with features lines) (filled size lines) whole (unplaced whole)
+    ∙ ap (λ (whole : Placement). of features [] (known_with features lines) (filled size lines) whole (unplaced whole)
     (replicate size 0)) c.requires.placed in
     subst (λ (whole : List Warning). IfOk c.finish.result (λ warnings. warnings.items ≡ whole)) same
     c.finish.ensures.warned

@@ -1,10 +1,11 @@
 -- Each stretch leaves the whole, or ends it.
 use Rattle.std.proofs.Common.{◌-◌, arith, length, subst, sym, ◌∙◌, ap, rules}
 use Rattle.cpu_1401.specs.State.{State}
-use Rattle.job_runner.specs.Unattended.{Job, IsPartOf, unattended, with_deck}
+use Rattle.machine_tapes.specs.declared.taped_machine.TapedMachine.{TapedMachine}
+use Rattle.job_runner.specs.Unattended.{Job, IsPartOf, taped_with_deck, unattended}
 use Rattle.job_runner.proofs.JoinLemmas.{at_end, begins, goes_on}
 use Rattle.job_runner.proofs.job.run_job.Goals as goal
-use Rattle.job_runner.proofs.JobLemmas.{HasRoom, room_for, part_beyond, stretch_begins, waiting_begins, taken_out}
+use Rattle.job_runner.proofs.JobLemmas.{HasRoom, room_for, part_beyond, stretch_begins, waiting_begins, taken_out, with_machine}
 use Rattle.job_runner.proofs.JobLemmas.{stretch_goes_on, stretch_stops, nothing_left}
 
 pub loop-steps-init : goal.loop-steps-init
@@ -14,8 +15,9 @@ loop-steps-init g c =
       whole =
           taken_out c.args.limit (c.args.limit - 0) 0 (g.W.Output.lines c.args.output.now)
           (g.W.Output.lines c.take_all.new.output) (g.W.Output.cards c.args.output.now)
-          (g.W.Output.cards c.take_all.new.output) (g.R.Cards.left c.args.cards.now) c.args.machine.now c.take_all.new.machine
-          out.lines out.cards out.state (omega arith);
+          (g.W.Output.cards c.take_all.new.output) (g.R.Cards.left c.args.cards.now) c.args.taped.now
+          (with_machine c.args.taped.now c.take_all.new.machine) out.lines out.cards
+          (ap (with_machine c.args.taped.now) out.state) (omega arith);
       stacker = ap (λ (s : State). s.devices.stacker) out.state;
       paper = ap (λ (s : State). s.devices.paper) out.state;
       steps = omega arith;
@@ -28,21 +30,23 @@ pub loop-steps-preserved : goal.loop-steps-preserved
 loop-steps-preserved g c =
     let before = c.loop-steps.invariant in
     let left = g.R.Cards.left c.fill_hopper.new.cards in
-    let m = c.loop-steps.machine in
-    let filled = c.fill_hopper.new.machine in
+    let m = c.loop-steps.taped in
+    let filled = with_machine m c.fill_hopper.new.machine in
     let fed = c.fill_hopper.ensures in
     let run = c.run-ran.ensures in
+    let after = c.run-ran.new.self in
     let out = c.in_ok-take_all-2.ensures in
     let room : HasRoom c.min.result left filled =
     room_for c.min.result left filled (omega arith) c.in_ok-fill_hopper.ensures.full
     (fed.stacker ∙ before.stacker) (fed.paper ∙ before.paper) in
     record {
-      whole = before.whole ∙ stretch_goes_on c.step_law.ensures c.args.limit c.loop-steps.steps c.min.result c.run-ran.result.steps
+      whole = before.whole ∙ stretch_goes_on c.taped_step_law.ensures c.args.limit c.loop-steps.steps c.min.result c.run-ran.result.steps
           c.run-ran.result.stop (g.W.Output.lines c.loop-steps.output) (g.W.Output.lines c.take_all-in-loop-steps.new.output)
           (g.W.Output.cards c.loop-steps.output) (g.W.Output.cards c.take_all-in-loop-steps.new.output)
-          (g.R.Cards.left c.loop-steps.cards) left m filled c.run-ran.new.self c.take_all-in-loop-steps.new.machine
-          fed.deck room (omega arith) run.run c.in-Limit.is (run.limit c.in-Limit.is)
-          out.lines out.cards out.state;
+          (g.R.Cards.left c.loop-steps.cards) left m filled after
+          (with_machine after c.take_all-in-loop-steps.new.machine)
+          (ap (with_machine m) fed.deck) room (omega arith) run.run c.in-Limit.is (run.limit c.in-Limit.is)
+          out.lines out.cards (ap (with_machine after) out.state);
       stacker = ap (λ (s : State). s.devices.stacker) out.state;
       paper = ap (λ (s : State). s.devices.paper) out.state;
       steps = omega arith;
@@ -55,36 +59,38 @@ pub returns-in_default-clause-job : goal.returns-in_default-clause-job
 returns-in_default-clause-job g c =
     let before = c.loop-steps.invariant in
     let left = g.R.Cards.left c.fill_hopper.new.cards in
-    let m = c.loop-steps.machine in
-    let filled = c.fill_hopper.new.machine in
+    let m = c.loop-steps.taped in
+    let filled = with_machine m c.fill_hopper.new.machine in
     let fed = c.fill_hopper.ensures in
     let run = c.run-ran.ensures in
+    let after = c.run-ran.new.self in
     let out = c.in_ok-take_all-2.ensures in
     let room : HasRoom c.min.result left filled =
     room_for c.min.result left filled (omega arith) c.in_ok-fill_hopper.ensures.full
     (fed.stacker ∙ before.stacker) (fed.paper ∙ before.paper) in
-    before.whole ∙ stretch_stops c.step_law.ensures c.args.limit c.loop-steps.steps c.min.result c.run-ran.result.steps
+    before.whole ∙ stretch_stops c.taped_step_law.ensures c.args.limit c.loop-steps.steps c.min.result c.run-ran.result.steps
     c.run-ran.result.stop (g.W.Output.lines c.loop-steps.output) (g.W.Output.lines c.take_all-in-loop-steps.new.output)
     (g.W.Output.cards c.loop-steps.output) (g.W.Output.cards c.take_all-in-loop-steps.new.output)
-    (g.R.Cards.left c.loop-steps.cards) left m filled c.run-ran.new.self c.take_all-in-loop-steps.new.machine
-    fed.deck room (omega arith) run.run c.in_default.not-Limit
-    out.lines out.cards out.state
+    (g.R.Cards.left c.loop-steps.cards) left m filled after
+    (with_machine after c.take_all-in-loop-steps.new.machine)
+    (ap (with_machine m) fed.deck) room (omega arith) run.run c.in_default.not-Limit
+    out.lines out.cards (ap (with_machine after) out.state)
 
 pub returns-clause-job : goal.returns-clause-job
 returns-clause-job g c =
     let before = c.loop-steps.invariant in
     before.whole
     ∙ nothing_left c.args.limit c.loop-steps.steps (g.W.Output.lines c.loop-steps.output)
-    (g.W.Output.cards c.loop-steps.output) (g.R.Cards.left c.loop-steps.cards) c.loop-steps.machine (omega arith)
+    (g.W.Output.cards c.loop-steps.output) (g.R.Cards.left c.loop-steps.cards) c.loop-steps.taped (omega arith)
     before.stacker before.paper
 
 pub returns-in_err-take_all-clause-part : goal.returns-in_err-take_all-clause-part
 returns-in_err-take_all-clause-part g c =
-    let whole = with_deck (g.R.Cards.left c.args.cards.now) c.args.machine.now in
+    let whole = taped_with_deck (g.R.Cards.left c.args.cards.now) c.args.taped.now in
     let out = c.in_err-take_all.ensures in
     let part =
-    part_beyond (g.W.Output.lines c.args.output.now) (g.W.Output.lines c.take_all.new.output) whole.devices.paper
-    (g.W.Output.cards c.args.output.now) (g.W.Output.cards c.take_all.new.output) whole.devices.stacker 0
+    part_beyond (g.W.Output.lines c.args.output.now) (g.W.Output.lines c.take_all.new.output) whole.machine.devices.paper
+    (g.W.Output.cards c.args.output.now) (g.W.Output.cards c.take_all.new.output) whole.machine.devices.stacker 0
     (unattended c.args.limit whole) out.part_lines out.part_cards (waiting_begins c.args.limit whole) in
     search (rules, part)
 
@@ -92,8 +98,8 @@ pub returns-in_err-take_all-2-clause-part : goal.returns-in_err-take_all-2-claus
 returns-in_err-take_all-2-clause-part g c =
     let before = c.loop-steps.invariant in
     let left = g.R.Cards.left c.fill_hopper.new.cards in
-    let m = c.loop-steps.machine in
-    let filled = c.fill_hopper.new.machine in
+    let m = c.loop-steps.taped in
+    let filled = with_machine m c.fill_hopper.new.machine in
     let fed = c.fill_hopper.ensures in
     let out = c.in_err-take_all-2.ensures in
     let room : HasRoom c.min.result left filled =
@@ -102,30 +108,30 @@ returns-in_err-take_all-2-clause-part g c =
     let part =
     subst (λ (job : Job). IsPartOf (g.W.Output.lines c.take_all-in-loop-steps.new.output)
     (g.W.Output.cards c.take_all-in-loop-steps.new.output) job) (sym before.whole)
-    (stretch_begins c.step_law.ensures c.args.limit c.loop-steps.steps c.min.result c.run-ran.result.steps
+    (stretch_begins c.taped_step_law.ensures c.args.limit c.loop-steps.steps c.min.result c.run-ran.result.steps
     c.run-ran.result.stop (g.W.Output.lines c.loop-steps.output) (g.W.Output.lines c.take_all-in-loop-steps.new.output)
     (g.W.Output.cards c.loop-steps.output) (g.W.Output.cards c.take_all-in-loop-steps.new.output)
-    (g.R.Cards.left c.loop-steps.cards) left m filled c.run-ran.new.self fed.deck room (omega arith)
+    (g.R.Cards.left c.loop-steps.cards) left m filled c.run-ran.new.self (ap (with_machine m) fed.deck) room (omega arith)
     c.run-ran.ensures.run out.part_lines out.part_cards) in
     search (rules, part)
 
 pub returns-in_default-clause-at_end : goal.returns-in_default-clause-at_end
 returns-in_default-clause-at_end g c = λ no_limit more.
-    let s = with_deck (g.R.Cards.left c.args.cards.now) c.args.machine.now in
+    let s = taped_with_deck (g.R.Cards.left c.args.cards.now) c.args.taped.now in
     at_end c.args.limit more s
     (λ is_limit. no_limit (sym (ap (λ (job : Job). job.stop) (returns-in_default-clause-job g c)) ∙ is_limit))
 
 pub returns-in_default-clause-begins : goal.returns-in_default-clause-begins
 returns-in_default-clause-begins g c = λ more.
-    begins c.args.limit more (with_deck (g.R.Cards.left c.args.cards.now) c.args.machine.now)
+    begins c.args.limit more (taped_with_deck (g.R.Cards.left c.args.cards.now) c.args.taped.now)
 
 pub returns-clause-goes_on : goal.returns-clause-goes_on
 returns-clause-goes_on g c = λ _ more.
-    let s = with_deck (g.R.Cards.left c.args.cards.now) c.args.machine.now in
+    let s = taped_with_deck (g.R.Cards.left c.args.cards.now) c.args.taped.now in
     let whole = returns-clause-job g c in
     goes_on c.args.limit more s (ap (λ (job : Job). job.stop) whole)
     (omega (arith, ap (λ (job : Job). job.steps) whole, c.loop-steps.invariant.steps))
 
 pub returns-clause-begins : goal.returns-clause-begins
 returns-clause-begins g c = λ more.
-    begins c.args.limit more (with_deck (g.R.Cards.left c.args.cards.now) c.args.machine.now)
+    begins c.args.limit more (taped_with_deck (g.R.Cards.left c.args.cards.now) c.args.taped.now)

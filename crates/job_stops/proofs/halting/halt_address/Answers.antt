@@ -1,4 +1,4 @@
--- What is told of the halt that was carried out last.
+-- What is reported of the halt that was carried out last.
 use Rattle.std.proofs.Common.{◌≤◌, length, sym, ◌∙◌, ap, subst}
 use Rattle.core_1401.specs.Address.{addresses}
 use Rattle.cpu_1401.specs.State.{State}

@@ -1,72 +1,80 @@
 -- The record of one card more, or of no more.
-use Rattle.std.proofs.Common.{◌≡◌, ℕ, List, ◌++◌, true, length, map, reverse, ◌∙◌, sym, ap, subst, arith}
-use Rattle.std.proofs.lemmas.List.Sums.{sum_by-cons}
+use Rattle.std.proofs.Common.{◌≡◌, ℕ, List, ◌++◌, true, length, map, ◌∙◌, sym, ap, subst, arith}
+use Rattle.std.proofs.lemmas.Bool.{and_from}
+use Rattle.std.proofs.lemmas.Result.{err_from_is_err_and}
+use Rattle.std.specs.List.{list_all}
+use Rattle.bytes_pages.specs.Page.{Sent}
+use Rattle.bytes_pages.proofs.SentLemmas.{sent_none}
 use Rattle.devices_1401.specs.declared.card.Card.{Card}
-use Rattle.machine_reels.specs.Reel.{Reel, characters_in}
+use Rattle.machine_reels.specs.Held.{is_record}
+use Rattle.machine_reels.specs.TapText.{record_text, tap_text}
+use Rattle.machine_reels.proofs.WriteLemmas.{tap_text-first, tap_text-none}
 use Rattle.program_reel.specs.Decks.{are_whole, card_record}
-use Rattle.program_reel.proofs.DeckLemmas.{more_whole, record_length, records_more}
+use Rattle.program_reel.proofs.DeckLemmas.{more_whole}
+use Rattle.program_reel.proofs.PutsLemmas.{step_end, step_failed, step_sent}
 use Rattle.program_reel.proofs.reels.put_deck.Goals as goal
 
 pub loop-card-init : goal.loop-card-init
-loop-card-init c =
-    let blank = c.requires.blank in
+loop-card-init g c =
+    let old = g.W.Sink.received c.args.writer.now in
+    let page : List ℕ = c.args.page.now.items in
+    let text : List Card → List ℕ = λ cards. tap_text (map (card_record c.args.parity) cards) in
+    let is = c.new-deck.ensures in
     record {
-      records = ap (λ (reel : Reel). reverse reel.passed ++ map (card_record c.args.parity) c.new-deck.result) blank
-          ∙ ap (λ (deck : List Card). map (card_record c.args.parity) deck) c.new-deck.ensures;
-      ahead = ap (λ (reel : Reel). reel.ahead) blank;
-      room = omega (
-        arith,
-        c.requires.room,
-        ap (λ (reel : Reel). characters_in reel.passed) blank,
-        ap (λ (deck : List Card). length deck) c.new-deck.ensures,
-      );
-      whole = λ whole. subst (λ (deck : List Card). are_whole deck ≡ true) c.new-deck.ensures whole;
+      sent = subst (λ (cards : List Card). Sent old old (page ++ text c.args.cards.now) (page ++ text cards)) (sym is)
+          (sent_none old (page ++ text c.args.cards.now));
+      good = λ good. subst
+          (λ (cards : List Card). list_all is_record (map (card_record c.args.parity) cards) ≡ true) is good;
+      whole = λ whole. subst (λ (cards : List Card). are_whole cards ≡ true) is whole;
+      capacity = omega arith;
     }
 
-pub put_card-requires : goal.put_card-requires
-put_card-requires c =
-    omega (arith, c.loop-card.invariant.room, ap (λ (deck : List Card). length deck) c.in-Some.ensures.card)
+pub returns-in_err-put_card-clause-puts : goal.returns-in_err-put_card-clause-puts
+returns-in_err-put_card-clause-puts g c =
+    let why = err_from_is_err_and c.from_residual.result c.from_residual.ensures.1 in
+    let at = c.loop-card in
+    let text : List Card → List ℕ = λ cards. tap_text (map (card_record c.args.parity) cards) in
+    let chars = card_record c.args.parity c.in-Some.card in
+    let beyond : List Card = c.next_card.new.deck in
+    step_failed _ _ _ _ (c.args.page.now.items ++ text c.args.cards.now) at.page.items (record_text chars)
+    (text at.deck) (text beyond) _ _ why.0 why.1 at.invariant.sent
+    (ap text c.in-Some.ensures.card ∙ tap_text-first chars (map (card_record c.args.parity) beyond))
+    c.in_err-put_card.ensures.puts
 
 pub loop-card-preserved : goal.loop-card-preserved
-loop-card-preserved c =
+loop-card-preserved g c =
     let at = c.loop-card in
     let s = at.invariant in
+    let text : List Card → List ℕ = λ cards. tap_text (map (card_record c.args.parity) cards) in
     let card = c.in-Some.card in
-    let deck = c.next_card.new.deck in
+    let chars = card_record c.args.parity card in
+    let beyond : List Card = c.next_card.new.deck in
     let is = c.in-Some.ensures.card in
-    let after = c.put_card.ensures in
-    let long = record_length c.args.parity card c.in-Some.ensures.whole in
     record {
-      records = ap (λ (reel : Reel). reverse reel.passed ++ map (card_record c.args.parity) deck) after
-          ∙ records_more c.args.parity at.reel.passed card deck
-          ∙ ap (λ (cards : List Card). reverse at.reel.passed ++ map (card_record c.args.parity) cards) (sym is)
-          ∙ s.records;
-      ahead = ap (λ (reel : Reel). reel.ahead) after;
-      room = omega (
-        arith,
-        s.room,
-        ap (λ (cards : List Card). length cards) is,
-        long,
-        ap (λ (reel : Reel). characters_in reel.passed) after,
-        sum_by-cons (λ (each : List ℕ). length each) (card_record c.args.parity card) at.reel.passed,
-        ap (λ (reel : Reel). reel.capacity) after,
-      );
+      sent = step_sent _ _ _ (c.args.page.now.items ++ text c.args.cards.now) at.page.items (record_text chars)
+          (text at.deck) (text beyond) c.put_card.new.page.items s.sent
+          (ap text is ∙ tap_text-first chars (map (card_record c.args.parity) beyond)) c.in_ok-put_card.ensures.puts;
+      good = λ good. s.good (subst
+          (λ (cards : List Card). list_all is_record (map (card_record c.args.parity) cards) ≡ true) (sym is)
+          (and_from (is_record chars) (list_all is_record (map (card_record c.args.parity) beyond))
+          c.in_ok-put_card.ensures.good good));
       whole = λ whole. s.whole (subst (λ (cards : List Card). are_whole cards ≡ true) (sym is)
-          (more_whole card deck c.in-Some.ensures.whole whole));
+          (more_whole card beyond c.in-Some.ensures.whole whole));
+      capacity = omega (arith, s.capacity, c.in_ok-put_card.ensures.capacity);
     }
 
-pub returns-clause-records : goal.returns-clause-records
-returns-clause-records c =
+pub returns-clause-puts : goal.returns-clause-puts
+returns-clause-puts g c =
     let at = c.loop-card in
-    let s = at.invariant in
-    ap (λ (ahead : List (List ℕ)). reverse at.reel.passed ++ ahead) s.ahead
-    ∙ sym (ap (λ (cards : List Card). reverse at.reel.passed ++ map (card_record c.args.parity) cards)
-    c.in_default.ensures.card)
-    ∙ s.records
+    let text : List Card → List ℕ = λ cards. tap_text (map (card_record c.args.parity) cards) in
+    step_end _ _ (c.args.page.now.items ++ text c.args.cards.now) at.page.items (text at.deck) at.invariant.sent
+    (ap text c.in_default.ensures.card ∙ tap_text-none)
 
-pub returns-clause-room : goal.returns-clause-room
-returns-clause-room c = omega (arith, c.loop-card.invariant.room)
+pub returns-clause-good : goal.returns-clause-good
+returns-clause-good g c =
+    c.loop-card.invariant.good
+    (ap (λ (cards : List Card). list_all is_record (map (card_record c.args.parity) cards)) c.in_default.ensures.card)
 
 pub returns-clause-whole : goal.returns-clause-whole
-returns-clause-whole c =
+returns-clause-whole g c =
     c.loop-card.invariant.whole (ap (λ (cards : List Card). are_whole cards) c.in_default.ensures.card)

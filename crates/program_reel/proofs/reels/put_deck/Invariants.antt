@@ -1,17 +1,22 @@
--- The records so far, and those of the cards left, are those of the deck, and there is room for them.
-use Rattle.std.proofs.Common.{◌≡◌, ◌≤◌, ◌+◌, ◌*◌, ◌++◌, true, [], length, map, reverse}
-use Rattle.devices_1401.specs.Card.{card_columns}
-use Rattle.machine_reels.specs.Reel.{characters_in}
+-- What was written, what isn't yet, and the records of the cards left, make the whole.
+use Rattle.std.proofs.Common.{◌≡◌, ◌≤◌, ◌++◌, true, length, map, vec_capacity}
+use Rattle.std.specs.List.{list_all}
+use Rattle.bytes_pages.specs.Page.{Sent}
+use Rattle.machine_reels.specs.Held.{is_record}
+use Rattle.machine_reels.specs.TapText.{tap_text}
 use Rattle.program_reel.specs.Decks.{are_whole, card_record}
 use Rattle.program_reel.proofs.reels.put_deck.Given as goal
 
 abbrev pub invariant-loop-card : goal.invariant-loop-card
-invariant-loop-card l = record {
-  records : reverse l.reel.passed ++ map (card_record l.parity) l.deck ≡ map (card_record l.parity) l.cards;
-  ahead : l.reel.ahead ≡ [];
-  room : characters_in l.reel.passed + card_columns * length l.deck + 1 ≤ l.reel.capacity;
+invariant-loop-card g l = record {
+  sent : Sent (g.W.Sink.received l.initial.writer) (g.W.Sink.received l.writer)
+      (l.initial.page.items ++ tap_text (map (card_record l.parity) l.cards))
+      (l.page.items ++ tap_text (map (card_record l.parity) l.deck));
+  good : list_all is_record (map (card_record l.parity) l.deck) ≡ true
+      → list_all is_record (map (card_record l.parity) l.cards) ≡ true;
   whole : are_whole l.deck ≡ true → are_whole l.cards ≡ true;
+  capacity : vec_capacity l.initial.page ≤ vec_capacity l.page;
 }
 
 abbrev pub decreases-loop-card : goal.decreases-loop-card
-decreases-loop-card l = length l.deck
+decreases-loop-card g l = length l.deck

@@ -1,44 +1,135 @@
--- A trace that breaks off is a beginning of the trace of the job that was started.
-use Rattle.std.proofs.Common.{◌≡◌, drop, length, not, subst, ap, ◌∙◌}
-use Rattle.std.specs.Prelude.{OnErr, ◌==◌, is_some, option_and_then}
+-- The job and its trace are those that go on after the key, or were stopped by it.
+use Rattle.std.proofs.Common.{◌≡◌, ℕ, List, [], length, OnErr, OnOk, sym, subst, ap, ◌∙◌}
+use Rattle.std.specs.Prelude.{is_some, option_and_then}
+use Rattle.std.specs.Io.KnownBytes.{Appends}
 use Rattle.bytes_streams.specs.Sink.{AppendsPart}
-use Rattle.cpu_1401.specs.CardsAndPrinter.{load}
-use Rattle.cpu_1401.specs.State.{State}
-use Rattle.job_runner.specs.Unattended.{with_deck}
+use Rattle.devices_1401.specs.declared.card.Card.{Card}
+use Rattle.job_runner.specs.Unattended.{Job, ended, taped_with_deck, unattended}
+use Rattle.program_run.specs.RunDeck.{HasWritten, HasWrittenPart, first_place, received, started_job}
 use Rattle.program_run.specs.RunTrace.{traced}
-use Rattle.program_run.proofs.TraceLemmas.{loaded_trace, no_card_trace}
+use Rattle.program_run.proofs.StartLemmas.{left_at_end, reported, started_as, stopped_as, traced_as, untraced_as}
 use Rattle.program_run.proofs.deck_running.run_started.Goals as goal
 
-pub returns-then-loaded-clause-traced_part : goal.returns-then-loaded-clause-traced_part
-returns-then-loaded-clause-traced_part g c =
-    let m = c.args.machine.now in
-    let s = with_deck c.args.cards.now m in
-    let same : with_deck c.new-deck.result m ≡ s =
-    ap (λ deck. with_deck deck m) c.new-deck.ensures in
-    let after =
-    with_deck c.press_load_key.new.cards c.press_load_key.new.machine in
-    let card : c.in-Ok.loaded ≡ not (length s.devices.hopper == 0) =
-    c.in-Ok.ensures.card ∙ ap (λ (x : State). not (length x.devices.hopper == 0)) same in
-    let loaded : after ≡ load s = c.in-Ok.ensures.loaded ∙ ap (λ (x : State). load x) same in
-    let first = option_and_then g.F.Sink.received c.args.trace.now.file in
-    let new = option_and_then g.F.Sink.received c.run_deck-then-loaded.new.trace.file in
-    subst
-    (λ text. OnErr c.run_deck-then-loaded.result
-    (AppendsPart first new (traced (is_some c.args.trace.now.file) text)))
-    (loaded_trace c.args.start c.args.limit c.in-Ok.loaded s after c.in-LoadKey.is card c.if-loaded.true loaded)
-    c.run_deck-then-loaded.ensures.traced_part
+pub returns-in-None-clause-report : goal.returns-in-None-clause-report
+returns-in-None-clause-report g c =
+    let t = c.args.taped.now in
+    let after = taped_with_deck c.press_start.new.deck c.press_start.new.taped in
+    let job =
+    started_as c.args.start c.args.limit c.args.cards.now c.new-deck.result t after c.new-deck.ensures c.in-None.ensures in
+    let held =
+    c.cards_held-held.ensures ∙ ap (λ (deck : List Card). length (taped_with_deck deck t).machine.devices.hopper) c.new-deck.ensures in
+    reported c.run_deck.result c.cards_held-held.result (length (taped_with_deck c.args.cards.now t).machine.devices.hopper)
+    (unattended c.args.limit after) (started_job c.args.start c.args.limit (taped_with_deck c.args.cards.now t)) held job
+    c.run_deck.ensures.report
 
-pub returns-else-loaded-clause-traced_part : goal.returns-else-loaded-clause-traced_part
-returns-else-loaded-clause-traced_part g c =
-    let m = c.args.machine.now in
-    let s = with_deck c.args.cards.now m in
-    let same : with_deck c.new-deck.result m ≡ s =
-    ap (λ deck. with_deck deck m) c.new-deck.ensures in
-    let card : c.in-Ok.loaded ≡ not (length s.devices.hopper == 0) =
-    c.in-Ok.ensures.card ∙ ap (λ (x : State). not (length x.devices.hopper == 0)) same in
-    let first = option_and_then g.F.Sink.received c.args.trace.now.file in
-    let new = option_and_then g.F.Sink.received c.run_no_card.new.trace.file in
-    subst
-    (λ text. OnErr c.run_no_card.result (AppendsPart first new (traced (is_some c.args.trace.now.file) text)))
-    (no_card_trace c.args.start c.args.limit c.in-Ok.loaded s c.in-LoadKey.is card c.if-loaded.false)
-    c.run_no_card.ensures.traced_part
+pub returns-in-None-clause-end : goal.returns-in-None-clause-end
+returns-in-None-clause-end g c =
+    let t = c.args.taped.now in
+    let after = taped_with_deck c.press_start.new.deck c.press_start.new.taped in
+    let job =
+    started_as c.args.start c.args.limit c.args.cards.now c.new-deck.result t after c.new-deck.ensures c.in-None.ensures in
+    left_at_end c.run_deck.result (unattended c.args.limit after)
+    (started_job c.args.start c.args.limit (taped_with_deck c.args.cards.now t)) c.run_deck.new.deck c.run_deck.new.taped
+    job c.run_deck.ensures.end
+
+pub returns-in-None-clause-written : goal.returns-in-None-clause-written
+returns-in-None-clause-written g c =
+    let t = c.args.taped.now in
+    let after = taped_with_deck c.press_start.new.deck c.press_start.new.taped in
+    let job =
+    started_as c.args.start c.args.limit c.args.cards.now c.new-deck.result t after c.new-deck.ensures c.in-None.ensures in
+    subst (λ (each : Job). OnOk c.run_deck.result (HasWritten first_place each.lines each.cards
+    (received (g.W.Sink.received c.args.outputs.now.paper) (g.P.Sink.received c.args.outputs.now.punch))
+    (received (g.W.Sink.received c.run_deck.new.outputs.paper) (g.P.Sink.received c.run_deck.new.outputs.punch)))) (sym job) c.run_deck.ensures.written
+
+pub returns-in-None-clause-part : goal.returns-in-None-clause-part
+returns-in-None-clause-part g c =
+    let t = c.args.taped.now in
+    let after = taped_with_deck c.press_start.new.deck c.press_start.new.taped in
+    let job =
+    started_as c.args.start c.args.limit c.args.cards.now c.new-deck.result t after c.new-deck.ensures c.in-None.ensures in
+    subst (λ (each : Job). OnErr c.run_deck.result (HasWrittenPart first_place each.lines each.cards
+    (received (g.W.Sink.received c.args.outputs.now.paper) (g.P.Sink.received c.args.outputs.now.punch))
+    (received (g.W.Sink.received c.run_deck.new.outputs.paper) (g.P.Sink.received c.run_deck.new.outputs.punch)))) (sym job) c.run_deck.ensures.part
+
+pub returns-in-None-clause-traced : goal.returns-in-None-clause-traced
+returns-in-None-clause-traced g c =
+    let t = c.args.taped.now in
+    let after = taped_with_deck c.press_start.new.deck c.press_start.new.taped in
+    let text =
+    traced_as c.args.start c.args.limit c.args.cards.now c.new-deck.result t after c.new-deck.ensures c.in-None.ensures in
+    subst (λ (each : List ℕ). OnOk c.run_deck.result (Appends (option_and_then g.F.Sink.received c.args.outputs.now.trace.file)
+    (option_and_then g.F.Sink.received c.run_deck.new.outputs.trace.file) (traced (is_some c.args.outputs.now.trace.file) each))) (sym text)
+    c.run_deck.ensures.traced
+
+pub returns-in-None-clause-traced_part : goal.returns-in-None-clause-traced_part
+returns-in-None-clause-traced_part g c =
+    let t = c.args.taped.now in
+    let after = taped_with_deck c.press_start.new.deck c.press_start.new.taped in
+    let text =
+    traced_as c.args.start c.args.limit c.args.cards.now c.new-deck.result t after c.new-deck.ensures c.in-None.ensures in
+    subst (λ (each : List ℕ). OnErr c.run_deck.result (AppendsPart (option_and_then g.F.Sink.received c.args.outputs.now.trace.file)
+    (option_and_then g.F.Sink.received c.run_deck.new.outputs.trace.file) (traced (is_some c.args.outputs.now.trace.file) each))) (sym text)
+    c.run_deck.ensures.traced_part
+
+pub returns-in-Some-clause-report : goal.returns-in-Some-clause-report
+returns-in-Some-clause-report g c =
+    let t = c.args.taped.now in
+    let after = taped_with_deck c.press_start.new.deck c.press_start.new.taped in
+    let job =
+    stopped_as c.args.start c.in-Some.why c.args.limit c.args.cards.now c.new-deck.result t after c.new-deck.ensures c.in-Some.ensures in
+    let held =
+    c.cards_held-held.ensures ∙ ap (λ (deck : List Card). length (taped_with_deck deck t).machine.devices.hopper) c.new-deck.ensures in
+    reported c.run_nothing.result c.cards_held-held.result (length (taped_with_deck c.args.cards.now t).machine.devices.hopper)
+    (ended 0 c.in-Some.why after) (started_job c.args.start c.args.limit (taped_with_deck c.args.cards.now t)) held job
+    c.run_nothing.ensures.report
+
+pub returns-in-Some-clause-end : goal.returns-in-Some-clause-end
+returns-in-Some-clause-end g c =
+    let t = c.args.taped.now in
+    let after = taped_with_deck c.press_start.new.deck c.press_start.new.taped in
+    let job =
+    stopped_as c.args.start c.in-Some.why c.args.limit c.args.cards.now c.new-deck.result t after c.new-deck.ensures c.in-Some.ensures in
+    left_at_end c.run_nothing.result (ended 0 c.in-Some.why after)
+    (started_job c.args.start c.args.limit (taped_with_deck c.args.cards.now t)) c.run_nothing.new.deck c.run_nothing.new.taped
+    job c.run_nothing.ensures.end
+
+pub returns-in-Some-clause-written : goal.returns-in-Some-clause-written
+returns-in-Some-clause-written g c =
+    let t = c.args.taped.now in
+    let after = taped_with_deck c.press_start.new.deck c.press_start.new.taped in
+    let job =
+    stopped_as c.args.start c.in-Some.why c.args.limit c.args.cards.now c.new-deck.result t after c.new-deck.ensures c.in-Some.ensures in
+    subst (λ (each : Job). OnOk c.run_nothing.result (HasWritten first_place each.lines each.cards
+    (received (g.W.Sink.received c.args.outputs.now.paper) (g.P.Sink.received c.args.outputs.now.punch))
+    (received (g.W.Sink.received c.run_nothing.new.outputs.paper) (g.P.Sink.received c.run_nothing.new.outputs.punch)))) (sym job) c.run_nothing.ensures.written
+
+pub returns-in-Some-clause-part : goal.returns-in-Some-clause-part
+returns-in-Some-clause-part g c =
+    let t = c.args.taped.now in
+    let after = taped_with_deck c.press_start.new.deck c.press_start.new.taped in
+    let job =
+    stopped_as c.args.start c.in-Some.why c.args.limit c.args.cards.now c.new-deck.result t after c.new-deck.ensures c.in-Some.ensures in
+    subst (λ (each : Job). OnErr c.run_nothing.result (HasWrittenPart first_place each.lines each.cards
+    (received (g.W.Sink.received c.args.outputs.now.paper) (g.P.Sink.received c.args.outputs.now.punch))
+    (received (g.W.Sink.received c.run_nothing.new.outputs.paper) (g.P.Sink.received c.run_nothing.new.outputs.punch)))) (sym job) c.run_nothing.ensures.part
+
+pub returns-in-Some-clause-traced : goal.returns-in-Some-clause-traced
+returns-in-Some-clause-traced g c =
+    let t = c.args.taped.now in
+    let after = taped_with_deck c.press_start.new.deck c.press_start.new.taped in
+    let text =
+    untraced_as c.args.start c.in-Some.why c.args.limit c.args.cards.now c.new-deck.result t after c.new-deck.ensures c.in-Some.ensures in
+    subst (λ (each : List ℕ). OnOk c.run_nothing.result (Appends (option_and_then g.F.Sink.received c.args.outputs.now.trace.file)
+    (option_and_then g.F.Sink.received c.run_nothing.new.outputs.trace.file) (traced (is_some c.args.outputs.now.trace.file) each))) (sym text)
+    c.run_nothing.ensures.traced
+
+pub returns-in-Some-clause-traced_part : goal.returns-in-Some-clause-traced_part
+returns-in-Some-clause-traced_part g c =
+    let t = c.args.taped.now in
+    let after = taped_with_deck c.press_start.new.deck c.press_start.new.taped in
+    let text =
+    untraced_as c.args.start c.in-Some.why c.args.limit c.args.cards.now c.new-deck.result t after c.new-deck.ensures c.in-Some.ensures in
+    subst (λ (each : List ℕ). OnErr c.run_nothing.result (AppendsPart (option_and_then g.F.Sink.received c.args.outputs.now.trace.file)
+    (option_and_then g.F.Sink.received c.run_nothing.new.outputs.trace.file) (traced (is_some c.args.outputs.now.trace.file) each))) (sym text)
+    c.run_nothing.ensures.traced_part

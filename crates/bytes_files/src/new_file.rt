@@ -1,0 +1,85 @@
+//! A new file that is written whole or not at all, and takes no other file's place.
+
+use crate::fault::NewFault;
+use crate::names::is_there;
+use crate::writing::{PartFile, begin_part, sync_folder};
+use bytes_streams::{ToWriter, put_all};
+use std::fs::File;
+use std::io::ErrorKind;
+use std::rt::Files;
+use std::{fs, io};
+
+/// Why a new file isn't made, by what the system says.
+fn new_fault(kind: ErrorKind) -> NewFault {
+    match kind {
+        ErrorKind::AlreadyExists => NewFault::Exists,
+        ErrorKind::OutOfMemory => NewFault::Memory,
+        _ => NewFault::Unwritten,
+    }
+}
+
+/// Gives a file this name, in the place of an empty file that is made first: a file system may have no links.
+fn take_new_name<R: Files>(rt: &R, beside: &str, name: &str) -> io::Result<()> {
+    File::create_new(rt, name)?;
+    let renamed = fs::rename(rt, beside, name);
+    if renamed.is_err() {
+        let _ = fs::remove_file(rt, name);
+    }
+    renamed
+}
+
+/// Forces a new file onto the disk, and gives it its name, if nothing has that.
+fn name_part<R: Files>(rt: &R, part: &PartFile<R::File>) -> io::Result<()> {
+    part.file.sync_all()?;
+    match fs::hard_link(rt, part.beside.as_str(), part.name.as_str()) {
+        Ok(()) => Ok(()),
+        Err(error) if error.kind() == ErrorKind::AlreadyExists => Err(error),
+        Err(_) => take_new_name(rt, part.beside.as_str(), part.name.as_str()),
+    }
+}
+
+/// Ends a new file, which gets its name if it is whole. Its own name is taken away.
+fn end_new<R: Files>(rt: &R, part: PartFile<R::File>, is_whole: bool) -> Result<(), NewFault> {
+    let named = if is_whole {
+        name_part(rt, &part)
+    } else {
+        Err(io::Error::from(ErrorKind::WriteZero))
+    };
+    let _ = fs::remove_file(rt, part.beside.as_str());
+    match named {
+        Ok(()) => {
+            sync_folder(rt, part.name.as_str());
+            Ok(())
+        }
+        Err(error) => Err(new_fault(error.kind())),
+    }
+}
+
+/// Writes a text to a new file, whole or not at all. It is written to a file next to it, up to the limit of the size of
+/// files, and forced onto the disk; then it gets this name, unless something has that by now.
+///
+/// # Errors
+///
+/// `Exists` if something has this name; `Unwritten` if the file can't be made, or isn't written whole; `Memory` if there
+/// is no room for a name.
+pub fn put_new<R: Files + AllocGlobal>(rt: &R, name: &str, text: &[u8]) -> Result<(), NewFault> {
+    if is_there(rt, name) {
+        return Err(NewFault::Exists);
+    }
+    let Ok(owned) = String::from_str(rt.alloc(), name) else {
+        return Err(NewFault::Memory);
+    };
+    let PartFile { file, beside, name } = match begin_part(rt, owned, None) {
+        Ok(part) => part,
+        Err(error) if error.kind() == ErrorKind::OutOfMemory => return Err(NewFault::Memory),
+        Err(_) => return Err(NewFault::Unwritten),
+    };
+    let mut writer = ToWriter::new(file);
+    let written = put_all(&mut writer, text);
+    let part = PartFile {
+        file: writer.into_inner(),
+        beside,
+        name,
+    };
+    end_new(rt, part, written.is_ok())
+}

@@ -1,0 +1,10 @@
+pub mod Drive
+pub mod Instruction
+pub mod TapeLoading
+pub mod TapeText
+pub mod TapedFrame
+pub mod TapedRun
+pub mod TapedStep
+pub mod Tapes
+pub mod TapesLaw
+pub mod Transfer

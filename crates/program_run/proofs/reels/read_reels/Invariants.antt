@@ -1,0 +1,15 @@
+-- What is mounted so far, with what is left, is all.
+use Rattle.std.proofs.Common.{length}
+use Rattle.machine_tapes.specs.Tapes.{Tapes, no_tapes}
+use Rattle.program_run.specs.RunReels.{AreMounted, IsUnmounted}
+use Rattle.program_run.specs.declared.fault.RunFault.{RunFault}
+use Rattle.program_run.proofs.reels.read_reels.Given as goal
+
+abbrev pub invariant-loop-rest : goal.invariant-loop-rest
+invariant-loop-rest g l = record {
+  mounted : (tapes : Tapes) → AreMounted l.rest l.tapes tapes → AreMounted l.reels no_tapes tapes;
+  faults : (why : RunFault) → IsUnmounted l.rest why → IsUnmounted l.reels why;
+}
+
+abbrev pub decreases-loop-rest : goal.decreases-loop-rest
+decreases-loop-rest g l = length l.rest
