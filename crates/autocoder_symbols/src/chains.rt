@@ -195,14 +195,20 @@ fn link_named(
 }
 
 impl Chains {
-    /// None.
-    pub(crate) fn new(alloc: Global, hashing: SourceHashing) -> Chains
-        ensures { chains_view result ≡ no_chains }
+    /// None, with room for this many links. A source has few of them or very many, and links that grow leave pieces of
+    /// memory behind that nothing else fits.
+    pub(crate) fn with_capacity(
+        alloc: Global,
+        hashing: SourceHashing,
+        capacity: usize,
+    ) -> Result<Chains, AsmFault>
+        ensures ok { IfOk result (λ chains. chains_view chains ≡ no_chains) }
+        ensures err { IfErr result IsMemory }
     {
-        Chains {
+        Ok(Chains {
             labels: IndexSet::with_hasher(alloc, hashing),
-            links: Vec::new(alloc),
-        }
+            links: Vec::with_capacity(alloc, capacity)?,
+        })
     }
 
     /// Adds a link, unless its label is that of one.
@@ -318,10 +324,10 @@ pub(crate) fn chains_in(
         (λ chains. AreFollowed (unfollowed language (get same_label sites.now) lines.now) (chains_view chains)) }
     ensures err { IfErr result IsMemory }
 {
-    let mut chains = Chains::new(alloc, hashing);
     match language {
-        Language::Plain => Ok(chains),
+        Language::Plain => Chains::with_capacity(alloc, hashing, 0),
         Language::Ibm => {
+            let mut chains = Chains::with_capacity(alloc, hashing, sites.len())?;
             chains.add_lines(sites, lines)?;
             let followed = chains.followed(alloc)?;
             Ok(followed)

@@ -14,7 +14,7 @@ returns-in_ok-followed-in-Ibm-clause-ok c =
     ∙ ap followed
     (c.in_ok-add_lines-in-Ibm.ensures.ok
     ∙ ap (λ (chains : Chains). links_from (get same_label c.args.sites.now) 1 chains (up_to_end c.args.lines.now))
-    c.new-chains.ensures)
+    c.in_ok-chains-in-Ibm.ensures.ok)
     ∙ sym (ap (λ (language : Language). chains_in language (get same_label c.args.sites.now) c.args.lines.now) c.in-Ibm.is)
 
 -- There are fewer links than lines may be, so the doublings reach the end of each.
