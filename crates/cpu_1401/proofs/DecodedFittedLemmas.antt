@@ -1,5 +1,5 @@
 -- What the cells of an instruction that a feature claims say, wherever they are, and what a step then is.
-use Rattle.std.proofs.Common.{◌≡◌, ℕ, ◌+◌, ◌-◌, ◌%◌, ◌<◌, ◌≤◌, Bool, length, List, None, Some}
+use Rattle.std.proofs.Common.{◌≡◌, ℕ, ◌+◌, ◌-◌, ◌%◌, ◌<◌, ◌≤◌, Bool, length, List, None, Some, true}
 use Rattle.std.proofs.Common.{arith, refl, sym, ◌∙◌, ap, subst, get_or, replicate, set, inl, inr, if◌then◌else◌}
 use Rattle.std.proofs.lemmas.Bool.{and_from, cases_lt, le-leb, lt-leb, lt-ltb}
 use Rattle.std.proofs.lemmas.List.Elements.{All-get_or, All-replicate, All-set}
@@ -24,7 +24,7 @@ use Rattle.cpu_1401.specs.Stepped.{Stepped, stopped}
 use Rattle.cpu_1401.specs.declared.decoded_fitted.DecodedFitted.{DecodedFitted}
 use Rattle.cpu_1401.specs.declared.fitted_entry.FittedEntry.{FittedEntry}
 use Rattle.cpu_1401.specs.declared.instruction.Instruction.{Instruction}
-use Rattle.cpu_1401.proofs.DecodedLemmas.{Alike, effective_is, same_address, same_at, same_cells, same_next}
+use Rattle.cpu_1401.proofs.DecodedLemmas.{Alike, effective_is, plain, same_address, same_at, same_cells, same_next}
 use Rattle.cpu_1401.proofs.FittingLemmas.{claimed_step, refused_keeps_nothing, unclaimed_step}
 
 -- how many cells it has is said by eight of them
@@ -99,6 +99,15 @@ pub says_fitted_step : (s : State) (this : DecodedFitted) → SaysFitted s.stora
     → fitted_step s ≡ perform_fitted this.fitted (fitted_instruction s) s
 says_fitted_step s this says = claimed_step s this.fitted (claimed_at s this says)
 
+-- so it is with the instruction that was made for it
+pub made_fitted_step : (s : State) (this : DecodedFitted) (fitted : Fitted) (made : Instruction)
+    → SaysFitted s.storage s.i s.features this → this.fitted ≡ fitted → made ≡ fitted_instruction s
+    → perform_fitted fitted made s ≡ fitted_step s
+made_fitted_step s this fitted made says is is_own =
+    ap (λ (own : Instruction). perform_fitted fitted own s) is_own
+    ∙ ap (λ (does : Fitted). perform_fitted does (fitted_instruction s) s) (sym is)
+    ∙ sym (says_fitted_step s this says)
+
 -- a branch that is left as it is, is refused as without features, and so is what none claims
 pub left_refused : (s : State) (this : DecodedFitted) (why : Stop) → SaysFitted s.storage s.i s.features this
     → this.fitted ≡ OnCell → step s ≡ stopped why s → fitted_step s ≡ stopped why s
@@ -124,6 +133,17 @@ fitted_b s this says h =
           (effective_is s.storage (s.i + 1) this.b (says.only h less))
       | inr two ↦ rw (says.len, le-leb 7 this.len two) (effective_is s.storage (s.i + 4) this.b (says.b two))
     ]
+
+-- those that are ready are as they are spelled
+pub ready_first : (s : State) (this : DecodedFitted) → SaysFitted s.storage s.i s.features this → this.is_ready ≡ true
+    → this.a.value ≡ (fitted_instruction s).a
+ready_first s this says ready =
+    plain s.storage this.a.value this.a.register (this.ready_a ready) ∙ fitted_a s this says (this.ready_len ready)
+
+pub ready_second : (s : State) (this : DecodedFitted) → SaysFitted s.storage s.i s.features this → this.is_ready ≡ true
+    → this.b.value ≡ (fitted_instruction s).b
+ready_second s this says ready =
+    plain s.storage this.b.value this.b.register (this.ready_b ready) ∙ fitted_b s this says (this.ready_len ready)
 
 -- without one it takes the registers as they stand
 pub fitted_registers : (s : State) (this : DecodedFitted) → SaysFitted s.storage s.i s.features this → this.len < 4

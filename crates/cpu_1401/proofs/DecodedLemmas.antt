@@ -203,7 +203,7 @@ no_own_b s this none =
     ]
 
 -- an address without an index register
-plain : (storage : Storage) (value register : ℕ) → register ≡ 0 → value ≡ indexed_by storage value register
+pub plain : (storage : Storage) (value register : ℕ) → register ≡ 0 → value ≡ indexed_by storage value register
 plain storage value register none = ap (λ (n : ℕ). indexed_by storage value n) (sym none)
 
 -- its own addresses serve

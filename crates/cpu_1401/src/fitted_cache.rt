@@ -1,6 +1,6 @@
 //! What a machine is fitted with, and a cache of the instructions that features claim: one that is carried out again
 //! isn't decoded again.
-ghost use Rattle.std.specs.Prelude.{◌≡◌, ◌≢◌, ◌+◌, ◌%◌, ◌<◌, IfOk, IfSome, length, nat_le};
+ghost use Rattle.std.specs.Prelude.{◌≡◌, ◌≢◌, ◌+◌, ◌%◌, ◌<◌, ◌≤◌, IfOk, IfSome, length, nat_lt, true};
 ghost use Rattle.core_1401.specs.Address.{addresses};
 ghost use Rattle.cpu_1401.specs.DecodedFitted.{SaysFitted, fitted_entry_count};
 ghost use Rattle.machine_operations.specs.declared.fitted.Fitted.{Fitted};
@@ -13,7 +13,7 @@ use machine_panel::Features;
 use std::alloc::{AllocError, Global};
 use std::marker::Model;
 
-/// How many instructions are cached at most: 6 KB of them.
+/// How many instructions are cached at most: 8 KB of them.
 const ENTRIES: u16 = 256;
 
 /// The features of a machine, and the instructions that they claim, those decoded last, each with its eight cells, in
@@ -87,8 +87,9 @@ impl FittedCache {
         requires { at < addresses }
         ensures says { IfSome result (λ said. SaysFitted core.now at self.now said.now) }
         ensures own { IfSome result (λ said. said.now.fitted ≢ Fitted.OnCell) }
+        ensures inside { IfSome result (λ said. at + said.now.len < addresses) }
     {
-        if !has_eight(core, at) {
+        if !has_nine(core, at) {
             return None;
         }
         let entry = &self.entries[entry_of(at)];
@@ -99,14 +100,14 @@ impl FittedCache {
         Some(&entry.decoded)
     }
 
-    /// Keeps the instruction at a place, but not at the last seven places.
+    /// Keeps the instruction at a place, but not at the last eight places.
     pub(crate) fn keep(&mut self, core: &Core, at: u16, decoded: &DecodedFitted)
         requires place { at < addresses }
         requires says { SaysFitted core.now at self.old decoded.now }
         requires own { decoded.now.fitted ≢ Fitted.OnCell }
         ensures { self.new ≡ self.old }
     {
-        if !has_eight(core, at) {
+        if !has_nine(core, at) {
             return;
         }
         let cells = core.eight_cells(at);
@@ -118,13 +119,15 @@ impl FittedCache {
     }
 }
 
-/// Whether the eight places from one up are in core.
+/// Whether the eight places from one up are in core, and one more, so that the next instruction begins at a place too.
 #[inline(always)]
-fn has_eight(core: &Core, at: u16) -> bool
+fn has_nine(core: &Core, at: u16) -> bool
     requires { at < addresses }
-    ensures { result ≡ nat_le (at + 8) (length core.now) }
+    ensures value { result ≡ nat_lt (at + 8) (length core.now) }
+    ensures inside { result ≡ true → at + 8 ≤ length core.now }
+    ensures beyond { result ≡ true → at + 8 < addresses }
 {
-    at + 8 <= core.size()
+    at + 8 < core.size()
 }
 
 /// The entry of a place.

@@ -34,6 +34,7 @@ impl FittedEntry {
                 d: Char::BLANK,
                 a: none,
                 b: none,
+                is_ready: false,
             },
         }
     }

@@ -1,5 +1,5 @@
 //! What features make of an instruction that the machine wouldn't carry out without them.
-ghost use Rattle.std.specs.Prelude.{◌≡◌, ◌≢◌, ◌+◌, ◌<◌, ◌≤◌, false, length, None, Some, IfSome};
+ghost use Rattle.std.specs.Prelude.{◌≡◌, ◌≢◌, ◌+◌, ◌%◌, ◌<◌, ◌≤◌, false, true, length, None, Some, IfSome};
 ghost use Rattle.core_1401.specs.Address.{addresses};
 ghost use Rattle.cpu_1401.specs.Branch.{go_on};
 ghost use Rattle.cpu_1401.specs.Chaining.{again};
@@ -12,7 +12,7 @@ ghost use Rattle.cpu_1401.specs.Stepped.{stopped};
 ghost use Rattle.machine_operations.specs.declared.fitted.Fitted.{Fitted};
 
 use crate::decoded::Address;
-use crate::decoded_fitted::DecodedFitted;
+use crate::decoded_fitted::{DecodedFitted, are_plain};
 use crate::fetched::count_at;
 use crate::instruction::Instruction;
 use crate::machine::Machine;
@@ -82,6 +82,7 @@ impl Machine {
                     d: self.core.get(self.i + len - 1).char,
                     a,
                     b,
+                    is_ready: are_plain(len, a, b),
                 })
             }
             None => None,
@@ -136,12 +137,48 @@ impl Machine {
         ensures b { result.1 ≡ (fitted_instruction self.now).b }
         ensures range { (result.0 < addresses) × (result.1 < addresses) }
     {
+        if said.is_ready {
+            return self.ready_fitted_addresses(said);
+        }
         if said.len < 4 {
             return (self.a, self.b);
         }
         let a = self.core.indexed(said.a.value, said.a.register);
         let b = self.core.indexed(said.b.value, said.b.register);
         (a, b)
+    }
+
+    /// The same, if its addresses are ready.
+    #[inline(always)]
+    pub(crate) fn ready_fitted(&self, said: &DecodedFitted, next: u16) -> Instruction
+        requires says { SaysFitted self.now.storage self.now.i self.now.features said.now }
+        requires ready { said.now.is_ready ≡ true }
+        requires next { next ≡ (self.now.i + said.now.len) % addresses }
+        ensures value { result ≡ fitted_instruction self.now }
+        ensures a { result.a < addresses }
+        ensures b { result.b < addresses }
+        ensures next { result.next < addresses }
+    {
+        let (a, b) = self.ready_fitted_addresses(said);
+        Instruction {
+            len: said.len,
+            a,
+            b,
+            next,
+            d: said.d,
+        }
+    }
+
+    /// The addresses that are ready, as they are spelled.
+    #[inline(always)]
+    fn ready_fitted_addresses(&self, said: &DecodedFitted) -> (u16, u16)
+        requires says { SaysFitted self.now.storage self.now.i self.now.features said.now }
+        requires ready { said.now.is_ready ≡ true }
+        ensures a { result.0 ≡ (fitted_instruction self.now).a }
+        ensures b { result.1 ≡ (fitted_instruction self.now).b }
+        ensures range { (result.0 < addresses) × (result.1 < addresses) }
+    {
+        (said.a.value, said.b.value)
     }
 
     /// Does what a feature makes of an instruction that it doesn't leave as it is.
@@ -180,14 +217,27 @@ impl Machine {
                 let outcome = move_record(&mut self.core, this.a, this.b);
                 self.after_field(this, outcome)
             }
-            Fitted::ModifyAddress => {
-                let outcome = modify_address(&mut self.core, this.a, this.b);
-                self.after_field(this, outcome)
-            }
+            Fitted::ModifyAddress => self.modify_address(this),
             Fitted::MoveTape | Fitted::LoadTape => Some(self.tape_stop(TRANSFER_LETTERS, this)),
             Fitted::ControlTape => Some(self.tape_stop(CONTROL_LETTERS, this)),
             Fitted::NoLength => Some(Stop::Length),
         }
+    }
+
+    /// Modifies an address.
+    #[inline(always)]
+    pub(crate) fn modify_address(&mut self, this: Instruction) -> Option<Stop>
+        requires a { this.a < addresses }
+        requires b { this.b < addresses }
+        requires next { this.next < addresses }
+        ensures stop { result ≡ (perform_fitted Fitted.ModifyAddress this self.old).stop }
+        ensures state { self.new ≡ (perform_fitted Fitted.ModifyAddress this self.old).state }
+        ensures unchanged { IfSome result (λ why. why ≢ Stop.Halt → self.new ≡ self.old) }
+        ensures limit { result ≢ Some Stop.Limit }
+        ensures size { length self.new.storage ≡ length self.old.storage }
+    {
+        let outcome = modify_address(&mut self.core, this.a, this.b);
+        self.after_field(this, outcome)
     }
 
     /// An instruction with the d-character that was kept.

@@ -21,7 +21,7 @@ use fields_1401::{
     add_within, move_chars_within, move_digit_within, move_zone_within, subtract_within,
     zero_add_within, zero_subtract_within,
 };
-use machine_operations::Operation;
+use machine_operations::{Fitted, Operation};
 use machine_panel::Stop;
 
 impl Machine {
@@ -132,7 +132,14 @@ impl Machine {
     {
         let machine = &*self;
         let said = match machine.fitted.find(&machine.core, machine.i) {
-            Some(said) => *said,
+            Some(said) => {
+                if said.is_ready && said.fitted == Fitted::ModifyAddress {
+                    let next = machine.i + said.len;
+                    let this = machine.ready_fitted(said, next);
+                    return Err(self.modify_address(this));
+                }
+                *said
+            }
             None => match self.decoded_instruction() {
                 Ok(fetched) => return Ok(fetched),
                 Err(stop) => match self.decode_claimed(stop) {
