@@ -4,6 +4,7 @@ pub mod FrontLemmas
 pub mod GrammarLemmas
 pub mod HeldLemmas
 pub mod MoveLemmas
+pub mod PassedLemmas
 pub mod ReadLemmas
 pub mod RecordLemmas
 pub mod ReelExamples

@@ -63,7 +63,7 @@ ahead_low bytes low high end at =
     ∙ ap (λ (front : List (List ℕ)). front ++ records_in (slice_range bytes high end))
     (records_in-block (slice_range bytes low high) at.block)
 
-passed_high : (bytes : List ℕ) (low high end : ℕ) → Between bytes low high end
+pub passed_high : (bytes : List ℕ) (low high end : ℕ) → Between bytes low high end
     → reverse (records_in (slice_range bytes 0 high)) ≡ characters_of (slice_range bytes low high)
     ∷ reverse (records_in (slice_range bytes 0 low))
 passed_high bytes low high end at =

@@ -1,7 +1,7 @@
 //! Records, lent by the reel that they are on.
 ghost use Rattle.std.specs.Prelude.{◌≡◌, ◌+◌, ◌-◌, ◌<◌, ◌≤◌, ◌%◌, ◌∷◌, [], true, length, drop, slice_index};
 ghost use Rattle.std.specs.Prelude.{MatchOption, IfSome};
-ghost use Rattle.std.specs.List.{count_by, list_all, prefix_len};
+ghost use Rattle.std.specs.List.{list_all, prefix_len};
 ghost use Rattle.machine_reels.specs.Held.{begins, goes_on, first_size, records_in, IsWhole, is_record};
 ghost use Rattle.machine_reels.specs.Reel.{characters_in, is_tape_mark, most_characters};
 
@@ -126,13 +126,6 @@ pub(crate) fn first_size(bytes: &[u8]) -> usize
         [] => 0,
         [_, rest @ ..] => 1 + going_on(rest),
     }
-}
-
-/// How many records bytes hold.
-pub(crate) fn record_count(bytes: &[u8]) -> usize
-    ensures { result ≡ count_by begins bytes.now }
-{
-    bytes.iter().filter(|byte| **byte >= FIRST).count()
 }
 
 /// How many bytes come before the first that has bit 7.

@@ -7,9 +7,7 @@ ghost use Rattle.machine_reels.specs.Reel.{characters_in, records_of, most_chara
 ghost use Rattle.machine_reels.specs.Reel.{after_backspace, after_rewind, after_write, after_add, tape_mark};
 
 use crate::fault::ReelFull;
-use crate::records::{
-    FIRST, MARK, TapeRecord, TapeRecords, char_of, first_size, last_start, record_count,
-};
+use crate::records::{FIRST, MARK, TapeRecord, TapeRecords, char_of, first_size, last_start};
 use bcd_1401::Char;
 use std::alloc::{AllocError, Global};
 use std::marker::Model;
@@ -25,9 +23,11 @@ pub struct Reel {
     bytes: Vec<u8>,
     head: usize,
     end: usize,
+    passed: usize,
 }
 
 impl Model for Reel {
+    ghost use Rattle.std.specs.Prelude.{◌≡◌, length};
     ghost use Rattle.machine_reels.specs.Held.{held, IsWound};
     ghost use Rattle.machine_reels.specs.Reel.{Reel};
 
@@ -35,7 +35,8 @@ impl Model for Reel {
 
     ghost view = { λ reel. held reel.bytes.items reel.head reel.end };
 
-    ghost invariant = { λ reel. IsWound reel.bytes.items reel.head reel.end };
+    ghost invariant = { λ reel. IsWound reel.bytes.items reel.head reel.end
+        × (reel.passed ≡ length (held reel.bytes.items reel.head reel.end).passed) };
 }
 
 impl Reel {
@@ -53,6 +54,7 @@ impl Reel {
             bytes: vec![in alloc; 0u8; capacity]?,
             head: 0,
             end: 0,
+            passed: 0,
         })
     }
 
@@ -75,7 +77,7 @@ impl Reel {
     pub fn records_passed(&self) -> usize
         ensures { result ≡ length self.now.passed }
     {
-        record_count(&self.bytes[..self.head])
+        self.passed
     }
 
     /// The records ahead of the head, in order.
@@ -106,7 +108,12 @@ impl Reel {
     pub fn pass(&mut self)
         ensures { self.new ≡ after_pass self.old }
     {
-        self.head += first_size(&self.bytes[self.head..self.end]);
+        let size = first_size(&self.bytes[self.head..self.end]);
+        if size == 0 {
+            return;
+        }
+        self.head += size;
+        self.passed += 1;
     }
 
     /// Moves the head back by one record, or does nothing at the load point (A24-1403, "Backspace Tape Record", from
@@ -116,6 +123,7 @@ impl Reel {
     {
         if self.head > 0 {
             self.head = last_start(&self.bytes[..self.head]);
+            self.passed -= 1;
         }
     }
 
@@ -128,6 +136,7 @@ impl Reel {
         ensures most { characters_in self.new.ahead ≤ most_characters }
     {
         self.head = 0;
+        self.passed = 0;
     }
 
     /// Writes a record of one character at the head, and moves past it. `add_char` adds the others. The records that
@@ -139,6 +148,7 @@ impl Reel {
         self.bytes[self.head] = FIRST + char.code();
         self.head += 1;
         self.end = self.head;
+        self.passed += 1;
     }
 
     /// Adds a character to the record that was passed last, which must be the last on the reel.

@@ -14,7 +14,7 @@ of-requires-clause-whole c =
     let bytes : List ℕ = reel.bytes.items in
     let lent : slice_range bytes 0 reel.end ≡ take reel.end c.deref.result.now =
     between_from_start bytes reel.end ∙ ap (take reel.end) (sym c.deref.ensures.value) in
-    subst IsWhole lent (whole_all bytes reel.head reel.end c.self.invariant)
+    subst IsWhole lent (whole_all bytes reel.head reel.end c.self.invariant.0)
 
 pub returns : goal.returns
 returns c =
@@ -23,5 +23,5 @@ returns c =
     let lent : take reel.end c.deref.result.now ≡ slice_range bytes 0 reel.end =
     ap (take reel.end) c.deref.ensures.value ∙ sym (between_from_start bytes reel.end) in
     c.of.ensures ∙ ap (λ (xs : List ℕ). records_in xs) lent
-    ∙ all_records reel.bytes.items reel.head reel.end c.self.invariant
+    ∙ all_records reel.bytes.items reel.head reel.end c.self.invariant.0
     ∙ ap (λ (r : Reel). records_of r) c.self.view_is

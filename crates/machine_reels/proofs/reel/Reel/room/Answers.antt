@@ -7,6 +7,6 @@ use Rattle.machine_reels.proofs.reel.Reel.room.Goals as goal
 pub returns : goal.returns
 returns c =
     let reel = c.self.inside in
-    let left = room_left reel.bytes.items reel.head reel.end c.self.invariant in
+    let left = room_left reel.bytes.items reel.head reel.end c.self.invariant.0 in
     let size = ap (λ (r : Reel). room_in r) c.self.view_is in
     omega (arith, left, size, c.len.ensures)
