@@ -1,4 +1,5 @@
 pub mod AddLemmas
+pub mod BlockLemmas
 pub mod BodyLemmas
 pub mod FrontLemmas
 pub mod GrammarLemmas

@@ -143,7 +143,7 @@ at_start bytes head end none =
     ∙ ap (λ (passed : List (List ℕ)). reel_of (drop 1 passed) (take 1 passed ++ back) (length bytes)) (sym nothing)
 
 -- the record that begins with the last byte that begins one
-block_from : (bytes : List ℕ) (at : ℕ) → at < length bytes → begins (slice_index bytes at) ≡ true
+pub block_from : (bytes : List ℕ) (at : ℕ) → at < length bytes → begins (slice_index bytes at) ≡ true
     → prefix_len goes_on (drop (at + 1) bytes) ≡ length bytes - (at + 1) → IsBlock (drop at bytes)
 block_from bytes at inside first others =
     let rest : List ℕ = drop (at + 1) bytes in

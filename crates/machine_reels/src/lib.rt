@@ -12,7 +12,8 @@
 //! ```
 #![tactic(auto)]
 
-// a reel, its records, and why it takes no record
+// a reel, its records, their bytes, and why it takes no record
+mod blocks;
 pub mod fault;
 pub mod records;
 pub mod reel;

@@ -1,8 +1,7 @@
 //! The reel of a text.
 ghost use Rattle.std.specs.Prelude.{ℕ, List, ◌≡◌, ◌+◌, ◌<◌, ◌≤◌, ◌^◌, [], length, drop, reverse, Ok, IsOk};
 ghost use Rattle.std.specs.Prelude.{IfOk, IfErr, IfSome, MatchResult, MatchOption};
-ghost use Rattle.machine_reels.specs.Held.{characters_of};
-ghost use Rattle.machine_reels.specs.Reel.{characters_in, mounted, most_characters, room_in, after_write};
+ghost use Rattle.machine_reels.specs.Reel.{characters_in, mounted, most_characters};
 ghost use Rattle.machine_reels.specs.Front.{Ends, Fails, BeginsWithRecord, BeginsWithSized};
 ghost use Rattle.machine_reels.specs.Front.{number_in, front_in, front_sized};
 ghost use Rattle.machine_reels.specs.TapReading.{Gives, IsOfText};
@@ -11,7 +10,7 @@ ghost use Rattle.machine_reels.specs.TapGrammar.{IsTapOf};
 ghost use Rattle.machine_reels.specs.TapText.{tap_text};
 
 use crate::fault::TapFault;
-use crate::records::{MARK, char_of, going_on};
+use crate::records::{MARK, going_on};
 use crate::reel::{MOST_CHARACTERS, Reel};
 use std::alloc::Global;
 
@@ -93,22 +92,10 @@ fn wind(reel: &mut Reel, text: &[u8]) -> Result<(), TapFault>
 {
     let mut rest = text;
     while let Some((bytes, beyond)) = split_record(text.len() - rest.len(), rest)? {
-        put_record(reel, bytes);
+        reel.put_bytes(bytes);
         rest = beyond;
     }
     Ok(())
-}
-
-/// Writes the record of these bytes at the head of a reel that has room for it.
-fn put_record(reel: &mut Reel, bytes: &[u8])
-    requires some { 0 < length bytes.now }
-    requires room { length bytes.now ≤ room_in reel.old }
-    ensures { reel.new ≡ after_write reel.old (characters_of bytes.now) }
-{
-    reel.begin_record(char_of(bytes[0]));
-    for byte in &bytes[1..] {
-        reel.add_char(char_of(*byte));
-    }
 }
 
 /// The bytes of the first record of a text, and what follows them in the text; `None` at the end of the tape.

@@ -1,11 +1,12 @@
 //! A reel of tape around its head.
 ghost use Rattle.std.specs.Prelude.{◌≡◌, ◌<◌, ◌≤◌, [], ◌∷◌, length, is_ok, nat_le, slice_get, true, if◌then◌else◌};
-ghost use Rattle.std.specs.Prelude.{IfOk, MatchOption, Some};
+ghost use Rattle.std.specs.Prelude.{IfOk, MatchOption, Some, map, ◌==◌};
 ghost use Rattle.std.specs.List.{list_all};
-ghost use Rattle.machine_reels.specs.Held.{is_record};
+ghost use Rattle.machine_reels.specs.Held.{characters_of, is_record};
 ghost use Rattle.machine_reels.specs.Reel.{characters_in, records_of, most_characters, mounted, room_in, after_pass};
 ghost use Rattle.machine_reels.specs.Reel.{after_backspace, after_rewind, after_write, after_add, tape_mark};
 
+use crate::blocks::{put_chars, put_codes};
 use crate::fault::ReelFull;
 use crate::records::{FIRST, MARK, TapeRecord, TapeRecords, char_of, first_size, last_start};
 use bcd_1401::Char;
@@ -174,10 +175,24 @@ impl Reel {
         ensures refused { is_ok result ≡ nat_le (length characters.now) (room_in self.old) }
         ensures reel { self.new ≡ (if is_ok result then after_write self.old characters.now else self.old) }
     {
+        self.write_with_blank(characters, Char::BLANK)
+    }
+
+    /// Writes a record like `write_record`, with this character for each blank.
+    ///
+    /// # Errors
+    ///
+    /// If it has more characters than `room`. The reel is then as it was.
+    pub fn write_with_blank(&mut self, characters: &[Char], blank: Char) -> Result<(), ReelFull>
+        requires { 0 < length characters.now }
+        ensures refused { is_ok result ≡ nat_le (length characters.now) (room_in self.old) }
+        ensures reel { self.new ≡ (if is_ok result
+            then after_write self.old (map (λ char. if char == 0 then blank else char) characters.now) else self.old) }
+    {
         if characters.len() > self.room() {
             return Err(ReelFull);
         }
-        self.put_record(characters);
+        self.put_record(characters, blank);
         Ok(())
     }
 
@@ -198,15 +213,29 @@ impl Reel {
         Ok(())
     }
 
-    /// Writes a record that there is room for.
-    fn put_record(&mut self, characters: &[Char])
+    /// Writes a record that there is room for, with this character for each blank.
+    fn put_record(&mut self, characters: &[Char], blank: Char)
         requires some { 0 < length characters.now }
         requires room { length characters.now ≤ room_in self.old }
-        ensures { self.new ≡ after_write self.old characters.now }
+        ensures { self.new ≡ after_write self.old (map (λ char. if char == 0 then blank else char) characters.now) }
     {
-        self.begin_record(characters[0]);
-        for char in &characters[1..] {
-            self.add_char(*char);
-        }
+        let end = self.head + characters.len();
+        put_chars(&mut self.bytes[self.head..end], characters, blank);
+        self.head = end;
+        self.end = end;
+        self.passed += 1;
+    }
+
+    /// Writes the record of these bytes, which there is room for.
+    pub(crate) fn put_bytes(&mut self, bytes: &[u8])
+        requires some { 0 < length bytes.now }
+        requires room { length bytes.now ≤ room_in self.old }
+        ensures { self.new ≡ after_write self.old (characters_of bytes.now) }
+    {
+        let end = self.head + bytes.len();
+        put_codes(&mut self.bytes[self.head..end], bytes);
+        self.head = end;
+        self.end = end;
+        self.passed += 1;
     }
 }

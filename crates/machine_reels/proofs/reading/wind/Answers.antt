@@ -25,8 +25,8 @@ returns-in_err-bytes-clause-ok c =
     absurd (wind_fails c.loop-bytes.reel.passed (read_from from 0 rest) (read_from 0 0 text) fault
     (read_fails from rest fault c.in_err-bytes.ensures.front) c.loop-bytes.invariant.read c.requires.good)
 
-pub put_record-requires-clause-room : goal.put_record-requires-clause-room
-put_record-requires-clause-room c =
+pub put_bytes-requires-clause-room : goal.put_bytes-requires-clause-room
+put_bytes-requires-clause-room c =
     let text : List ℕ = c.args.text.now in
     let rest : List ℕ = c.loop-bytes.rest.now in
     let first : BeginsWithRecord (length text - length rest) rest c.in-Some.bytes.now c.in-Some.beyond.now =
@@ -51,10 +51,10 @@ loop-bytes-preserved c =
       inside = omega (arith, first.more, c.loop-bytes.invariant.inside);
       read =
           ap (λ (reel : Reel). after_all (reverse reel.passed) (read_from (length text - length beyond) 0 beyond))
-          c.put_record.ensures
+          c.put_bytes.ensures
           ∙ more;
-      ahead = ap (λ (reel : Reel). reel.ahead) c.put_record.ensures;
-      capacity = ap (λ (reel : Reel). reel.capacity) c.put_record.ensures ∙ c.loop-bytes.invariant.capacity;
+      ahead = ap (λ (reel : Reel). reel.ahead) c.put_bytes.ensures;
+      capacity = ap (λ (reel : Reel). reel.capacity) c.put_bytes.ensures ∙ c.loop-bytes.invariant.capacity;
     }
 
 pub returns-clause-reel : goal.returns-clause-reel
