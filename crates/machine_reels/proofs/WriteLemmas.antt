@@ -1,10 +1,13 @@
 -- The text that is written of records is that of a reel with these records.
 use Rattle.std.proofs.Common.{◌≡◌, ℕ, ◌%◌, ◌<◌, ◌≤◌, ◌==◌, cond, Bool, true, false, inl, inr, List, [], ◌∷◌, ◌++◌}
 use Rattle.std.proofs.Common.{length, Ok, Err, refl, sym, ap, subst, ◌∙◌, arith}
-use Rattle.std.specs.Prelude.{nat_le, nat_lt}
+use Rattle.std.proofs.Common.{◌-◌, take, drop, length-append, length-drop}
+use Rattle.std.specs.Prelude.{nat_le, nat_lt, slice_range}
 use Rattle.std.specs.List.{list_all}
 use Rattle.std.proofs.lemmas.Bool.{and_from, and_parts, cases_Bool, eqb-false, eqb-true, le-leb, leb-true, lt-ltb}
 use Rattle.std.proofs.lemmas.Bool.{ltb-true}
+use Rattle.std.proofs.lemmas.List.{append-nil, drop_at, nil_from_length, take_all, take_at}
+use borrow.Rule.Slice.PartMut.{put_mid}
 use Rattle.machine_reels.specs.declared.fault.TapFault.TheVariants.{Long}
 use Rattle.machine_reels.specs.Front.{is_character}
 use Rattle.machine_reels.specs.Held.{characters_of, is_record}
@@ -118,3 +121,22 @@ tap_read text records of few =
 pub tap_again : (records : List (List ℕ)) → list_all is_record records ≡ true → characters_in records ≤ most_characters
     → records_read (tap_text records) ≡ Ok records
 tap_again records good few = tap_read (tap_text records) records (is_written records good) few
+
+-- the characters of bytes, put where the bytes were added to a text
+pub put_after : (old bytes lent put chars : List ℕ) (from : ℕ) → from ≡ length old → lent ≡ old ++ bytes
+    → put ≡ characters_of (slice_range lent from (length lent)) → characters_of bytes ≡ chars
+    → put_mid from (length lent - from) lent put ≡ old ++ chars
+put_after old bytes lent put chars from start added kept same =
+    let n : ℕ = length lent - from in
+    let size : n ≡ length bytes = omega (arith, start, ap length added, length-append old bytes) in
+    let front : take from lent ≡ old = ap (take from) added ∙ take_at old bytes from (sym start) in
+    let back : drop from lent ≡ bytes = ap (drop from) added ∙ drop_at old bytes from (sym start) in
+    let mid : slice_range lent from (length lent) ≡ bytes =
+    ap (take n) back ∙ take_all n bytes (omega (arith, size)) in
+    let rest : drop n (drop from lent) ≡ [] =
+    ap (drop n) back ∙ nil_from_length (drop n bytes) (omega (arith, length-drop n bytes, size)) in
+    let here : put ≡ chars = kept ∙ ap (λ (xs : List ℕ). characters_of xs) mid ∙ same in
+    ap (λ (xs : List ℕ). xs ++ (put ++ drop n (drop from lent))) front
+    ∙ ap (λ (xs : List ℕ). old ++ (put ++ xs)) rest
+    ∙ ap (λ (xs : List ℕ). old ++ (xs ++ [])) here
+    ∙ ap (λ (xs : List ℕ). old ++ xs) (append-nil chars)

@@ -2,7 +2,7 @@
 ghost use Rattle.std.specs.Prelude.{◌≡◌, ◌+◌, ◌-◌, ◌<◌, ◌≤◌, ◌%◌, ◌∷◌, [], true, length, drop, slice_index};
 ghost use Rattle.std.specs.Prelude.{MatchOption, IfSome};
 ghost use Rattle.std.specs.List.{list_all, prefix_len};
-ghost use Rattle.machine_reels.specs.Held.{begins, goes_on, first_size, records_in, IsWhole, is_record};
+ghost use Rattle.machine_reels.specs.Held.{begins, characters_of, goes_on, first_size, records_in, IsWhole, is_record};
 ghost use Rattle.machine_reels.specs.Reel.{characters_in, is_tape_mark, most_characters};
 
 use bcd_1401::{CODES, Char};
@@ -66,6 +66,13 @@ impl<'a> TapeRecord<'a> {
         ensures { result ≡ slice_index self.now at }
     {
         char_of(self.bytes[at])
+    }
+
+    /// Its bytes.
+    pub(crate) fn bytes(&self) -> &[u8]
+        ensures { characters_of result.now ≡ self.now }
+    {
+        self.bytes
     }
 
     /// Whether it is a tape mark: the character 8-4-2-1 alone (A24-1403, "Write Tape Mark", from memory).

@@ -1,11 +1,13 @@
 //! The text of a reel.
 ghost use Rattle.std.specs.Prelude.{◌≡◌, ◌≤◌, ◌++◌, Ok, IfOk, OnOk};
+ghost use Rattle.machine_reels.specs.Held.{characters_of};
 ghost use Rattle.machine_reels.specs.Reel.{most_characters};
 ghost use Rattle.machine_reels.specs.TapReading.{records_read};
 ghost use Rattle.machine_reels.specs.TapGrammar.{IsTapOf};
 ghost use Rattle.machine_reels.specs.TapText.{data_text, length_text, odd_byte, record_text, tap_text};
 
 use crate::records::{TapeRecord, TapeRecords};
+use bcd_1401::CODES;
 use std::alloc::{AllocError, Global};
 
 /// The text of records, a `.tap` file of SIMH. Each record is its length, its characters with a byte each, a byte 0 if
@@ -79,8 +81,17 @@ fn put_length(text: &mut Vec<u8>, length: usize) -> Result<(), AllocError>
 fn put_characters(text: &mut Vec<u8>, tape_record: &TapeRecord<'_>) -> Result<(), AllocError>
     ensures { OnOk result (text.new.items ≡ text.old.items ++ tape_record.now) }
 {
-    for i in 0..tape_record.len() {
-        text.push(tape_record.char(i).code())?;
-    }
+    let from = text.len();
+    text.extend_from_slice(tape_record.bytes())?;
+    keep_characters(&mut text[from..]);
     Ok(())
+}
+
+/// Leaves the character of each byte alone.
+fn keep_characters(bytes: &mut [u8])
+    ensures { bytes.new ≡ characters_of bytes.old }
+{
+    for i in 0..bytes.len() {
+        bytes[i] %= CODES;
+    }
 }
