@@ -151,7 +151,8 @@ held_at bytes block chars head end n one same size inside =
     (records_in (slice_range after (head + n) (head + n))) (length after)) (range_put bytes block head n size inside)
     ∙ ap (λ (ahead : List (List ℕ)). reel_of (reverse (records_in (slice_range bytes 0 head ++ block))) ahead
     (length after)) (records_in-nil (slice_range after (head + n) (head + n)) (ap length (range_nil after (head + n))))
-    ∙ ap (reel_of (reverse (records_in (slice_range bytes 0 head ++ block))) []) (length_put bytes block head n size inside)
+    ∙ ap (reel_of (reverse (records_in (slice_range bytes 0 head ++ block))) [])
+    (length_put bytes block head n size inside)
     ∙ ap (λ (records : List (List ℕ)). reel_of (reverse records) [] (length bytes))
     (records_in-append (slice_range bytes 0 head) block one.whole
     ∙ ap (λ (back : List (List ℕ)). front ++ back) (records_in-block block one)

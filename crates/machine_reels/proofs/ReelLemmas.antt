@@ -1,14 +1,13 @@
 -- A reel by the bytes that hold it: its records, its room, and its head at the load point.
-use Rattle.std.proofs.Common.{◌≡◌, ℕ, ◌-◌, ◌<◌, ◌≤◌, true, List, [], ◌∷◌, ◌++◌}
+use Rattle.std.proofs.Common.{◌≡◌, ℕ, ◌-◌, ◌≤◌, true, List, [], ◌++◌}
 use Rattle.std.proofs.Common.{length, refl, sym, ap, ◌∙◌, arith}
 use Rattle.std.specs.Prelude.{slice_range}
 use Rattle.std.specs.List.{list_all, prefix_len}
 use Rattle.std.proofs.lemmas.List.{reverse-reverse}
-use Rattle.std.proofs.lemmas.List.Sums.{sum_by-cons}
 use Rattle.machine_reels.specs.Held.{goes_on, records_in, is_record, IsWhole, IsWound}
 use Rattle.machine_reels.specs.Held.{held}
 use Rattle.machine_reels.specs.Reel.{Reel, characters_in, most_characters, mounted, records_of, room_in}
-use Rattle.machine_reels.specs.Reel.{after_rewind, after_write}
+use Rattle.machine_reels.specs.Reel.{after_rewind}
 use Rattle.machine_reels.proofs.HeldLemmas.{going_on-append}
 use Rattle.machine_reels.proofs.HeldLemmas.{length-range, range_split, records_in-append}
 use Rattle.machine_reels.proofs.RecordLemmas.{characters-reverse, counted, few_characters, good_records}
@@ -60,13 +59,6 @@ whole_rewound bytes head end wound = record {
 pub held-new : (bytes : List ℕ) (capacity : ℕ) → length bytes ≡ capacity → held bytes 0 0 ≡ mounted [] capacity
 unfolding records_in
 held-new bytes capacity e = ap (reel_of [] []) e
-
--- one character more of a record that is written
-pub room_more : (reel : Reel) (first : ℕ) (written characters : List ℕ)
-    → length characters ≤ room_in reel → length (first ∷ written) < length characters
-    → 0 < room_in (after_write reel (first ∷ written))
-room_more reel first written characters room few =
-    omega (arith, sum_by-cons length (first ∷ written) reel.passed, room, few)
 
 pub good_ahead : (bytes : List ℕ) (head end : ℕ) → IsWound bytes head end
     → list_all is_record (records_in (slice_range bytes 0 end)) ≡ true

@@ -34,7 +34,8 @@ returns-clause-value c =
     put_whole c.loop-i.places chars put_as c.loop-i.i c.code-code.result c.requires.some
     c.loop-i.invariant.size (omega arith) c.loop-i.invariant.value
     (c.code-code.ensures.value ∙ c.with_blank-begun.ensures
-    ∙ ap put_as (get_or_read chars 0 c.index-characters-0.result c.requires.some c.index-characters-0.is 0)) c.code-code.ensures.range
+    ∙ ap put_as (get_or_read chars 0 c.index-characters-0.result c.requires.some c.index-characters-0.is 0))
+    c.code-code.ensures.range
 
 pub returns-clause-first : goal.returns-clause-first
 returns-clause-first c =

@@ -13,7 +13,13 @@ invariant_of-result c =
     let zero : ℕ = 0 in
     let all : bytes ≡ replicate c.args.capacity zero = search rules in
     let size : length bytes ≡ c.args.capacity = ap length all ∙ length-replicate c.args.capacity zero in (
-      record { passed = refl; ahead = refl; order = omega arith; inside = omega arith; most = omega (arith, size, c.requires) },
+      record {
+        passed = refl;
+        ahead = refl;
+        order = omega arith;
+        inside = omega arith;
+        most = omega (arith, size, c.requires);
+      },
       refl,
     )
 
