@@ -2,11 +2,12 @@
 use Rattle.std.proofs.Common.{◌≡◌, ◌≢◌, ℕ, ◌+◌, ◌<◌, ◌≤◌, ◌&&◌, ◌||◌, Bool, true, false, List, [], ◌∷◌, Option, None, Some}
 use Rattle.std.proofs.Common.{length, drop, get_or, refl, sym, ap, ◌∙◌, arith}
 use Rattle.std.specs.Prelude.{if◌then◌else◌, is_some, nat_lt}
-use Rattle.std.proofs.lemmas.Bool.{false≢true}
+use Rattle.std.proofs.Common.{not, ◌==◌}
+use Rattle.std.proofs.lemmas.Bool.{false≢true, lt-ltb}
 use Rattle.std.proofs.lemmas.List.{get_or-set_other, length-set}
 use Rattle.bcd_1401.specs.declared.cell.Cell.{Cell}
 use Rattle.core_1401.specs.Storage.{Storage, blank, cell_at, is_in_core}
-use Rattle.machine_tapes.specs.TapeText.{cells_from, is_separator}
+use Rattle.machine_tapes.specs.TapeText.{cells_from, cells_read, has_marks, is_separator, separator}
 use Rattle.machine_tapes.specs.Transfer.{ends_record, read_into, read_to, with_read}
 use Rattle.machine_tapes.specs.declared.work.TapeMode.{TapeMode}
 use Rattle.machine_tapes.proofs.CellLemmas.{cell_next, cell_of, none_next, separator_next}
@@ -143,3 +144,59 @@ pub none_reads : (how : TapeMode) (is_odd is_marked : Bool) (s : Storage) (at : 
     → length chars ≤ i → is_some (left how is_odd is_marked s at chars i) ≡ is_in_core s at
 none_reads how is_odd is_marked s at chars i le =
     ap is_some (left_none how is_odd is_marked s at chars i le) ∙ some_at (is_in_core s at) _
+
+-- a move reads no word separator
+no_separator : (how : TapeMode) (is_marked : Bool) (char : ℕ) → has_marks how ≡ false
+    → is_separator how is_marked char ≡ false
+no_separator how is_marked char unmarked = ap (λ (b : Bool). b && not is_marked && (char == separator)) unmarked
+
+pub moved_ends : (how : TapeMode) (is_odd : Bool) (s : Storage) (at : ℕ) (chars : List ℕ) (i : ℕ) → i < length chars
+    → has_marks how ≡ false → is_in_core s at ≡ true → ends_record (cell_at s at) ≡ true
+    → left how is_odd false s at chars i ≡ Some (s, at)
+moved_ends how is_odd s at chars i lt unmarked inside ends =
+    left_ends how is_odd false s at chars i lt (no_separator how false (get_or chars i 0) unmarked) inside ends
+
+pub moved_goes_on : (how : TapeMode) (is_odd : Bool) (s : Storage) (at : ℕ) (chars : List ℕ) (i : ℕ) → i < length chars
+    → has_marks how ≡ false → is_in_core s at ≡ true → ends_record (cell_at s at) ≡ false
+    → left how is_odd false s at chars i
+    ≡ left how is_odd false (with_read how s at (cell_of is_odd false (get_or chars i 0))) (at + 1) chars (i + 1)
+moved_goes_on how is_odd s at chars i lt unmarked inside ends =
+    left_goes_on how is_odd false s at chars i lt (no_separator how false (get_or chars i 0) unmarked) inside ends
+
+-- a record has no more cells than characters
+few_by : (b : Bool) (cell : Cell) (p q : List Cell) (n : ℕ) → length p ≤ n → length q ≤ n
+    → length (if b then p else cell ∷ q) ≤ n + 1
+few_by true cell p q n h k = omega (arith, h)
+few_by false cell p q n h k = omega (arith, k)
+
+few_cells : (how : TapeMode) (is_odd is_marked : Bool) (chars : List ℕ)
+    → length (cells_from how is_odd is_marked chars) ≤ length chars
+few_cells how is_odd is_marked [] = omega arith
+few_cells how is_odd is_marked (char ∷ chars) =
+    let few =
+    few_by (is_separator how is_marked char) (cell_of is_odd is_marked char) (cells_from how is_odd true chars)
+    (cells_from how is_odd false chars) (length chars) (few_cells how is_odd true chars)
+    (few_cells how is_odd false chars) in
+    omega (arith, few)
+
+some_or_true : {A : Type 0} (b e : Bool) (x : A) (rest : Option A) → b ≡ true → is_some rest ≡ true
+    → is_some (if b then (if e then Some x else rest) else None) ≡ true
+some_or_true true true x rest b r = refl
+some_or_true true false x rest b r = r
+some_or_true false e x rest b r = absurd (false≢true b)
+
+-- it can be read where there is a place for each cell, and one more
+enough_cells : (how : TapeMode) (cells : List Cell) (s : Storage) (at : ℕ) → at + length cells < length s
+    → is_some (read_to how s at cells) ≡ true
+enough_cells how [] s at lt =
+    some_at (is_in_core s at) _ ∙ lt-ltb at (length s) (omega (arith, lt))
+enough_cells how (cell ∷ cells) s at lt =
+    let after : Storage = with_read how s at cell in
+    let size : length after ≡ length s = read_size how s at cell in
+    some_or_true (is_in_core s at) (ends_record (cell_at s at)) (s, at) (read_to how after (at + 1) cells)
+    (lt-ltb at (length s) (omega (arith, lt))) (enough_cells how cells after (at + 1) (omega (arith, lt, size)))
+
+pub enough_places : (how : TapeMode) (is_odd : Bool) (s : Storage) (at : ℕ) (chars : List ℕ)
+    → at + length chars < length s → is_some (read_to how s at (cells_read how is_odd chars)) ≡ true
+enough_places how is_odd s at chars lt =
+    enough_cells how (cells_read how is_odd chars) s at (omega (arith, few_cells how is_odd false chars, lt))

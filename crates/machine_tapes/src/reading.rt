@@ -1,8 +1,8 @@
 //! Records read into core.
-ghost use Rattle.std.specs.Prelude.{◌≡◌, ◌≢◌, ◌<◌, [], IfErr, IfOk, IfSome, OnErr, is_some, length, true};
+ghost use Rattle.std.specs.Prelude.{◌≡◌, ◌≢◌, ◌<◌, [], IfErr, IfOk, IfSome, OnErr, false, is_some, length, true};
 ghost use Rattle.core_1401.specs.Address.{addresses};
 ghost use Rattle.cpu_1401.specs.Run.{carried_out_by};
-ghost use Rattle.machine_tapes.specs.TapeText.{cells_read};
+ghost use Rattle.machine_tapes.specs.TapeText.{cells_read, has_marks};
 ghost use Rattle.machine_tapes.specs.Transfer.{copied, drive_after, machine_after, read_into, read_next, read_to};
 ghost use Rattle.machine_tapes.specs.Transfer.{stop_after, with_read};
 
@@ -75,9 +75,16 @@ pub fn has_places(core: &Core, at: u16, tape: &TapeRecord<'_>, mode: TapeMode, i
     ensures { result ≡ is_some (read_to mode core.now at (cells_read mode is_odd tape.now)) }
 {
     let size = core.size();
+    let len = tape.len();
+    // Each character comes to one place at most, and one more place is for the group mark.
+    let end = usize::from(at) + len;
+    let places = usize::from(size);
+    if end < places {
+        return true;
+    }
     let mut place = at;
     let mut is_marked = false;
-    for i in 0..tape.len() {
+    for i in 0..len {
         if mode.is_separator(is_marked, tape.char(i)) {
             is_marked = true;
         } else {
@@ -110,6 +117,9 @@ fn put_record(
     ensures range { result < addresses }
     ensures size { length machine.new.storage ≡ length machine.old.storage }
 {
+    if !mode.has_marks() {
+        return put_chars(machine, at, tape, mode, is_odd);
+    }
     // No place in core is the last that an address can have.
     let _size = machine.core().size();
     let mut place = at;
@@ -130,6 +140,41 @@ fn put_record(
             place += 1;
             is_marked = false;
         }
+    }
+    put_end(machine, place, mode);
+    place
+}
+
+/// The same for a move, which reads no word separator.
+fn put_chars(
+    machine: &mut Machine,
+    at: u16,
+    tape: &TapeRecord<'_>,
+    mode: TapeMode,
+    is_odd: bool,
+) -> u16
+    requires at { at < addresses }
+    requires places { is_some (read_to mode machine.old.storage at (cells_read mode is_odd tape.now)) ≡ true }
+    requires unmarked { has_marks mode ≡ false }
+    ensures read { read_to mode machine.old.storage at (cells_read mode is_odd tape.now)
+        ≡ Some (machine.new.storage, result) }
+    ensures rest { machine.new ≡ record machine.old { storage = machine.new.storage } }
+    ensures range { result < addresses }
+    ensures size { length machine.new.storage ≡ length machine.old.storage }
+{
+    let _size = machine.core().size();
+    let len = tape.len();
+    let mut place = at;
+    for i in 0..len {
+        if ends_record(machine.core().get(place)) {
+            return place;
+        }
+        let cell = Cell {
+            char: read_char(is_odd, tape.char(i)),
+            mark: false,
+        };
+        put_cell(machine, place, mode, cell);
+        place += 1;
     }
     put_end(machine, place, mode);
     place

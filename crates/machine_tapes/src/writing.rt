@@ -1,17 +1,19 @@
 //! Records written from core.
 ghost use Rattle.std.specs.Prelude.{◌≡◌, ◌≢◌, ◌+◌, ◌<◌, ◌≤◌, ◌&&◌, ℕ, List, [], ◌++◌, IfSome, length, take, drop, nat_le};
-ghost use Rattle.std.specs.Prelude.{if◌then◌else◌};
+ghost use Rattle.std.specs.Prelude.{false, if◌then◌else◌};
 ghost use Rattle.core_1401.specs.Address.{addresses};
+ghost use Rattle.core_1401.specs.Storage.{cell_at};
 ghost use Rattle.cpu_1401.specs.Run.{carried_out_by};
 ghost use Rattle.machine_reels.specs.Reel.{after_write, room_in};
 ghost use Rattle.machine_tapes.specs.TapeText.{has_marks, text_of, text_of_cell};
-ghost use Rattle.machine_tapes.specs.Transfer.{drive_after, machine_after, record_len_at, stop_after, write_from};
+ghost use Rattle.machine_tapes.specs.Transfer.{drive_after, ends_record, machine_after, record_len_at, stop_after};
+ghost use Rattle.machine_tapes.specs.Transfer.{write_from};
 
 use crate::drive::Drive;
 use crate::registers::{go_on, step_up};
-use crate::tape_text::{ends_record, separator, written_char};
+use crate::tape_text::{GROUP_MARK, ends_record, separator, written_char};
 use crate::work::{TapeInstruction, TapeMode};
-use bcd_1401::Cell;
+use bcd_1401::{Cell, Char};
 use core_1401::Core;
 use cpu_1401::{Machine, Stop};
 use machine_reels::Reel;
@@ -59,11 +61,25 @@ pub fn record_len(core: &Core, at: u16) -> Option<u16>
     ensures range { IfSome result (λ n. at + n < addresses) }
 {
     for i in 0..core.size().saturating_sub(at) {
-        if ends_record(core.get(at + i)) {
+        if ends_at(core, at + i) {
             return Some(i);
         }
     }
     None
+}
+
+/// Whether the cell at a place ends a record. Its word mark is asked for only if it is a group mark.
+fn ends_at(core: &Core, at: u16) -> bool
+    requires { at < length core.now }
+    ensures { result ≡ ends_record (cell_at core.now at) }
+{
+    let place = usize::from(at);
+    let chars = core.chars();
+    let code = chars[place].code();
+    if code != GROUP_MARK {
+        return false;
+    }
+    ends_record(core.get(at))
 }
 
 /// Writes n cells as a record, if the reel has room for it.
@@ -75,11 +91,31 @@ fn put_record(core: &Core, at: u16, n: u16, mode: TapeMode, is_odd: bool, reel: 
     ensures reel { reel.new ≡ (if result then after_write reel.old (text_of mode is_odd (take n (drop at core.now)))
         else reel.old) }
 {
+    if !mode.has_marks() {
+        return put_chars(core, at, n, mode, is_odd, reel);
+    }
     if text_len(core, at, n, mode, is_odd) > reel.room() {
         return false;
     }
     put_text(core, at, n, mode, is_odd, reel);
     true
+}
+
+/// Writes the characters of n cells as a record, if the reel has room for it: a move, which writes no word separator.
+fn put_chars(core: &Core, at: u16, n: u16, mode: TapeMode, is_odd: bool, reel: &mut Reel) -> bool
+    requires some { 0 < n }
+    requires inside { at + n < length core.now }
+    requires range { at + n < addresses }
+    requires unmarked { has_marks mode ≡ false }
+    ensures room { result ≡ nat_le (length (text_of mode is_odd (take n (drop at core.now)))) (room_in reel.old) }
+    ensures reel { reel.new ≡ (if result then after_write reel.old (text_of mode is_odd (take n (drop at core.now)))
+        else reel.old) }
+{
+    let from = usize::from(at);
+    let to = from + usize::from(n);
+    let blank = written_char(is_odd, Char::BLANK);
+    let chars = core.chars();
+    reel.write_with_blank(&chars[from..to], blank).is_ok()
 }
 
 /// How many characters n cells have on tape.
@@ -88,6 +124,9 @@ pub fn text_len(core: &Core, at: u16, n: u16, mode: TapeMode, is_odd: bool) -> u
     requires range { at + n < addresses }
     ensures { result ≡ length (text_of mode is_odd (take n (drop at core.now))) }
 {
+    if !mode.has_marks() {
+        return usize::from(n);
+    }
     let mut len = 0;
     for i in 0..n {
         len += cell_len(core.get(at + i), mode, is_odd);

@@ -4,10 +4,14 @@ use Rattle.std.specs.Prelude.{is_some}
 use Rattle.std.proofs.lemmas.Bool.{lt-ltb}
 use Rattle.machine_tapes.specs.TapeText.{is_separator}
 use Rattle.machine_tapes.specs.Transfer.{ends_record}
-use Rattle.machine_tapes.proofs.ReadLemmas.{left, left_separator, still_reads}
+use Rattle.machine_tapes.proofs.ReadLemmas.{enough_places, left, left_separator, still_reads}
 use Rattle.machine_tapes.proofs.reading.has_places.Goals as goal
 use Rattle.machine_tapes.proofs.reading.has_places.Goals.{then-is_separator}
 use Rattle.machine_tapes.proofs.reading.has_places.Goals.{else-is_separator+else-place-size+else-ends_record}
+
+pub returns-then-end-places : goal.returns-then-end-places
+returns-then-end-places c =
+    sym (enough_places c.args.mode c.args.is_odd c.args.core.now c.args.at c.args.tape.now (omega arith))
 
 pub loop-i-preserved : goal.loop-i-preserved
 loop-i-preserved c =

@@ -1,10 +1,16 @@
 -- Each cell adds its characters.
-use Rattle.std.proofs.Common.{◌+◌, arith, ap, ◌∙◌, length, length-append, take, drop}
+use Rattle.std.proofs.Common.{◌+◌, arith, ap, sym, ◌∙◌, length, length-append, take, drop}
 use Rattle.bcd_1401.specs.declared.cell.Cell.{Cell}
 use Rattle.core_1401.specs.Storage.{cell_at}
 use Rattle.machine_tapes.specs.TapeText.{text_of, text_of_cell}
-use Rattle.machine_tapes.proofs.WriteLemmas.{text_more}
+use Rattle.machine_tapes.proofs.WriteLemmas.{moved_len, text_more}
 use Rattle.machine_tapes.proofs.writing.text_len.Goals as goal
+
+pub returns-then-not-has_marks : goal.returns-then-not-has_marks
+returns-then-not-has_marks c =
+    c.from.ensures
+    ∙ moved_len c.args.mode c.args.is_odd c.args.core.now c.args.at c.args.n
+    (sym c.has_marks.ensures ∙ c.if-not-has_marks.true) c.requires.inside
 
 pub overflow_add-len : goal.overflow_add-len
 overflow_add-len c = omega (arith, c.loop-i.invariant.1, c.cell_len-len.ensures.most)
