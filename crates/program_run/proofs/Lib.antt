@@ -5,3 +5,6 @@ pub mod StretchLemmas
 pub mod TraceLemmas
 pub mod WrittenLemmas
 pub mod ReelLemmas
+pub mod CountLemmas
+pub mod HandedLemmas
+pub mod EndLemmas

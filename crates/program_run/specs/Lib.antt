@@ -8,3 +8,6 @@ pub mod RunJob
 pub mod OneFile
 pub mod RunStart
 pub mod RunReels
+pub mod WrittenReels
+pub mod ReelPlaces
+pub mod RunEnd

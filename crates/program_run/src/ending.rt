@@ -1,6 +1,7 @@
 //! How a job ended, in a line: the stop, the instruction and why, then what was carried out, read and written.
-ghost use Rattle.std.specs.Prelude.{◌≡◌, IfSome};
+ghost use Rattle.std.specs.Prelude.{◌≡◌, IfSome, length};
 ghost use Rattle.job_stops.specs.Reason.{stop_named};
+ghost use Rattle.program_run.specs.ReelPlaces.{place_of, places_of};
 
 use crate::job_report::JobReport;
 use crate::stopped_at::{RunSource, instruction_text};
@@ -41,7 +42,10 @@ pub struct ReelPlace {
 }
 
 /// How many records these are.
-fn count_of(records: &TapeRecords<'_>) -> usize {
+#[tactic(auto, using(crate::proofs::CountLemmas::fewer_records))]
+fn count_of(records: &TapeRecords<'_>) -> usize
+    ensures { result ≡ length records.now }
+{
     let mut count: usize = 0;
     let mut rest = records.again();
     while let Some((_, beyond)) = rest.split_first() {
@@ -52,7 +56,9 @@ fn count_of(records: &TapeRecords<'_>) -> usize {
 }
 
 /// How far the reel of a unit is; `None` if it has none.
-fn reel_place(drive: &Drive) -> Option<ReelPlace> {
+fn reel_place(drive: &Drive) -> Option<ReelPlace>
+    ensures { result ≡ place_of drive.now }
+{
     if drive.reel.capacity() == 0 {
         return None;
     }
@@ -63,7 +69,9 @@ fn reel_place(drive: &Drive) -> Option<ReelPlace> {
 }
 
 /// How far the reel of each unit is.
-fn reel_places(tapes: &Tapes) -> [Option<ReelPlace>; 6] {
+fn reel_places(tapes: &Tapes) -> [Option<ReelPlace>; 6]
+    ensures { result ≡ places_of tapes.now }
+{
     [
         reel_place(tapes.unit(1)),
         reel_place(tapes.unit(2)),
@@ -137,6 +145,7 @@ impl Ending {
     ) -> Ending
         ensures report { result.report ≡ report }
         ensures reason { IfSome result.reason (λ why. stop_named why ≡ report.stop) }
+        ensures reels { result.reels ≡ places_of taped.now.tapes }
     {
         let machine = &taped.machine;
         let at = stop_address(report, machine);

@@ -16,6 +16,9 @@ pub mod programs;
 mod reels;
 mod source_reports;
 
+// what it ends with, beside what is printed and punched
+pub mod reel_files;
+
 // a machine run with a deck; where what comes goes, and who hears of it
 pub mod deck_running;
 pub mod outputs;
@@ -40,7 +43,8 @@ pub use outputs::Outputs;
 pub use program_call::{is_refused, size_for};
 pub use programs::{image_machine, is_image, loaded_machine, program_of};
 pub use punch_file::PunchFile;
-pub use running::{ErrorOutput, run_file, tell_ending};
+pub use reel_files::{NamedFiles, ReelFiles};
+pub use running::{ErrorOutput, run_file, run_job, tell_ending};
 pub use stopped_at::RunSource;
 pub use tracing::Trace;
 pub use watching::{HowFar, Shown, Unwatched, Watch};

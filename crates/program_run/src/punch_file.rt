@@ -1,6 +1,6 @@
 //! Where punched cards go: into a file, in the graphics of its chain, or nowhere.
 ghost use Rattle.std.specs.Prelude.{◌≡◌, ◌<◌, ◌≤◌, false, IsTrue, length, map, take, IfOk, OnOk, OnErr};
-ghost use Rattle.std.specs.Prelude.{option_and_then, option_map};
+ghost use Rattle.std.specs.Prelude.{option_and_then};
 ghost use Rattle.std.specs.Io.KnownBytes.{Appends, Keeps};
 ghost use Rattle.machine_graphics.specs.Graphics.{theirs_of};
 ghost use Rattle.program_run.specs.RunDeck.{failed_of, in_graphics};

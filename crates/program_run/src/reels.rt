@@ -1,18 +1,20 @@
 //! The reels of a job: read and mounted before it, and written when it has ended.
-ghost use Rattle.std.specs.Prelude.{◌≡◌, ◌⊎◌, [], Err, IfOk, IfErr, OnOk};
+ghost use Rattle.std.specs.Prelude.{◌≡◌, ◌⊎◌, [], Err, IfOk, IfErr, IfSome, IsOk, OnOk, Some};
 ghost use Rattle.machine_reels.specs.Reel.{mounted, records_of};
 ghost use Rattle.machine_reels.specs.TapText.{tap_text};
 ghost use Rattle.machine_tapes.specs.Drive.{mounted_on};
 ghost use Rattle.machine_tapes.specs.Tapes.{no_tapes};
 ghost use Rattle.program_call.specs.Mounted.{has_ring};
-ghost use Rattle.program_run.specs.RunReels.{AreMounted, IsMounted, IsNotPut, IsOfReelFile, IsReelOf, IsReelText};
-ghost use Rattle.program_run.specs.RunReels.{IsThere, IsUnmounted, IsUnmountedOf, IsUnwrittenOf, IsUnwrittenReel};
-ghost use Rattle.program_run.specs.RunReels.{reel_room, with_drive};
+ghost use Rattle.program_run.specs.RunReels.{AreMounted, IsMounted, IsOfReelFile, IsReelOf, IsReelText, IsThere};
+ghost use Rattle.program_run.specs.RunReels.{IsUnmounted, IsUnmountedOf, IsUnwrittenOf, IsUnwrittenReel, reel_room};
+ghost use Rattle.program_run.specs.RunReels.{with_drive};
+ghost use Rattle.program_run.specs.WrittenReels.{AreHandedOver, HandsOver, IsHandedOver, file_of, file_with, files_of};
+ghost use Rattle.program_run.specs.WrittenReels.{text_on};
 
 use crate::fault::RunFault;
 use crate::inputs::read_file;
-use crate::outputs::unwritten_file;
-use bytes_files::{NewFault, WriteFault, is_there, put_new, put_whole};
+use crate::reel_files::{ReelFiles, exists};
+use bytes_files::is_there;
 use machine_operations::TAPE_UNITS;
 use machine_reels::{Reel, TapFault, read_tap, write_tap};
 use machine_tapes::Tapes;
@@ -81,16 +83,6 @@ fn new_reel(rt: &(impl Files + AllocGlobal), name: &str) -> Result<Reel, RunFaul
     match empty_reel(rt.alloc()) {
         Ok(reel) => Ok(reel),
         Err(_) => Err(RunFault::Memory),
-    }
-}
-
-/// The fault of a file of this name that there is already.
-fn exists(alloc: Global, name: &str) -> RunFault
-    ensures { IsThere name.now result }
-{
-    match String::from_str(alloc, name) {
-        Ok(name) => RunFault::Exists(name),
-        Err(_) => RunFault::Memory,
     }
 }
 
@@ -165,89 +157,57 @@ pub(crate) fn read_reels(
     Ok(tapes)
 }
 
-/// The text of a reel.
-fn reel_text(alloc: Global, reel: &Reel) -> Result<Vec<u8>, RunFault>
-    ensures text { IfOk result (λ text. text.items ≡ tap_text (records_of reel.now)) }
-    ensures fault { IfErr result (λ why. why ≡ RunFault.Memory) }
+/// The text of a reel; `None` if memory for it is refused.
+fn reel_text(alloc: Global, reel: &Reel) -> Option<Vec<u8>>
+    ensures { IfSome result (λ text. text.items ≡ tap_text (records_of reel.now)) }
 {
     match write_tap(alloc, &reel.records()) {
-        Ok(text) => Ok(text),
-        Err(_) => Err(RunFault::Memory),
+        Ok(text) => Some(text),
+        Err(_) => None,
     }
 }
 
-/// Writes a reel to the file of this name, whole or not at all.
-///
-/// # Errors
-///
-/// `Unwritten` and `Memory`.
-fn put_reel(
-    rt: &(impl Files + Print + AllocGlobal),
-    name: &str,
-    reel: &Reel,
-) -> Result<(), RunFault>
-    ensures { IfErr result (IsNotPut name.now) }
-{
-    let text = match reel_text(rt.alloc(), reel) {
-        Ok(text) => text,
-        Err(_) => return Err(RunFault::Memory),
-    };
-    match put_whole(rt, name, text.as_slice()) {
-        Ok(()) => Ok(()),
-        Err(WriteFault::Memory) => Err(RunFault::Memory),
-        Err(WriteFault::Unwritten) => Err(unwritten_file(rt.alloc(), name)),
-    }
-}
-
-/// Writes a reel to a new file of this name, whole or not at all.
-///
-/// # Errors
-///
-/// `Unwritten`, `Exists` if the file is there, and `Memory`.
-fn put_new_reel(rt: &(impl Files + AllocGlobal), name: &str, reel: &Reel) -> Result<(), RunFault>
-    ensures { IfErr result (λ why. IsNotPut name.now why ⊎ IsThere name.now why) }
-{
-    let text = match reel_text(rt.alloc(), reel) {
-        Ok(text) => text,
-        Err(_) => return Err(RunFault::Memory),
-    };
-    match put_new(rt, name, text.as_slice()) {
-        Ok(()) => Ok(()),
-        Err(NewFault::Memory) => Err(RunFault::Memory),
-        Err(NewFault::Exists) => Err(exists(rt.alloc(), name)),
-        Err(NewFault::Unwritten) => Err(unwritten_file(rt.alloc(), name)),
-    }
-}
-
-/// Writes a reel if it has a ring and a file.
+/// Hands a reel over to be written if it has a ring and a file.
 ///
 /// # Errors
 ///
 /// `Unwritten`, `Exists` if a new reel's file is there, or `Memory`.
-fn write_reel(
-    rt: &(impl Files + Print + AllocGlobal),
+fn write_reel<D: ReelFiles>(
+    alloc: Global,
+    files: &mut D,
     source: &ReelSource,
     reel: &Reel,
 ) -> Result<(), RunFault>
-    ensures { IfErr result (IsUnwrittenOf source.now) }
+    ensures whole { OnOk result (HandsOver (D.handed files.old) (D.handed files.new)
+        (file_with (Some (tap_text (records_of reel.now))) source.now)) }
+    ensures handed { IsHandedOver (tap_text (records_of reel.now)) (λ text. file_with text source.now)
+        (D.handed files.old) (D.handed files.new) }
+    ensures fault { IfErr result (IsUnwrittenOf source.now) }
 {
     match source {
         ReelSource::File(_) | ReelSource::Scratch => Ok(()),
-        ReelSource::Ringed(name) => put_reel(rt, name.as_str(), reel),
-        ReelSource::New(name) => put_new_reel(rt, name.as_str(), reel),
+        ReelSource::Ringed(name) => files.put(name.as_str(), reel_text(alloc, reel)),
+        ReelSource::New(name) => files.put_new(name.as_str(), reel_text(alloc, reel)),
     }
 }
 
-/// Writes the reel of a unit if it has a ring and a file; a number that no unit has does nothing.
-fn write_mounted(
-    rt: &(impl Files + Print + AllocGlobal),
+/// Hands the reel of a unit over to be written if it has a ring and a file; a number that no unit has does nothing.
+#[tactic(auto, using(crate::proofs::HandedLemmas::hands_none))]
+fn write_mounted<D: ReelFiles>(
+    alloc: Global,
+    files: &mut D,
     tapes: &Tapes,
     mounted: &MountedReel,
 ) -> Result<(), RunFault>
-    ensures { IfErr result (IsUnwrittenOf mounted.now.reel) }
+    ensures whole { OnOk result (HandsOver (D.handed files.old) (D.handed files.new)
+        (file_of (Some (text_on tapes.now mounted.now.unit)) mounted.now)) }
+    ensures handed { IsHandedOver (text_on tapes.now mounted.now.unit) (λ text. file_of text mounted.now)
+        (D.handed files.old) (D.handed files.new) }
+    ensures fault { IfErr result (IsUnwrittenOf mounted.now.reel) }
 {
-    if tapes.has_unit(mounted.unit) {
-        write_reel(rt, &mounted.reel, &tapes.unit(mounted.unit).reel)
+    if 1 <= mounted.unit && mounted.unit <= TAPE_UNITS {
+        let drive = tapes.unit(mounted.unit);
+        write_reel(alloc, files, &mounted.reel, &drive.reel)
     } else {
         Ok(())
     }
@@ -255,7 +215,8 @@ fn write_mounted(
 
 /// The first of two outcomes, unless it is no fault.
 fn first_fault(first: Result<(), RunFault>, other: Result<(), RunFault>) -> Result<(), RunFault>
-    ensures { IfErr result (λ why. (first ≡ Err why) ⊎ (other ≡ Err why)) }
+    ensures fault { IfErr result (λ why. (first ≡ Err why) ⊎ (other ≡ Err why)) }
+    ensures both { OnOk result (IsOk first × IsOk other) }
 {
     match first {
         Ok(()) => other,
@@ -263,23 +224,30 @@ fn first_fault(first: Result<(), RunFault>, other: Result<(), RunFault>) -> Resu
     }
 }
 
-/// Writes those of these reels that have a ring and a file, each whole or not at all. If one isn't written, the others
-/// are written all the same.
+/// Hands over those of these reels that have a ring and a file, each with the text of the reel that is on its unit, to
+/// be written whole or not at all. If one isn't written, the others are handed over all the same.
 ///
 /// # Errors
 ///
 /// The first: `Unwritten` if a file isn't written, `Exists` if a new reel's file is there, or `Memory`.
-pub(crate) fn write_reels(
-    rt: &(impl Files + Print + AllocGlobal),
+#[tactic(auto, using(crate::proofs::HandedLemmas::whole_more, crate::proofs::HandedLemmas::handed_more, crate::proofs::HandedLemmas::whole_end))]
+pub(crate) fn write_reels<D: ReelFiles>(
+    alloc: Global,
+    files: &mut D,
     tapes: &Tapes,
     reels: &[MountedReel],
 ) -> Result<(), RunFault>
-    ensures { IfErr result (IsUnwrittenReel reels.now) }
+    ensures whole { OnOk result
+        (HandsOver (D.handed files.old) (D.handed files.new) (files_of tapes.now reels.now)) }
+
+    // Whatever isn't written, each is handed over, unless memory for its text is refused.
+    ensures handed { AreHandedOver tapes.now reels.now (D.handed files.old) (D.handed files.new) }
+    ensures fault { IfErr result (IsUnwrittenReel reels.now) }
 {
     let mut outcome = Ok(());
     let mut rest = reels;
     while let [first, beyond @ ..] = rest {
-        outcome = first_fault(outcome, write_mounted(rt, tapes, first));
+        outcome = first_fault(outcome, write_mounted(alloc, files, tapes, first));
         rest = beyond;
     }
     outcome

@@ -1,11 +1,13 @@
 //! What the subcommand `run` does.
-ghost use Rattle.std.specs.Prelude.{◌≡◌, true, Err, IfOk, IfErr, OnOk, option_map, string_bytes};
+ghost use Rattle.std.specs.Prelude.{◌≡◌, ◌⊎◌, true, Err, IfOk, IfErr, OnOk, option_map, string_bytes};
 ghost use Rattle.job_runner.specs.Unattended.{taped_with_deck};
 ghost use Rattle.program_run.specs.RunDeck.{IsAtEndOf, started_job};
 ghost use Rattle.program_run.specs.Run.{job_outcome};
 ghost use Rattle.program_run.specs.RunFile.{IsFaultOf, IsOfRun, IsUnwritten, written_names};
 ghost use Rattle.program_run.specs.RunJob.{HasHalted, ReportsJob, ReportsStop, begun_with, report_on, set_up};
 ghost use Rattle.program_run.specs.RunJob.{with_switches};
+ghost use Rattle.program_run.specs.RunEnd.{EndsAs, EndsWith, IfStopped, IsHalt};
+ghost use Rattle.program_run.specs.WrittenReels.{AreAllHandedOver};
 ghost use Rattle.program_call.specs.Sizes.{is_refused};
 
 use crate::deck_running::{Broken, run_started};
@@ -16,8 +18,9 @@ use crate::job_report::JobReport;
 use crate::loaded_image::store_image;
 use crate::one_file::{Clash, check_names};
 use crate::outputs::{FileOutputs, OutputFile, OutputNames, Outputs, create_outputs};
+use crate::reel_files::{NamedFiles, ReelFiles};
 use crate::reels::{read_reels, write_reels};
-use crate::watching::{Shown, Unwatched, Watch};
+use crate::watching::{Shown, Unwatched};
 use bytes_streams::{Sink, ToWriter};
 use cpu_1401::{Machine, Stop};
 use job_runner::CardList;
@@ -164,7 +167,6 @@ fn run_inputs<R: Files + Print + Eprint + Clock + AllocGlobal>(
 /// there is no reel, and `Exists` if a new reel's file is there; `Unloaded` if there is no image of what the deck has
 /// loaded; `Unwritten` or `Output` if a file can't be made, or paper, cards, trace or a reel aren't written; `Stopped` if
 /// the machine stopped otherwise than by a halt; or `Memory`. Reels are written whatever else isn't.
-#[tactic(auto, using(crate::proofs::RunJobLemmas::unread_reports, crate::proofs::RunJobLemmas::unstored_reports, crate::proofs::RunJobLemmas::unstored_fault, crate::proofs::RunJobLemmas::run_halted, crate::proofs::RunJobLemmas::run_stopped, crate::proofs::ReelLemmas::unmounted_reports))]
 pub fn run_file<R: Files + Print + Eprint + Clock + AllocGlobal>(
     rt: &R,
     error_output: ErrorOutput,
@@ -180,6 +182,41 @@ pub fn run_file<R: Files + Print + Eprint + Clock + AllocGlobal>(
     // No halt is told as a fault, and no size that there is; a deck that loads itself is neither source nor image; and
     // a fault of a file names one of the job's.
     ensures fault { IfErr result (IsFaultOf job) }
+{
+    run_job(rt, error_output, job, &mut NamedFiles::new(rt))
+}
+
+/// What was read for a job: a machine with its program and deck, and tape units with its reels.
+struct Begun {
+    inputs: Inputs,
+    tapes: Tapes,
+}
+
+/// Runs a program with its deck as `run_file` does, and hands its reels over to these files.
+///
+/// # Errors
+///
+/// As of `run_file`.
+#[tactic(auto, using(crate::proofs::RunJobLemmas::unread_reports, crate::proofs::RunJobLemmas::unstored_reports, crate::proofs::RunJobLemmas::unstored_fault, crate::proofs::RunJobLemmas::run_halted, crate::proofs::RunJobLemmas::run_stopped, crate::proofs::ReelLemmas::unmounted_reports, crate::proofs::EndLemmas::unread_untold, crate::proofs::EndLemmas::unstored_untold, crate::proofs::EndLemmas::unmounted_untold, crate::proofs::EndLemmas::job_halts, crate::proofs::EndLemmas::job_told))]
+pub fn run_job<R: Files + Print + Eprint + Clock + AllocGlobal, D: ReelFiles>(
+    rt: &R,
+    error_output: ErrorOutput,
+    job: Job,
+    files: &mut D,
+) -> Result<(), RunFault>
+    ensures size { is_refused job.size ≡ true → result ≡ Err RunFault.Size }
+    ensures halted { OnOk result (HasHalted job) }
+    ensures stopped { IfErr result (ReportsJob job) }
+    ensures fault { IfErr result (IsFaultOf job) }
+
+    // The files that are handed over are those of the reels that have a ring or are new, and the text of each is that of
+    // the reel which its unit has at the end of the job.
+    ensures ended { OnOk result (IsHalt (λ ending. EndsAs job ending (D.handed files.old) (D.handed files.new))) }
+    ensures told { IfErr result (IfStopped (λ ending. EndsAs job ending (D.handed files.old) (D.handed files.new))) }
+
+    // Whatever fault there is, either none is handed over, or each of them, with the text of what its unit has then.
+    ensures handed { (D.handed files.new ≡ D.handed files.old)
+        ⊎ AreAllHandedOver job.reels.items (D.handed files.old) (D.handed files.new) }
 {
     let Job {
         file,
@@ -240,28 +277,37 @@ pub fn run_file<R: Files + Print + Eprint + Clock + AllocGlobal>(
         Err(fault) => return Err(fault),
     }
     set_up(&mut inputs.machine, features, &switches);
-    run_and_tell(rt, error_output, inputs, tapes, start, limit, names)
+    let begun = Begun { inputs, tapes };
+    run_and_tell(rt, error_output, begun, start, limit, names, files)
 }
 
-/// Runs what was read, with these tape units, writes to the files of these names, and reports how it ended.
-#[tactic(auto, using(crate::proofs::RunJobLemmas::unwritten_reports, crate::proofs::ReelLemmas::unwritten_reel_reports, crate::proofs::ReelLemmas::unwritten_of_run))]
-fn run_and_tell<R: Files + Print + Eprint + Clock + AllocGlobal>(
+/// Runs what was read, writes to the files of these names, hands its reels over, and reports how it ended.
+#[tactic(auto, using(crate::proofs::RunJobLemmas::unwritten_reports, crate::proofs::ReelLemmas::unwritten_reel_reports, crate::proofs::ReelLemmas::unwritten_of_run, crate::proofs::EndLemmas::unwritten_untold))]
+fn run_and_tell<R: Files + Print + Eprint + Clock + AllocGlobal, D: ReelFiles>(
     rt: &R,
     error_output: ErrorOutput,
-    inputs: Inputs,
-    tapes: Tapes,
+    begun: Begun,
     start: Start,
     limit: u32,
     names: OutputNames,
+    files: &mut D,
 ) -> Result<(), RunFault>
     ensures halted { OnOk result
-        ((report_on start limit (begun_with inputs.machine tapes inputs.cards)).stop ≡ Stop.Halt) }
+        ((report_on start limit (begun_with begun.inputs.machine begun.tapes begun.inputs.cards)).stop ≡ Stop.Halt) }
     ensures stopped { IfErr result
-        (ReportsStop (report_on start limit (begun_with inputs.machine tapes inputs.cards))) }
+        (ReportsStop (report_on start limit (begun_with begun.inputs.machine begun.tapes begun.inputs.cards))) }
     ensures fault { IfErr result (IsOfRun (written_names (option_map string_bytes names.paper)
         (option_map string_bytes names.punch) (option_map string_bytes names.trace)
         (option_map string_bytes names.image) names.reels.items)) }
+    ensures ended { OnOk result (IsHalt (λ ending. EndsWith start limit
+        (begun_with begun.inputs.machine begun.tapes begun.inputs.cards) names.reels.items ending
+        (D.handed files.old) (D.handed files.new))) }
+    ensures told { IfErr result (IfStopped (λ ending. EndsWith start limit
+        (begun_with begun.inputs.machine begun.tapes begun.inputs.cards) names.reels.items ending
+        (D.handed files.old) (D.handed files.new))) }
+    ensures handed { AreAllHandedOver names.reels.items (D.handed files.old) (D.handed files.new) }
 {
+    let Begun { inputs, tapes } = begun;
     let Inputs {
         machine,
         cards,
@@ -269,7 +315,7 @@ fn run_and_tell<R: Files + Print + Eprint + Clock + AllocGlobal>(
     } = inputs;
     let mut taped = TapedMachine { machine, tapes };
     let ran = run_inputs(rt, error_output, &mut taped, &cards, start, limit, &names);
-    let written = write_reels(rt, &taped.tapes, names.reels.as_slice());
+    let written = write_reels(rt.alloc(), files, &taped.tapes, names.reels.as_slice());
     match ran {
         Ok(report) => {
             let ending = Ending::of(rt.alloc(), report, &taped, start, source.as_ref());

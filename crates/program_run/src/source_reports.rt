@@ -8,7 +8,7 @@ use autocoder_1401::{
 use autocoder_statements::Language;
 use autocoder_symbols::AsmFault;
 use program_call::size_for;
-use std::alloc::{AllocError, Global};
+use std::alloc::AllocError;
 
 /// How many warnings are printed at a time.
 const PAGE: usize = 1_000;

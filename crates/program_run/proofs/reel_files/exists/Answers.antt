@@ -1,6 +1,6 @@
 -- It is named.
 use Rattle.std.proofs.Common.{inr, refl}
-use Rattle.program_run.proofs.reels.exists.Goals as goal
+use Rattle.program_run.proofs.reel_files.exists.Goals as goal
 
 pub returns-in-Ok : goal.returns-in-Ok
 returns-in-Ok c = inr (c.in-Ok.name, refl, c.in-Ok.ensures.ok)

@@ -1,0 +1,59 @@
+-- How a run of files ends (own): what is told, and the reels that are handed over to be written.
+use Rattle.std.specs.Prelude.{◌≡◌, ℕ, ⊤, List, Option, option_map, string_bytes}
+use Rattle.cpu_1401.specs.State.{State}
+use Rattle.devices_1401.specs.declared.card.Card.{Card}
+use Rattle.machine_panel.specs.declared.stop.Stop.TheVariants as stop
+use Rattle.machine_tapes.specs.Tapes.{Tapes, no_tapes}
+use Rattle.machine_tapes.specs.declared.taped_machine.TapedMachine.{TapedMachine}
+use Rattle.program_call.specs.declared.call.Job.{Job}
+use Rattle.program_call.specs.declared.call.MountedReel.{MountedReel}
+use Rattle.program_call.specs.declared.call.Start.{Start}
+use Rattle.program_run.specs.ReelPlaces.{places_of}
+use Rattle.program_run.specs.RunDeck.{IsAtEndOf, started_job}
+use Rattle.program_run.specs.RunJob.{IsBegun, begun_with, report_on, set_up}
+use Rattle.program_run.specs.RunReels.{AreMounted}
+use Rattle.program_run.specs.WrittenReels.{ReelFile, HandsOver, files_of}
+use Rattle.program_run.specs.declared.ending.Ending.{Ending}
+use Rattle.program_run.specs.declared.fault.RunFault.{RunFault}
+use Rattle.program_run.specs.declared.fault.RunFault.TheVariants as fault
+
+-- the job of a machine that is started so has come to its end: what is told is its report and how far its reels are,
+-- and each file of a reel is handed over with the text of the reel on its unit
+pub record EndsWith (how : Start) (limit : ℕ) (begun : TapedMachine) (reels : List MountedReel) (ending : Ending)
+    (old new : Option (List ReelFile)) : Type 0 where
+  pub after : TapedMachine
+  pub end : IsAtEndOf (started_job how limit begun) after
+  pub report_is : ending.report ≡ report_on how limit begun
+  pub places_are : ending.reels ≡ places_of after.tapes
+  pub files : HandsOver old new (files_of after.tapes reels)
+
+-- the same of a job: its files are read, its reels are mounted, the machine is fitted and its switches are set
+pub record EndsAs (job : Job) (ending : Ending) (old new : Option (List ReelFile)) : Type 0 where
+  pub machine : State
+  pub cards : List Card
+  pub tapes : Tapes
+  pub begun : IsBegun job.start job.language job.size (option_map string_bytes job.cards) machine cards
+  pub reels : AreMounted job.reels.items no_tapes tapes
+  pub ended :
+      EndsWith job.start job.limit (begun_with (set_up job.features job.switches machine) tapes cards) job.reels.items
+      ending old new
+
+-- one of these endings, which is a halt
+abbrev pub IsHalt : (Ending → Type 0) → Type 0
+IsHalt Is = (ending : Ending) × Is ending × (ending.report.stop ≡ stop.Halt)
+
+-- a fault that tells of a stop has one of these endings
+abbrev pub IfStopped : (Ending → Type 0) → RunFault → Type 0
+IfStopped Is fault.Output = ⊤
+IfStopped Is fault.Size = ⊤
+IfStopped Is (fault.File name why) = ⊤
+IfStopped Is (fault.Unwritten name) = ⊤
+IfStopped Is (fault.OneFile first second) = ⊤
+IfStopped Is (fault.Deck name why) = ⊤
+IfStopped Is (fault.Unloaded why) = ⊤
+IfStopped Is (fault.Stopped ending) = Is ending
+IfStopped Is (fault.Source why) = ⊤
+IfStopped Is (fault.Image why) = ⊤
+IfStopped Is (fault.Reel name why) = ⊤
+IfStopped Is (fault.Exists name) = ⊤
+IfStopped Is fault.Memory = ⊤
