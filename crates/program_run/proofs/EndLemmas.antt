@@ -117,7 +117,7 @@ unwritten_reel_untold Is [] why is = absurd is
 unwritten_reel_untold Is (first ∷ reels) why (inl is) = unwritten_of_untold Is first.reel why is
 unwritten_reel_untold Is (first ∷ reels) why (inr is) = unwritten_reel_untold Is reels why is
 
--- what is told of a job that has ended
+-- what is reported of a job that has ended
 outcome_halts : (Is : Ending → Type 0) (ending : Ending) → Is ending → OnOk (job_outcome ending) (IsHalt Is)
 outcome_halts Is ending is = by ending.report.stop refl
   where

@@ -5,8 +5,7 @@ use Rattle.machine_tapes.specs.Tapes.{Tapes, unit_of}
 use Rattle.machine_tapes.specs.declared.drive.Drive.{Drive}
 use Rattle.program_run.specs.declared.ending.ReelPlace.{ReelPlace}
 
--- how many records the head of a unit has passed, and how many there are; nothing if it has no reel, that is, one that
--- has no room
+-- how many records the head of a unit has passed, and how many there are; nothing if its reel has no room: it is none
 abbrev pub place_of : Drive → Option ReelPlace
 place_of drive =
     if drive.reel.capacity == 0 then None

@@ -1,4 +1,4 @@
--- How a run of files ends (own): what is told, and the reels that are handed over to be written.
+-- How a run of files ends (own): what is reported, and the reels that are handed over to be written.
 use Rattle.std.specs.Prelude.{◌≡◌, ℕ, ⊤, List, Option, option_map, string_bytes}
 use Rattle.cpu_1401.specs.State.{State}
 use Rattle.devices_1401.specs.declared.card.Card.{Card}
@@ -17,8 +17,8 @@ use Rattle.program_run.specs.declared.ending.Ending.{Ending}
 use Rattle.program_run.specs.declared.fault.RunFault.{RunFault}
 use Rattle.program_run.specs.declared.fault.RunFault.TheVariants as fault
 
--- the job of a machine that is started so has come to its end: what is told is its report and how far its reels are,
--- and each file of a reel is handed over with the text of the reel on its unit
+-- the job of a machine that is started so has come to its end: its report, and how far its reels are, is what is
+-- reported, and each file of a reel is handed over with the text of the reel on its unit
 pub record EndsWith (how : Start) (limit : ℕ) (begun : TapedMachine) (reels : List MountedReel) (ending : Ending)
     (old new : Option (List ReelFile)) : Type 0 where
   pub after : TapedMachine
@@ -42,7 +42,7 @@ pub record EndsAs (job : Job) (ending : Ending) (old new : Option (List ReelFile
 abbrev pub IsHalt : (Ending → Type 0) → Type 0
 IsHalt Is = (ending : Ending) × Is ending × (ending.report.stop ≡ stop.Halt)
 
--- a fault that tells of a stop has one of these endings
+-- a fault that reports a stop has one of these endings
 abbrev pub IfStopped : (Ending → Type 0) → RunFault → Type 0
 IfStopped Is fault.Output = ⊤
 IfStopped Is fault.Size = ⊤

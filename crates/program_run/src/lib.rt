@@ -16,7 +16,7 @@ pub mod programs;
 mod reels;
 mod source_reports;
 
-// what it ends with, beside what is printed and punched
+// the files of its reels, which are written when it has ended
 pub mod reel_files;
 
 // a machine run with a deck; where what comes goes, and who hears of it

@@ -179,7 +179,7 @@ pub fn run_file<R: Files + Print + Eprint + Clock + AllocGlobal>(
     ensures halted { OnOk result (HasHalted job) }
     ensures stopped { IfErr result (ReportsJob job) }
 
-    // No halt is told as a fault, and no size that there is; a deck that loads itself is neither source nor image; and
+    // No halt is reported as a fault, and no size that there is; a deck that loads itself is neither source nor image; and
     // a fault of a file names one of the job's.
     ensures fault { IfErr result (IsFaultOf job) }
 {
