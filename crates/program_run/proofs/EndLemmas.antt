@@ -123,7 +123,7 @@ outcome_halts Is ending is = by ending.report.stop refl
   where
     by : (why : Stop) → ending.report.stop ≡ why → OnOk (outcome_after why ending) (IsHalt Is)
     by stop.Limit e = tt
-    by stop.Halt e = (ending, is, e)
+    by stop.Halt e = record { ending = ending; is = is; halt = e }
     by stop.Reader e = tt
     by stop.Forms e = tt
     by stop.Stacker e = tt
@@ -217,7 +217,11 @@ pub job_halts : (job : Job) (machine : State) (tapes : Tapes) (cards : List Card
     → OnOk result (IsHalt (EndsFor job machine tapes cards old new))
     → OnOk result (IsHalt (λ ending. EndsAs job ending old new))
 job_halts job machine tapes cards old new (Ok done) begun reels is =
-    (is.0, ends_as job machine tapes cards old new begun reels is.0 is.1, is.2)
+    record {
+      ending = is.ending;
+      is = ends_as job machine tapes cards old new begun reels is.ending is.is;
+      halt = is.halt;
+    }
 job_halts job machine tapes cards old new (Err why) begun reels is = tt
 
 pub job_told : (job : Job) (machine : State) (tapes : Tapes) (cards : List Card) (old new : Option (List ReelFile))

@@ -39,8 +39,10 @@ pub record EndsAs (job : Job) (ending : Ending) (old new : Option (List ReelFile
       ending old new
 
 -- one of these endings, which is a halt
-abbrev pub IsHalt : (Ending → Type 0) → Type 0
-IsHalt Is = (ending : Ending) × Is ending × (ending.report.stop ≡ stop.Halt)
+pub record IsHalt (Is : Ending → Type 0) : Type 0 where
+  pub ending : Ending
+  pub is : Is ending
+  pub halt : ending.report.stop ≡ stop.Halt
 
 -- a fault that reports a stop has one of these endings
 abbrev pub IfStopped : (Ending → Type 0) → RunFault → Type 0
