@@ -1,6 +1,7 @@
 -- What is handed over of reels, one after the other.
 use Rattle.std.proofs.Common.{◌≡◌, ℕ, List, [], ◌∷◌, ◌++◌, Option, None, Some, append_assoc, append-nil, ap, sym}
 use Rattle.std.proofs.Common.{◌∙◌, OnOk, Result, Ok, Err}
+use Rattle.std.proofs.lemmas.Bool.{false≢true}
 use Rattle.std.specs.Prelude.{⊤, IsOk, IfSome, option_map}
 use Rattle.machine_tapes.specs.Tapes.{Tapes}
 use Rattle.program_call.specs.declared.call.MountedReel.{MountedReel}
@@ -25,8 +26,8 @@ pub both_whole : (first other result : Result ⊤ RunFault) (P Q R : Type 0) →
     → OnOk first P → OnOk other Q → (P → Q → R) → OnOk result R
 both_whole first other (Err why) P Q R both one another then = tt
 both_whole (Ok a) (Ok b) (Ok c) P Q R both one another then = then one another
-both_whole (Err why) other (Ok c) P Q R both one another then = absurd both.0
-both_whole (Ok a) (Err why) (Ok c) P Q R both one another then = absurd both.1
+both_whole (Err why) other (Ok c) P Q R both one another then = absurd (false≢true both.0)
+both_whole (Ok a) (Err why) (Ok c) P Q R both one another then = absurd (false≢true both.1)
 
 -- what was handed over with a text that was made, or without one
 pub is_handed : {X : Type 0} (found : Option X) (items : X → List ℕ) (wanted : List ℕ)
