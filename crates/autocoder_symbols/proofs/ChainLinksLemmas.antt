@@ -1,7 +1,7 @@
 -- Links that are followed by doubling are followed one by one, to the ends of their chains.
 use Rattle.std.proofs.Common.{◌≡◌, ℕ, zero, suc, ◌+◌, ◌-◌, ◌^◌, ◌<◌, ◌≤◌, Bool, true, false, List, [], ◌∷◌, map, length}
 use Rattle.std.proofs.Common.{max, Option, None, Some, ◌⊎◌, inl, inr, refl, sym, ap, ◌∙◌, arith}
-use Rattle.std.specs.Prelude.{is_none, slice_get, position}
+use Rattle.std.specs.Prelude.{is_none, is_some, ◌||◌, slice_get, position}
 use Rattle.std.specs.List.{AllZip}
 use Rattle.std.specs.Option.{option_map, option_and_then, option_map_or, option_or}
 use Rattle.std.proofs.Math.IntN.{+ℤ_assoc}
@@ -11,7 +11,7 @@ use Rattle.std.proofs.lemmas.List.{length-map, map-id}
 use Rattle.std.proofs.lemmas.Option.{slice_get-map}
 use Rattle.std.proofs.lemmas.Simd.{map-map}
 use Rattle.autocoder_statements.specs.declared.label.Label.{Label}
-use Rattle.autocoder_symbols.specs.Chains.{chained, onward, twice, twice_over, one_by_one, IsFollowed, Chains, link_of}
+use Rattle.autocoder_symbols.specs.Chains.{chained, onward, go_on, twice, twice_over, one_by_one, IsFollowed, Chains, link_of}
 use Rattle.autocoder_symbols.specs.Symbols.{same_label}
 use Rattle.autocoder_symbols.specs.declared.chains.Link.{Link}
 
@@ -88,6 +88,39 @@ goes_no_further links this end =
 
 stays_at_end : (n : ℕ) (links : List Link) (this : Link) → this.next ≡ None → one_by_one n links this ≡ this
 stays_at_end n links this end = stays n links this (goes_no_further links this end)
+
+-- links of which none goes on are as far as their chains go
+none_goes_on : (all links : List Link) → go_on links ≡ false → map (onward all) links ≡ links
+none_goes_on all [] none = refl
+none_goes_on all (link ∷ links) none = by link.next refl none (none_goes_on all links)
+  where
+    by : (next : Option ℕ) → link.next ≡ next → (is_some next || go_on links) ≡ false
+        → (go_on links ≡ false → map (onward all) links ≡ links) → map (onward all) (link ∷ links) ≡ link ∷ links
+    by None end none rest = λ i. goes_no_further all link end i ∷ rest none i
+    by (Some k) is none rest = absurd (true≢false none)
+
+far_enough : (rounds : ℕ) (links : List Link) → go_on links ≡ false → twice_over rounds links ≡ links
+far_enough zero links none = refl
+far_enough (suc rounds) links none = ap twice (far_enough rounds links none) ∙ none_goes_on links links none
+
+-- some rounds and then more are their sum
+twice_over_sum : (rounds more : ℕ) (links : List Link)
+    → twice_over (rounds + more) links ≡ twice_over more (twice_over rounds links)
+twice_over_sum rounds zero links =
+    let same : rounds + 0 ≡ rounds = omega arith in
+    ap (λ k. twice_over k links) same
+twice_over_sum rounds (suc more) links =
+    let same : rounds + suc more ≡ suc (rounds + more) = omega arith in
+    ap (λ k. twice_over k links) same ∙ ap twice (twice_over_sum rounds more links)
+
+-- so once none goes on, more rounds change nothing
+pub far_by_then : (rounds all : ℕ) (links : List Link) → rounds ≤ all → go_on (twice_over rounds links) ≡ false
+    → twice_over rounds links ≡ twice_over all links
+far_by_then rounds all links less none =
+    let is : all ≡ rounds + (all - rounds) = omega (arith, less) in
+    sym (ap (λ k. twice_over k links) is
+    ∙ twice_over_sum rounds (all - rounds) links
+    ∙ far_enough (all - rounds) (twice_over rounds links) none)
 
 -- what is found in a list once each element is changed
 pub found_in_map : (f : Link → Link) (links : List Link) (next : Option ℕ)

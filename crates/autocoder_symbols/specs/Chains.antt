@@ -1,6 +1,6 @@
 -- Chains of EQUs: what a label stands for whose EQU names one without a value so far (C24-3258 and J24-1434, "EQU").
 use Rattle.std.specs.Prelude.{◌≡◌, ◌≢◌, ℕ, zero, suc, ◌+◌, ◌==◌, ◌+ℤ◌, Bool, false, not, ◌&&◌, if◌then◌else◌, List, []}
-use Rattle.std.specs.Prelude.{◌∷◌, ◌++◌, map, max, position, slice_get, ℤ, Option, Some, None}
+use Rattle.std.specs.Prelude.{◌∷◌, ◌++◌, map, max, position, slice_get, is_some, ℤ, Option, Some, None}
 use Rattle.std.specs.Option.{option_and_then, option_map_or, option_or}
 use Rattle.std.specs.List.{list_any, AllZip}
 use Rattle.autocoder_statements.specs.Description.{describe}
@@ -114,6 +114,10 @@ chained this that =
 -- a link with the one that it goes on at, if it goes on
 abbrev pub onward : List Link → Link → Link
 onward links this = option_map_or (chained this) (option_and_then (slice_get links) this.next) this
+
+-- a link of these goes on at another
+abbrev pub go_on : List Link → Bool
+go_on links = list_any (λ (link : Link). is_some link.next) links
 
 -- each link with the one that it goes on at: twice as far
 abbrev pub twice : List Link → List Link

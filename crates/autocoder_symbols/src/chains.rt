@@ -4,7 +4,7 @@ ghost use Rattle.indexmap.specs.IndexMap.{get};
 ghost use Rattle.autocoder_statements.specs.Statement.{is_end};
 ghost use Rattle.autocoder_symbols.specs.Chains.{no_chains, has_value, link_in_base, link_in, is_declared_here};
 ghost use Rattle.autocoder_symbols.specs.Chains.{with_link};
-ghost use Rattle.autocoder_symbols.specs.Chains.{with_line, links_from, joined, chained, onward, twice, twice_over};
+ghost use Rattle.autocoder_symbols.specs.Chains.{with_line, links_from, joined, chained, onward, go_on, twice, twice_over};
 ghost use Rattle.autocoder_symbols.specs.Chains.{doublings, followed, chains_in, link_of, unfollowed, AreFollowed};
 ghost use Rattle.autocoder_symbols.specs.Fault.{IsMemory};
 ghost use Rattle.autocoder_symbols.specs.Symbols.{same_label, up_to_end};
@@ -96,13 +96,28 @@ fn twice(alloc: Global, links: &[Link]) -> Result<Vec<Link>, AsmFault>
     Ok(further)
 }
 
-/// Each link as far as its chain goes.
+/// Whether one of the links goes on at another.
+fn go_on(links: &[Link]) -> bool
+    ensures { result ≡ go_on links.now }
+{
+    for link in links {
+        if link.next.is_some() {
+            return true;
+        }
+    }
+    false
+}
+
+/// Each link as far as its chain goes. Links of which none goes on aren't copied.
 fn far(alloc: Global, links: Vec<Link>) -> Result<Vec<Link>, AsmFault>
     ensures links { IfOk result (λ far. far.items ≡ twice_over doublings links.items) }
     ensures err { IfErr result IsMemory }
 {
     let mut far = links;
     for round in 0..DOUBLINGS {
+        if !go_on(&far) {
+            return Ok(far);
+        }
         far = twice(alloc, &far)?;
     }
     Ok(far)
@@ -194,9 +209,20 @@ fn link_named(
     }
 }
 
+/// Says of each link which link goes on.
+fn join(labels: &IndexSet<Label, SourceHashing>, links: &mut [Link]) -> Result<(), AsmFault>
+    ensures ok { OnOk result (links.new ≡ map (joined labels.now.keys) links.old) }
+    ensures err { IfErr result IsMemory }
+{
+    for link in links.iter_mut() {
+        link.next = link_named(labels, link.to)?;
+    }
+    Ok(())
+}
+
 impl Chains {
     /// None, with room for this many links. A source has few of them or very many, and links that grow leave pieces of
-    /// memory behind that nothing else fits.
+    /// memory that nothing else fits.
     pub(crate) fn with_capacity(
         alloc: Global,
         hashing: SourceHashing,
@@ -261,32 +287,14 @@ impl Chains {
         Ok(())
     }
 
-    /// Says of each link which link goes on.
-    fn join(&self, alloc: Global) -> Result<Vec<Link>, AsmFault>
-        ensures ok { IfOk result
-            (λ links. links.items ≡ map (joined (chains_view self.now).labels) (chains_view self.now).links) }
-        ensures err { IfErr result IsMemory }
-    {
-        let mut links = Vec::with_capacity(alloc, self.links.len())?;
-        for link in &self.links {
-            let next = link_named(&self.labels, link.to)?;
-            links.push(Link { next, ..*link })?;
-        }
-        Ok(links)
-    }
-
     /// Each link as far as its chain goes.
     fn followed(self, alloc: Global) -> Result<Chains, AsmFault>
         ensures ok { IfOk result (λ chains. chains_view chains ≡ followed (chains_view self)) }
         ensures err { IfErr result IsMemory }
     {
-        let joined = self.join(alloc)?;
-        let Chains {
-            labels,
-            links: before,
-        } = self;
-        drop(before);
-        let links = far(alloc, joined)?;
+        let Chains { labels, mut links } = self;
+        join(&labels, &mut links)?;
+        let links = far(alloc, links)?;
         Ok(Chains { labels, links })
     }
 
