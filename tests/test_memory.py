@@ -77,9 +77,8 @@ SAYING = {
     "EQUs": (0, lambda number: f"     {label(number):10}EQU  1\n"),
     "short statements": (0, lambda number: "               ORG  0\n"),
 }
-# An EQU of a number, and what a run takes for each byte of EQUs of its symbol above it: more than the others.
-LAST = b"     TAIL      EQU  1\n"
-EQUAL_BELOW_EACH = 9
+# Symbols that the last line of a source declares, a long one and a short one.
+TAILS = "TAIL", "T"
 
 
 def with_literals(number):
@@ -88,9 +87,9 @@ def with_literals(number):
     return f"               A    +{number + 1},-{number + 1}\n" + placed.decode() * (number % 100 == 99)
 
 
-def equal_below(number):
-    """An EQU of the symbol of the last one."""
-    return f"     {label(number):10}EQU  TAIL\n"
+def equal_below(tail):
+    """A line for each number, an EQU of this symbol; and the last line, which declares it."""
+    return lambda number: f"     {label(number):10}EQU  {tail}\n", f"     {tail:10}EQU  1\n".encode()
 
 
 # Areas that lines place again and again, where those above are: twelve large ones, and many small ones.
@@ -146,14 +145,14 @@ class MemoryTest(unittest.TestCase):
         self.assertEqual(ended, status, words)
         return kibibytes * 1_024
 
-    def expect_few(self, status, small, large, *words, most=MOST_EACH):
+    def expect_few(self, status, small, large, *words):
         """A call takes at most so many bytes for each byte of `file` more than it does for a short one."""
         file = self.folder / "file"
         file.write_bytes(small)
         before = self.peak(status, *words)
         file.write_bytes(large)
         each = (self.peak(status, *words) - before) / (len(large) - len(small))
-        self.assertLessEqual(each, most, f"{each:.1f} bytes of memory for a byte of {' '.join(words)}")
+        self.assertLessEqual(each, MOST_EACH, f"{each:.1f} bytes of memory for a byte of {' '.join(words)}")
 
     def test_a_deck_of_blank_cards_takes_a_few_bytes_a_card(self):
         self.expect_few(0, b"\n", b"\n" * MOST_BYTES, "run", "source", "--cards", "file")
@@ -266,10 +265,12 @@ class MemoryTest(unittest.TestCase):
                 self.expect_few(1, small, large, "operate", "--size", "16000", "file")
 
     def test_symbols_that_a_line_below_declares_take_a_few_bytes_a_byte(self):
-        small, large = (again(size, equal_below, LAST) for size in (SHORTER_BYTES // 4, SHORTER_BYTES))
-        for call, most in ("assemble", MOST_EACH), ("run", EQUAL_BELOW_EACH):
-            with self.subTest(call):
-                self.expect_few(0, small, large, call, "--language", "ibm", "file", most=most)
+        for tail in TAILS:
+            line, last = equal_below(tail)
+            small, large = (again(size, line, last) for size in (SHORTER_BYTES // 4, SHORTER_BYTES))
+            for call in "assemble", "run":
+                with self.subTest(f"{tail}: {call}"):
+                    self.expect_few(0, small, large, call, "--language", "ibm", "file")
 
     def test_sources_and_listings_take_a_few_bytes_a_byte(self):
         for name, ((first, again, last), call) in LISTED.items():

@@ -89,7 +89,7 @@ goes_no_further links this end =
 stays_at_end : (n : ℕ) (links : List Link) (this : Link) → this.next ≡ None → one_by_one n links this ≡ this
 stays_at_end n links this end = stays n links this (goes_no_further links this end)
 
--- links of which none goes on are as far as their chains go
+-- if none goes on, the links are as far as their chains go
 none_goes_on : (all links : List Link) → go_on links ≡ false → map (onward all) links ≡ links
 none_goes_on all [] none = refl
 none_goes_on all (link ∷ links) none = by link.next refl none (none_goes_on all links)

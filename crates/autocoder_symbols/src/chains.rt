@@ -108,7 +108,7 @@ fn go_on(links: &[Link]) -> bool
     false
 }
 
-/// Each link as far as its chain goes. Links of which none goes on aren't copied.
+/// Each link as far as its chain goes. Where none goes on, they aren't copied.
 fn far(alloc: Global, links: Vec<Link>) -> Result<Vec<Link>, AsmFault>
     ensures links { IfOk result (λ far. far.items ≡ twice_over doublings links.items) }
     ensures err { IfErr result IsMemory }
