@@ -232,7 +232,7 @@ impl Machine {
         requires next { this.next < addresses }
         ensures stop { result ≡ (perform_fitted Fitted.ModifyAddress this self.old).stop }
         ensures state { self.new ≡ (perform_fitted Fitted.ModifyAddress this self.old).state }
-        ensures unchanged { IfSome result (λ why. why ≢ Stop.Halt → self.new ≡ self.old) }
+        ensures unchanged { IfSome result (λ why. self.new ≡ self.old) }
         ensures limit { result ≢ Some Stop.Limit }
         ensures size { length self.new.storage ≡ length self.old.storage }
     {

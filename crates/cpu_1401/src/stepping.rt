@@ -1,5 +1,5 @@
 //! One step of the machine: the instruction, cached or decoded, then what the operation does.
-ghost use Rattle.std.specs.Prelude.{◌≡◌, ◌≢◌, ◌+◌, ◌%◌, ◌<◌, ◌&&◌, true, length, None, Some, IfSome, IfOk, IfErr};
+ghost use Rattle.std.specs.Prelude.{◌≡◌, ◌≢◌, ◌+◌, ◌%◌, ◌<◌, ◌&&◌, false, true, length, None, Some, IfSome, IfOk, IfErr};
 ghost use Rattle.core_1401.specs.Storage.{is_in_core};
 ghost use Rattle.core_1401.specs.Address.{addresses};
 ghost use Rattle.cpu_1401.specs.Chaining.{perform_keeping};
@@ -107,10 +107,35 @@ impl Machine {
         ensures limit { IfErr result (λ stop. stop ≢ Some Stop.Limit) }
         ensures size { length self.new.storage ≡ length self.old.storage }
     {
+        if self.modify_ready() {
+            return Err(None);
+        }
         match self.instruction_anew() {
             Ok(fetched) => Ok(fetched),
             Err(stop) => Err(stop),
         }
+    }
+
+    /// Carries out the instruction at the I register, and says so, if it is cached as one that modifies an address, its
+    /// own addresses are ready and all of its places are in core. A function of its own, so that the host saves few
+    /// registers for it.
+    #[inline(never)]
+    fn modify_ready(&mut self) -> bool
+        ensures stop { result ≡ true → (fitted_step self.old).stop ≡ None }
+        ensures state { result ≡ true → self.new ≡ (fitted_step self.old).state }
+        ensures same { result ≡ false → self.new ≡ self.old }
+        ensures size { length self.new.storage ≡ length self.old.storage }
+    {
+        let machine = &*self;
+        let Some(said) = machine.fitted.find(&machine.core, machine.i) else {
+            return false;
+        };
+        if !said.is_ready || said.fitted != Fitted::ModifyAddress {
+            return false;
+        }
+        let next = machine.i + said.len;
+        let this = machine.ready_fitted(said, next);
+        self.modify_address(this).is_none()
     }
 
     /// The same, apart from a step.
@@ -132,14 +157,7 @@ impl Machine {
     {
         let machine = &*self;
         let said = match machine.fitted.find(&machine.core, machine.i) {
-            Some(said) => {
-                if said.is_ready && said.fitted == Fitted::ModifyAddress {
-                    let next = machine.i + said.len;
-                    let this = machine.ready_fitted(said, next);
-                    return Err(self.modify_address(this));
-                }
-                *said
-            }
+            Some(said) => *said,
             None => match self.decoded_instruction() {
                 Ok(fetched) => return Ok(fetched),
                 Err(stop) => match self.decode_claimed(stop) {
