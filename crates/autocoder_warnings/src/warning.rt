@@ -1,6 +1,6 @@
 //! What a source without a fault says and hardly means.
 ghost use Rattle.std.specs.Prelude.{◌≡◌, ◌+◌, ◌<◌, ◌^◌, ◌++◌, [], length, replicate, take, All, Contains, IfOk, IfErr};
-ghost use Rattle.std.specs.Prelude.{OnOk, ℕ};
+ghost use Rattle.std.specs.Prelude.{OnOk, drop, ℕ};
 ghost use Rattle.std.specs.List.{filter};
 ghost use Rattle.machine_operations.specs.Operation.{longest_at};
 ghost use Rattle.machine_panel.specs.Features.{no_features};
@@ -510,7 +510,9 @@ pub struct LineFacts {
 
 /// What is known of all lines when one is warned of.
 #[derive(Drop)]
-struct Context {
+struct Context<'a> {
+    /// What is placed once all is.
+    all: &'a Placing<'a>,
     /// What the machine is fitted with.
     features: Features,
     /// What they say of labels, and which indicators they can set.
@@ -519,16 +521,17 @@ struct Context {
     storage: Vec<Cell>,
 }
 
-impl Context {
+impl<'a> Context<'a> {
     /// What is known of these lines for core storage of this size on a machine with these features, once all is placed.
     fn new(
         alloc: Global,
-        all: &Placing<'_>,
+        all: &'a Placing<'a>,
         size: u16,
         features: Features,
         lines: &Lines<'_>,
-    ) -> Result<Context, AsmFault>
+    ) -> Result<Context<'a>, AsmFault>
         requires { places_of all.now ≡ placed lines.now }
+        ensures all { IfOk result (λ this. this.all.now ≡ all.now) }
         ensures features { IfOk result (λ this. this.features ≡ features) }
         ensures notes { IfOk result (λ this. known_of this.notes ≡ known_with features lines.now) }
         ensures storage { IfOk result (λ this. this.storage.items ≡ filled size lines.now) }
@@ -537,6 +540,7 @@ impl Context {
         let notes = notes_with(alloc, all.hashing, features, lines)?;
         let storage = fill(alloc, all, size, lines)?;
         Ok(Context {
+            all,
             features,
             notes,
             storage,
@@ -659,7 +663,7 @@ fn card_lost(loss: Option<Loss>) -> Option<Loss>
 /// Adds the warnings of the line of this number.
 fn warn_of_line(
     warnings: &mut Vec<Warning>,
-    this: &Context,
+    this: &Context<'_>,
     number: u64,
     facts: LineFacts,
     line: &Line,
@@ -704,31 +708,32 @@ impl<'a> WarningsSoFar<'a> {
         })
     }
 
-    /// What is known of a line of this text by where it is, with this many lines above it and these after it. Its places
-    /// are filled by it afterwards.
+    /// What is known of a line of this text by where it is, with this many of the lines above it. Its places are filled
+    /// by it afterwards.
     fn facts(
         &mut self,
         alloc: Global,
-        all: &Placing<'a>,
+        all: &Placing<'_>,
         lines: &Lines<'_>,
         n: usize,
         text: &[u8],
         line: &Line,
-        beyond: &Lines<'_>,
     ) -> Result<LineFacts, AsmFault>
         requires few { length lines.now < 2 ^ 32 }
         requires line { n < length lines.now }
         ensures facts { IfOk result (λ facts. facts ≡ facts_of (address_or_zero (places_of self.old.so_far).next)
             (first_overlap self.old.fillers.items (take n lines.now)
-            (filled_by (places_of all.now) (places_of self.old.so_far) line.now beyond.now)) (loss_of text.now)) }
+            (filled_by (places_of all.now) (places_of self.old.so_far) line.now (drop (n + 1) lines.now)))
+            (loss_of text.now)) }
         ensures fillers { OnOk result (self.new.fillers.items ≡ with_filler (n + 1)
-            (filled_by (places_of all.now) (places_of self.old.so_far) line.now beyond.now).first
-            (filled_by (places_of all.now) (places_of self.old.so_far) line.now beyond.now).count
+            (filled_by (places_of all.now) (places_of self.old.so_far) line.now (drop (n + 1) lines.now)).first
+            (filled_by (places_of all.now) (places_of self.old.so_far) line.now (drop (n + 1) lines.now)).count
             self.old.fillers.items) }
         ensures same { (self.new.so_far ≡ self.old.so_far) × (self.new.warnings ≡ self.old.warnings) }
         ensures err { IfErr result IsMemory }
     {
-        let places = FilledPlaces::of_line(alloc, all, &self.so_far, line, beyond)?;
+        let beyond = lines.beyond(n);
+        let places = FilledPlaces::of_line(alloc, all, &self.so_far, line, &beyond)?;
         let overlap = put_places(&mut self.fillers, lines, n, places)?;
         Ok(LineFacts {
             address: self.so_far.address(),
@@ -737,18 +742,15 @@ impl<'a> WarningsSoFar<'a> {
         })
     }
 
-    /// Adds the warnings of a line of this text, with this many lines above it and these after it, and
-    /// places it.
+    /// Adds the warnings of a line of this text, with this many of the lines above it, and places it.
     fn put_line(
         &mut self,
         alloc: Global,
-        this: &Context,
-        all: &Placing<'a>,
+        this: &Context<'_>,
         lines: &Lines<'_>,
         n: usize,
         text: &[u8],
         line: &Line,
-        beyond: &Lines<'_>,
     ) -> Result<(), AsmFault>
         requires few { length lines.now < 2 ^ 32 }
         requires line { n < length lines.now }
@@ -756,17 +758,17 @@ impl<'a> WarningsSoFar<'a> {
             ++ line_warnings this.now.features (known_of this.now.notes) this.now.storage.items (n + 1)
             (facts_of (address_or_zero (places_of self.old.so_far).next)
             (first_overlap self.old.fillers.items (take n lines.now)
-            (filled_by (places_of all.now) (places_of self.old.so_far) line.now beyond.now)) (loss_of text.now))
-            line.now) }
+            (filled_by (places_of this.now.all.now) (places_of self.old.so_far) line.now (drop (n + 1) lines.now)))
+            (loss_of text.now)) line.now) }
         ensures fillers { OnOk result (self.new.fillers.items ≡ with_filler (n + 1)
-            (filled_by (places_of all.now) (places_of self.old.so_far) line.now beyond.now).first
-            (filled_by (places_of all.now) (places_of self.old.so_far) line.now beyond.now).count
+            (filled_by (places_of this.now.all.now) (places_of self.old.so_far) line.now (drop (n + 1) lines.now)).first
+            (filled_by (places_of this.now.all.now) (places_of self.old.so_far) line.now (drop (n + 1) lines.now)).count
             self.old.fillers.items) }
         ensures placed { OnOk result
             (places_of self.new.so_far ≡ placed_after (places_of self.old.so_far) line.now) }
         ensures err { IfErr result IsMemory }
     {
-        let facts = self.facts(alloc, all, lines, n, text, line, beyond)?;
+        let facts = self.facts(alloc, this.all, lines, n, text, line)?;
         warn_of_line(&mut self.warnings, this, n as u64 + 1, facts, line)?;
         self.so_far.place(line)?;
         Ok(())
@@ -776,8 +778,7 @@ impl<'a> WarningsSoFar<'a> {
     fn put_lines(
         &mut self,
         alloc: Global,
-        this: &Context,
-        all: &Placing<'a>,
+        this: &Context<'_>,
         source: &[u8],
         lines: &Lines<'_>,
     ) -> Result<(), AsmFault>
@@ -787,7 +788,7 @@ impl<'a> WarningsSoFar<'a> {
             ++ warnings_from this.now.features (known_of this.now.notes) this.now.storage.items 1
             (addresses_from (places_of self.old.so_far) lines.now)
             (overlaps_from lines.now self.old.fillers.items 0
-            (filled_from (places_of all.now) (places_of self.old.so_far) lines.now))
+            (filled_from (places_of this.now.all.now) (places_of self.old.so_far) lines.now))
             (losses_of source.now) lines.now) }
         ensures err { IfErr result IsMemory }
     {
@@ -796,8 +797,7 @@ impl<'a> WarningsSoFar<'a> {
             let Some((text, rest)) = split_line(sources) else {
                 unreachable!()
             };
-            let beyond = lines.beyond(i);
-            self.put_line(alloc, this, all, lines, i, text, &lines.line(i), &beyond)?;
+            self.put_line(alloc, this, lines, i, text, &lines.line(i))?;
             sources = rest;
         }
         Ok(())
@@ -807,8 +807,7 @@ impl<'a> WarningsSoFar<'a> {
     fn finish(
         self,
         alloc: Global,
-        this: &Context,
-        all: &Placing<'a>,
+        this: &Context<'_>,
         source: &[u8],
         lines: &Lines<'_>,
     ) -> Result<Vec<Warning>, AsmFault>
@@ -818,12 +817,12 @@ impl<'a> WarningsSoFar<'a> {
             ++ warnings_from this.now.features (known_of this.now.notes) this.now.storage.items 1
             (addresses_from (places_of self.entry.so_far) lines.now)
             (overlaps_from lines.now self.entry.fillers.items 0
-            (filled_from (places_of all.now) (places_of self.entry.so_far) lines.now))
+            (filled_from (places_of this.now.all.now) (places_of self.entry.so_far) lines.now))
             (losses_of source.now) lines.now) }
         ensures err { IfErr result IsMemory }
     {
         let mut made = self;
-        made.put_lines(alloc, this, all, source, lines)?;
+        made.put_lines(alloc, this, source, lines)?;
         Ok(made.warnings)
     }
 }
@@ -847,7 +846,7 @@ fn warnings_placed(
 {
     let this = Context::new(alloc, all, size, features, lines)?;
     let made = WarningsSoFar::new(alloc, all, size)?;
-    made.finish(alloc, &this, all, source, lines)
+    made.finish(alloc, &this, source, lines)
 }
 
 /// The chains of EQUs of lines.

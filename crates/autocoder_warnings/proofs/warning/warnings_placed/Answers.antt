@@ -27,9 +27,11 @@ returns-clause-ok c =
     (overlaps_from lines fillers 0 (filled_from all above lines)) (losses_of source) lines in
     let all = places_of c.args.all.now in
     let features = c.args.features in
-    let same : of this.features made.warnings.items (known_of this.notes) this.storage.items all (places_of made.so_far)
-    made.fillers.items ≡ all_warnings features size source lines =
-    ap (λ (fitted : Features). of fitted made.warnings.items (known_of this.notes) this.storage.items all
+    let same : of this.features made.warnings.items (known_of this.notes) this.storage.items (places_of this.all.now)
+    (places_of made.so_far) made.fillers.items ≡ all_warnings features size source lines =
+    ap (λ (whole : Placement). of this.features made.warnings.items (known_of this.notes) this.storage.items whole
+    (places_of made.so_far) made.fillers.items) (ap places_of c.in_ok-this.ensures.all)
+    ∙ ap (λ (fitted : Features). of fitted made.warnings.items (known_of this.notes) this.storage.items all
     (places_of made.so_far) made.fillers.items) c.in_ok-this.ensures.features
     ∙ ap (λ (so_far : List Warning). of features so_far (known_of this.notes) this.storage.items all (places_of made.so_far)
     made.fillers.items) c.in_ok-made.ensures.warnings

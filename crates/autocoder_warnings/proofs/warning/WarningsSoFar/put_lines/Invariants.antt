@@ -15,13 +15,13 @@ invariant-loop-i l = record {
       ++ warnings_from l.this.features (known_of l.this.notes) l.this.storage.items (l.i + 1)
       (addresses_from (places_of l.self.so_far) (drop l.i l.lines))
       (overlaps_from l.lines l.self.fillers.items l.i
-      (filled_from (places_of l.all) (places_of l.self.so_far) (drop l.i l.lines)))
+      (filled_from (places_of l.this.all.now) (places_of l.self.so_far) (drop l.i l.lines)))
       (map loss_of (lines_of l.sources)) (drop l.i l.lines)
       ≡ l.initial.self.warnings.items
       ++ warnings_from l.this.features (known_of l.this.notes) l.this.storage.items 1
       (addresses_from (places_of l.initial.self.so_far) l.lines)
       (overlaps_from l.lines l.initial.self.fillers.items 0
-      (filled_from (places_of l.all) (places_of l.initial.self.so_far) l.lines))
+      (filled_from (places_of l.this.all.now) (places_of l.initial.self.so_far) l.lines))
       (map loss_of (lines_of l.source)) l.lines;
   left : length (drop l.i l.lines) ≡ length (lines_of l.sources);
 }
