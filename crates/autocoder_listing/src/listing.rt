@@ -69,6 +69,15 @@ impl Listing {
     }
 }
 
+/// A line of the source as it is written.
+#[derive(Clone, Copy, Debug)]
+pub(crate) struct WrittenLine<'s> {
+    /// Its number, counted from 1.
+    pub number: u64,
+    /// Its bytes.
+    pub text: &'s [u8],
+}
+
 /// Adds the number of a line of the source, an address, cells and the line itself.
 fn put_columns(
     text: &mut Vec<u8>,
@@ -244,13 +253,13 @@ fn line_for<'a>(
     alloc: Global,
     all: &Placing<'a>,
     so_far: &Placing<'a>,
-    number: u64,
-    source: &[u8],
+    source: WrittenLine<'_>,
     line: &Line,
     beyond: &Lines<'_>,
 ) -> Result<ListingLine, AsmFault>
     ensures ok { IfOk result (λ text. text
-        ≡ line_for (places_of all.now) (places_of so_far.now) number source.now line.now.statement beyond.now) }
+        ≡ line_for (places_of all.now) (places_of so_far.now) source.entry.number source.entry.text.now
+        line.now.statement beyond.now) }
     ensures err { IfErr result IsMemory }
 {
     match &line.statement {
@@ -258,9 +267,9 @@ fn line_for<'a>(
             let row = statement.body.describe();
             let address = address_shown(all, so_far, &statement.body, &row)?;
             let cells = cells_at(alloc, all, so_far, &row, beyond)?;
-            listing_line(alloc, Some(number), address, &cells, source)
+            listing_line(alloc, Some(source.number), address, &cells, source.text)
         },
-        None => listing_line(alloc, Some(number), None, &[], source),
+        None => listing_line(alloc, Some(source.number), None, &[], source.text),
     }
 }
 
@@ -269,8 +278,7 @@ pub(crate) fn list_line<'a>(
     alloc: Global,
     all: &Placing<'a>,
     so_far: &Placing<'a>,
-    number: u64,
-    source: &[u8],
+    source: WrittenLine<'_>,
     line: &Line,
     beyond: &Lines<'_>,
     lines: &mut Vec<ListingLine>,
@@ -278,11 +286,11 @@ pub(crate) fn list_line<'a>(
     ensures listed { OnOk result (lines.new.items ≡ lines.old.items
         ++ (literal_lines (places_of all.now) (start_of (places_of so_far.now) line.now.statement)
         (literals_in (places_of so_far.now) line.now.statement)
-        ++ line_for (places_of all.now) (places_of so_far.now) number source.now line.now.statement beyond.now
-        ∷ [])) }
+        ++ line_for (places_of all.now) (places_of so_far.now) source.entry.number source.entry.text.now
+        line.now.statement beyond.now ∷ [])) }
     ensures err { IfErr result IsMemory }
 {
     put_literals_of(alloc, all, so_far, line, lines)?;
-    lines.push(line_for(alloc, all, so_far, number, source, line, beyond)?)?;
+    lines.push(line_for(alloc, all, so_far, source, line, beyond)?)?;
     Ok(())
 }

@@ -6,7 +6,7 @@ ghost use Rattle.autocoder_placing.specs.Placement.{start_of, placed_after, unpl
 ghost use Rattle.autocoder_placing.specs.View.{places_of};
 ghost use Rattle.autocoder_listing.specs.Listing.{literal_lines, literals_in, line_for, listing_from};
 
-use crate::listing::{Listing, ListingLine, list_line};
+use crate::listing::{Listing, ListingLine, WrittenLine, list_line};
 use autocoder_placing::Placing;
 use autocoder_statements::{Line, split_line};
 use autocoder_symbols::{AsmFault, Lines};
@@ -27,16 +27,15 @@ impl<'a> ListingSoFar<'a> {
         &mut self,
         alloc: Global,
         all: &Placing<'a>,
-        number: u64,
-        source: &[u8],
+        source: WrittenLine<'_>,
         line: &Line,
         beyond: &Lines<'_>,
     ) -> Result<(), AsmFault>
         ensures listed { OnOk result (self.new.listing.items ≡ self.old.listing.items
             ++ (literal_lines (places_of all.now) (start_of (places_of self.old.so_far) line.now.statement)
             (literals_in (places_of self.old.so_far) line.now.statement)
-            ++ line_for (places_of all.now) (places_of self.old.so_far) number source.now line.now.statement beyond.now
-            ∷ [])) }
+            ++ line_for (places_of all.now) (places_of self.old.so_far) source.entry.number source.entry.text.now
+            line.now.statement beyond.now ∷ [])) }
         ensures placed { OnOk result
             (places_of self.new.so_far ≡ placed_after (places_of self.old.so_far) line.now) }
         ensures err { IfErr result IsMemory }
@@ -45,7 +44,6 @@ impl<'a> ListingSoFar<'a> {
             alloc,
             all,
             &self.so_far,
-            number,
             source,
             line,
             beyond,
@@ -76,7 +74,11 @@ impl<'a> ListingSoFar<'a> {
                 unreachable!()
             };
             let later = lines.beyond(i);
-            self.put_line(alloc, all, i as u64 + 1, text, line, &later)?;
+            let written = WrittenLine {
+                number: i as u64 + 1,
+                text,
+            };
+            self.put_line(alloc, all, written, line, &later)?;
             sources = beyond;
         }
         Ok(())
