@@ -20,6 +20,15 @@ use std::time::Clock;
 /// How many connections may end after their seats are free.
 const MOST_ENDING: u64 = 64;
 
+/// A connection that has a seat.
+#[derive(Drop)]
+struct Arrival {
+    /// The connection.
+    stream: TcpStream,
+    /// The number of its seat.
+    number: u8,
+}
+
 /// Accepts connections until the room is being closed, or one couldn't be accepted.
 pub fn accept_each<'s, E: 's, J, H, K, R, D>(
     scope: &Scope<'s, E>,
@@ -43,7 +52,8 @@ where
         };
         match admit(rt, service) {
             Admission::Given(number) => {
-                start_console(scope, alloc, rt, room, service, stream, number, door);
+                let arrival = Arrival { stream, number };
+                start_console(scope, alloc, rt, room, service, arrival, door);
             }
             Admission::Full => refuse(&stream),
             Admission::Closing => return,
@@ -51,23 +61,22 @@ where
     }
 }
 
-/// Attends the console of a connection at the seat of this number.
+/// Attends the console of a connection at its seat.
 fn attend_connection<J: RoomId, H: Wait + Drop, K: Keeper + Drop, R: Wait + Clock, D: Door>(
     alloc: Global,
     rt: &R,
     room: &SharedRoom<J, H, K>,
     service: &SeatService<J>,
-    stream: TcpStream,
-    number: u8,
+    arrival: Arrival,
     door: &D,
 )
-    requires { (0 < number) × (number ≤ J.seats) }
+    requires { (0 < arrival.number) × (arrival.number ≤ J.seats) }
 {
-    let Some(seat) = service.desk.lock(rt).take_seat(number) else {
+    let Some(seat) = service.desk.lock(rt).take_seat(arrival.number) else {
         return;
     };
-    let seat = attend_stream(alloc, rt, room, service, seat, &stream, door);
-    end_connection(rt, service, seat, &stream);
+    let seat = attend_stream(alloc, rt, room, service, seat, &arrival.stream, door);
+    end_connection(rt, service, seat, &arrival.stream);
 }
 
 /// Attends the console of a stream until its input ends, or the service closes.
@@ -129,8 +138,7 @@ fn start_console<'s, E: 's, J, H, K, R, D>(
     rt: &'s R,
     room: &'s SharedRoom<J, H, K>,
     service: &'s SeatService<J>,
-    stream: TcpStream,
-    number: u8,
+    arrival: Arrival,
     door: &'s D,
 )
 where
@@ -139,12 +147,13 @@ where
     K: Keeper + Drop + Send + Sync + 's,
     R: Threads + Wait + Sync + Clock + 's,
     D: Door + Sync + 's,
-    requires { (0 < number) × (number ≤ J.seats) }
+    requires { (0 < arrival.number) × (arrival.number ≤ J.seats) }
 {
+    let number = arrival.number;
     let started = scope.spawn(
         move ||
-            requires { (0 < number) × (number ≤ J.seats) }
-        { attend_connection(alloc, rt, room, service, stream, number, door) },
+            requires { (0 < arrival.number) × (arrival.number ≤ J.seats) }
+        { attend_connection(alloc, rt, room, service, arrival, door) },
     );
     if started.is_err() {
         service.desk.lock(rt).go_without_thread(number);
