@@ -45,19 +45,29 @@ fn put_place(
     }
 }
 
-/// Adds the lines of the places from one up to another, so many at most.
+/// What a listing covers.
+#[derive(Clone, Copy, Debug, PartialEq, Eq)]
+struct Extract {
+    /// The address of the first line.
+    first: u16,
+    /// The address after the last place.
+    end: u16,
+    /// How many lines there are at most.
+    most: u16,
+}
+
+/// Adds the lines of the places that a listing covers.
 fn put_list(
     alloc: Global,
     text: &mut Vec<u8>,
     program: &Program,
     machine: &Machine,
     stops: &Stops,
-    first: u16,
-    end: u16,
-    most: u16,
+    extract: Extract,
 ) -> Result<(), AllocError>
-    requires { end ≤ length machine.now.storage }
+    requires { extract.end ≤ length machine.now.storage }
 {
+    let Extract { first, end, most } = extract;
     let core = machine.core();
     let mut at = first;
     for _ in 0..most {
@@ -80,8 +90,12 @@ fn put_list_from(
     stops: &Stops,
     first: u16,
 ) -> Result<(), AllocError> {
-    let end = machine.core().size();
-    put_list(alloc, text, program, machine, stops, first, end, LINES)
+    let extract = Extract {
+        first,
+        end: machine.core().size(),
+        most: LINES,
+    };
+    put_list(alloc, text, program, machine, stops, extract)
 }
 
 /// Adds ten lines from the first of the places on that a place alone names: a label names all of its own.
@@ -116,8 +130,12 @@ fn put_list_of(
         Ok((first, count)) => {
             // No core storage has more places than there are addresses.
             let _ = machine.core().size();
-            let end = first + count;
-            put_list(alloc, text, program, machine, stops, first, end, count)?;
+            let extract = Extract {
+                first,
+                end: first + count,
+                most: count,
+            };
+            put_list(alloc, text, program, machine, stops, extract)?;
             Ok(())
         }
     }
