@@ -2,7 +2,8 @@
 //!
 //! ```text
 //! let site = Site::new(alloc, 8080, None)?;              // at http://127.0.0.1:8080/
-//! let mut page = SeatPage::new(alloc, rt, &room, seat, 8, &site, name.as_slice(), &document());
+//! let shown = RoomShown { seats: 8, name: name.as_slice() };
+//! let mut page = SeatPage::new(alloc, rt, &room, seat, shown, &site, &document());
 //! answer_page(rt, &mut page, &mut requests);             // its requests in turn, to the last one
 //! page.into_seat()                                       // the seat, with all that it made
 //! ```
@@ -31,7 +32,7 @@ pub use asked::{Asked, asked_by};
 pub use elsewhere::tell_address;
 pub use listening::answer_page;
 pub use picture_lines::picture_text;
-pub use seat_page::SeatPage;
+pub use seat_page::{RoomShown, SeatPage};
 pub use serving_http::{
     Document, Origin, Requests, RoomName, Route, Site, TakenSeat, WholeRequest, answer,
     answer_bytes, answer_each, has_begun, is_accepted, linger, page_config, read_request, route_of,

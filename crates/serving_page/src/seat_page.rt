@@ -23,6 +23,15 @@ use std::alloc::{AllocError, Global};
 use std::marker::Model;
 use std::sync::Wait;
 
+/// The room of a page, as its pictures show it.
+#[derive(Clone, Copy)]
+pub struct RoomShown<'a> {
+    /// How many seats it has.
+    pub seats: u8,
+    /// Its name.
+    pub name: &'a [u8],
+}
+
 /// The page of a seat, at a port of the loopback, and perhaps at an origin outside. Contracts see how many seats there
 /// are, the port, that origin, the room's name, the page with what its browser may do with it, and what the seat knows.
 #[derive(Drop)]
@@ -58,24 +67,22 @@ impl<'a, J: RoomId, R: Wait + Drop, P: Keeper + Drop, W: Wait> Model for SeatPag
 }
 
 impl<'a, J: RoomId, R: Wait + Drop, P: Keeper + Drop, W: Wait> SeatPage<'a, J, R, P, W> {
-    /// The page of one of the `seats` seats of the room of this name, which is served where this site is, and nowhere
-    /// else.
+    /// The page of a seat of the room that is shown so, which is served where this site is, and nowhere else.
     pub fn new(
         alloc: Global,
         wait: &'a W,
         room: &'a SharedRoom<J, R, P>,
         seat: Seat<J>,
-        seats: u8,
+        shown: RoomShown<'a>,
         site: &'a Site,
-        name: &'a [u8],
         document: &Document,
     ) -> SeatPage<'a, J, R, P, W>
         requires { IsTrue (is_visible_text document.now.policy.now) }
         ensures { result ≡ record {
-          seats = seats;
+          seats = shown.entry.seats;
           port = site.now.port;
           outside = site.now.outside;
-          name = name.now;
+          name = shown.entry.name.now;
           page = document.now.first.now ++ document.now.rest.now;
           policy = document.now.policy.now;
           seat = seat;
@@ -86,9 +93,9 @@ impl<'a, J: RoomId, R: Wait + Drop, P: Keeper + Drop, W: Wait> SeatPage<'a, J, R
             wait,
             room,
             seat,
-            seats,
+            seats: shown.seats,
             site,
-            name,
+            name: shown.name,
             document: *document,
         }
     }

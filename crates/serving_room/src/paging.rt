@@ -8,7 +8,7 @@ use crate::visits::Visits;
 use crossbeam_channel::{Receiver, Sender, bounded};
 use room_1401::{Keeper, RoomId, Seat, SharedRoom};
 use serving_page::document::document;
-use serving_page::{SeatPage, Site, TakenPage, answer_each, answer_page};
+use serving_page::{RoomShown, SeatPage, Site, TakenPage, answer_each, answer_page};
 use serving_seats::SeatsFault;
 use std::alloc::AllocGlobal;
 use std::net::TcpListener;
@@ -212,14 +212,17 @@ where
     ensures { result.number ≡ seat.number }
 {
     let rt = page.serving.rt;
+    let shown = RoomShown {
+        seats,
+        name: page.name.as_slice(),
+    };
     let mut page = SeatPage::new(
         rt.alloc(),
         rt,
         room,
         seat,
-        seats,
+        shown,
         &page.port.site,
-        page.name.as_slice(),
         &document(),
     );
     answer_page(rt, &mut page, visits);
