@@ -153,22 +153,25 @@ class Stops(TapesTest):
 
     def test_reasons(self):
         reel, ring, scratch = f"1={self.reel}", f"1={self.reel}:ring", "1=:scratch"
-        for done, area, reels, stop, why in [
-            (READ, AREA, [f"2={self.reel}"], "TAPE", "tape unit 1 has no reel"),
-            (UNLOAD + READ, AREA, [reel], "TAPE", "tape unit 1 was unloaded"),
-            (WRITE, AREA, [reel], "TAPE", "the reel on tape unit 1 has no ring"),
-            (TAPE_MARK, AREA, [reel], "TAPE", "the reel on tape unit 1 has no ring"),
-            (READ + READ + READ, AREA, [reel], "TAPE", "no record follows record 2 on tape unit 1"),
-            (READ, AREA, [scratch], "TAPE", "the reel on tape unit 1 has no record"),
-            (WRITE, "AB", [ring], "ADDRESS", "no group mark with a word mark from 201 up"),
-            (WRITE, '~"', [ring], "ADDRESS", "the record to write from 201 is empty"),
-            ("~M%U1I99R", AREA, [reel], "ADDRESS", "the record to read to 3999 doesn't fit in core"),
-            ("~M%U1201X", AREA, [reel], "DCHAR", "the d-character X means nothing to the operation M"),
+        for done, area, reels, stop, text, why in [
+            (READ, AREA, [f"2={self.reel}"], "TAPE", "MCW %U1,201,R", "tape unit 1 has no reel"),
+            (UNLOAD + READ, AREA, [reel], "TAPE", "MCW %U1,201,R", "tape unit 1 was unloaded"),
+            (WRITE, AREA, [reel], "TAPE", "MCW %U1,201,W", "the reel on tape unit 1 has no ring"),
+            (TAPE_MARK, AREA, [reel], "TAPE", "CU %U1,M", "the reel on tape unit 1 has no ring"),
+            (READ * 3, AREA, [reel], "TAPE", "MCW %U1,201,R", "no record follows record 2 on tape unit 1"),
+            (READ, AREA, [scratch], "TAPE", "MCW %U1,201,R", "the reel on tape unit 1 has no record"),
+            (WRITE, "AB", [ring], "ADDRESS", "MCW %U1,201,W", "no group mark with a word mark from 201 up"),
+            (WRITE, '~"', [ring], "ADDRESS", "MCW %U1,201,W", "the record to write from 201 is empty"),
+            ("~M%U1I99R", AREA, [reel], "ADDRESS", "MCW %U1,3999,R", "the record to read to 3999 doesn't fit in core"),
+            ("~L%B1201X", AREA, [reel], "DCHAR", "LCA %B1,201,X", "the d-character X means nothing to the operation L"),
+            # What names no unit is an address, and so is what a machine without tape units is given.
+            ("~M%U9201R", AREA, [reel], "NOTFITTED", "MCW 1449+X1,201,R", "no tape unit has this name"),
+            (READ, AREA, [], "NOTFITTED", "MCW 1441+X1,201,R", "the operation M isn't fitted with 8 characters"),
         ]:
             self.put(done, area)
             ran = self.run_with(*reels)
-            found = re.fullmatch(rb"ibm1401: (\w+) at \d{4} \(.*\): (.*) after \d+ steps?; .*\n", ran.stderr)
-            self.same(why, found and [each.decode() for each in found.groups()], [stop, why])
+            found = re.fullmatch(rb"ibm1401: (\w+) at \d{4} \((.*)\): (.*) after \d+ steps?; .*\n", ran.stderr)
+            self.same(why, found and [each.decode() for each in found.groups()], [stop, text, why])
 
     def test_nothing_is_loaded(self):
         empty = self.folder / "empty.tap"

@@ -149,7 +149,7 @@ impl Ending {
     {
         let machine = &taped.machine;
         let at = stop_address(report, machine);
-        let instruction = match instruction_text(alloc, machine.core(), at, source) {
+        let instruction = match instruction_text(alloc, machine, at, source) {
             Ok(text) => text,
             Err(_) => None,
         };
