@@ -11,12 +11,12 @@ ghost use Rattle.operate_sitting.specs.Sitting.{machine_of};
 use crate::carrying::carry_all;
 use crate::desk::Desk;
 use crate::ends::OperateEnd;
-use crate::extent::Extent;
+use crate::extent::{Asked, Extent};
 use crate::faults::{put_no_act, put_no_file, put_no_look, put_no_place, put_refusal, put_refused};
-use crate::manner::Manner;
 use crate::notebook::Notebook;
 use crate::rounds::tend;
 use crate::running::run;
+use crate::setting::Setting;
 use crate::terminal::Terminal;
 use bytes_streams::{Sink, Source};
 use cpu_1401::Machine;
@@ -172,9 +172,7 @@ fn do_commands<K: Keeper + Drop>(
 /// `until ADDRESS`.
 #[tactic(auto, using(crate::proofs::LineLemmas::until_did, crate::proofs::LineLemmas::until_nowhere))]
 fn do_until<K: Keeper + Drop, D: Desk, R: Source + Terminal, W: Sink>(
-    alloc: Global,
-    program: &Program,
-    manner: &Manner,
+    setting: &Setting,
     notebook: &mut Notebook,
     sitting: &mut Sitting<K>,
     place: &Place,
@@ -183,17 +181,23 @@ fn do_until<K: Keeper + Drop, D: Desk, R: Source + Terminal, W: Sink>(
     writer: &mut W,
 ) -> Result<(), OperateEnd>
     requires { R.has_failed reader.old ≡ false }
-    ensures did { UntilDid manner.now.limit (is_cut (is_err result) notebook.new)
-        (address_of program.now (machine_of sitting.old) place.now)
+    ensures did { UntilDid setting.now.manner.now.limit (is_cut (is_err result) notebook.new)
+        (address_of setting.now.program.now (machine_of sitting.old) place.now)
         (at_console sitting.old notebook.old) (at_console sitting.new notebook.new) }
     ensures good { OnOk result (R.has_failed reader.new ≡ false) }
 {
+    let Setting {
+        alloc,
+        program,
+        manner,
+    } = *setting;
     match program.address(sitting.machine(), place) {
         Ok(address) => {
-            let extent = Extent::new(None, manner).up_to(address);
-            run(
-                alloc, program, manner, notebook, sitting, &extent, desk, reader, writer,
-            )
+            let asked = Asked {
+                setting: *setting,
+                extent: Extent::new(None, manner).up_to(address),
+            };
+            run(&asked, notebook, sitting, desk, reader, writer)
         }
         Err(fault) => match put_no_place(alloc, notebook, program, &fault) {
             Ok(()) => Ok(()),
@@ -375,9 +379,7 @@ fn do_load<K: Keeper + Drop>(
 /// What follows the commands of an act: a run, cards, or the load key.
 #[tactic(auto, using(crate::proofs::LineLemmas::left))]
 fn follow<K: Keeper + Drop, D: Desk, R: Source + Terminal, W: Sink>(
-    alloc: Global,
-    program: &Program,
-    manner: &Manner,
+    setting: &Setting,
     notebook: &mut Notebook,
     sitting: &mut Sitting<K>,
     act: &Act,
@@ -386,36 +388,43 @@ fn follow<K: Keeper + Drop, D: Desk, R: Source + Terminal, W: Sink>(
     writer: &mut W,
 ) -> Result<(), OperateEnd>
     requires { R.has_failed reader.old ≡ false }
-    ensures did { FollowDid program.now manner.now.limit (is_cut (is_err result) notebook.new) act.now
+    ensures did { FollowDid setting.now.program.now setting.now.manner.now.limit
+        (is_cut (is_err result) notebook.new) act.now
         (at_console sitting.old notebook.old) (at_console sitting.new notebook.new) }
     ensures good { OnOk result (R.has_failed reader.new ≡ false) }
 {
+    let Setting {
+        alloc,
+        program,
+        manner,
+    } = *setting;
     match act {
         Act::Deposit { .. } | Act::Set { .. } | Act::Mark(_) | Act::Unmark(_) => Ok(()),
         Act::Start(_) | Act::Switch { .. } => Ok(()),
         Act::Load => do_load(alloc, program, notebook, sitting),
         Act::Feed(text) => do_feed(alloc, program, notebook, sitting, text),
         Act::Deck(name) => do_deck(notebook, sitting, name, desk),
-        Act::Until(place) => do_until(
-            alloc, program, manner, notebook, sitting, place, desk, reader, writer,
-        ),
+        Act::Until(place) => do_until(setting, notebook, sitting, place, desk, reader, writer),
         Act::Step(count) => {
-            let extent = Extent::new(Some(*count), manner).with_lines();
-            run(
-                alloc, program, manner, notebook, sitting, &extent, desk, reader, writer,
-            )
+            let asked = Asked {
+                setting: *setting,
+                extent: Extent::new(Some(*count), manner).with_lines(),
+            };
+            run(&asked, notebook, sitting, desk, reader, writer)
         }
         Act::Continue(count) => {
-            let extent = Extent::new(*count, manner);
-            run(
-                alloc, program, manner, notebook, sitting, &extent, desk, reader, writer,
-            )
+            let asked = Asked {
+                setting: *setting,
+                extent: Extent::new(*count, manner),
+            };
+            run(&asked, notebook, sitting, desk, reader, writer)
         }
         Act::Go(_) => {
-            let extent = Extent::new(None, manner);
-            run(
-                alloc, program, manner, notebook, sitting, &extent, desk, reader, writer,
-            )
+            let asked = Asked {
+                setting: *setting,
+                extent: Extent::new(None, manner),
+            };
+            run(&asked, notebook, sitting, desk, reader, writer)
         }
     }
 }
@@ -427,9 +436,7 @@ fn follow<K: Keeper + Drop, D: Desk, R: Source + Terminal, W: Sink>(
 /// If the sitting ends.
 #[tactic(auto, using(crate::proofs::LineLemmas::whole_act, crate::proofs::LineLemmas::cut_act))]
 pub(crate) fn do_act<K: Keeper + Drop, D: Desk, R: Source + Terminal, W: Sink>(
-    alloc: Global,
-    program: &Program,
-    manner: &Manner,
+    setting: &Setting,
     notebook: &mut Notebook,
     sitting: &mut Sitting<K>,
     act: &Act,
@@ -438,14 +445,14 @@ pub(crate) fn do_act<K: Keeper + Drop, D: Desk, R: Source + Terminal, W: Sink>(
     writer: &mut W,
 ) -> Result<(), OperateEnd>
     requires { R.has_failed reader.old ≡ false }
-    ensures did { ActDid program.now manner.now.limit (is_cut (is_err result) notebook.new) act.now
+    ensures did { ActDid setting.now.program.now setting.now.manner.now.limit
+        (is_cut (is_err result) notebook.new) act.now
         (at_console sitting.old notebook.old) (at_console sitting.new notebook.new) }
     ensures good { OnOk result (R.has_failed reader.new ≡ false) }
 {
+    let Setting { alloc, program, .. } = *setting;
     match do_commands(alloc, program, notebook, sitting, act) {
-        Ok(()) => follow(
-            alloc, program, manner, notebook, sitting, act, desk, reader, writer,
-        ),
+        Ok(()) => follow(setting, notebook, sitting, act, desk, reader, writer),
         Err(Cut::Faulted) => Ok(()),
         Err(Cut::Over(end)) => Err(end),
     }

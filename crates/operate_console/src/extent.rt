@@ -4,6 +4,7 @@ ghost use Rattle.operate_console.specs.Line.{least_of, reach_of};
 ghost use Rattle.operate_console.specs.Run.{is_why_met};
 
 use crate::manner::Manner;
+use crate::setting::Setting;
 use operate_answers::Ended;
 
 /// How far a run goes, if nothing ends it before.
@@ -46,6 +47,15 @@ fn is_limited(count: Option<u32>, limit: Option<u32>) -> bool {
         (None, Some(_)) => true,
         (_, None) => false,
     }
+}
+
+/// What a run is given, and doesn't change.
+#[derive(Clone, Copy)]
+pub(crate) struct Asked<'a> {
+    /// What every line is given.
+    pub(crate) setting: Setting<'a>,
+    /// How far the run goes, and what is shown of it.
+    pub(crate) extent: Extent,
 }
 
 impl Extent {

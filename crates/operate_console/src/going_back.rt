@@ -9,6 +9,7 @@ use crate::faults::{put_no_file, put_no_past};
 use crate::listening::Listener;
 use crate::manner::Manner;
 use crate::notebook::Notebook;
+use crate::setting::Setting;
 use crate::terminal::Terminal;
 use crate::waiting::Waiting;
 use bytes_streams::Source;
@@ -156,24 +157,23 @@ fn put_gone(
 
 /// Goes back to an earlier room.
 #[tactic(auto, using(crate::proofs::LineLemmas::went_back))]
-fn go_back<K: Keeper + Drop, C: Cutter<K>, D: Desk>(
-    alloc: Global,
-    program: &Program,
+fn go_back<K: Keeper + Drop, D: Desk + Cutter<K>>(
+    setting: &Setting,
     notebook: &mut Notebook,
     sitting: Sitting<K>,
     past: &Past,
     earlier: Earlier,
     desk: &mut D,
-    cutter: &mut C,
 ) -> Result<After<K>, OperateEnd>
     requires { EarlierIs past.now sitting earlier }
     ensures did { IfOk result (λ after.
         PastDid (is_cut (is_some after.1) notebook.new) past.now sitting after.0) }
     ensures stops { notebook.new.stops ≡ notebook.old.stops }
 {
+    let Setting { alloc, program, .. } = *setting;
     let entries = sitting.journal().len();
     let hand = sitting.hand();
-    let sitting = match sitting.take_over(earlier, cutter) {
+    let sitting = match sitting.take_over(earlier, desk) {
         Ok(sitting) => sitting,
         Err(_) => return Err(OperateEnd::Unkept),
     };
@@ -228,15 +228,12 @@ fn listened<K: Keeper + Drop, D: Desk, R: Source + Terminal>(
 ///
 /// `Unkept` if an entry wasn't kept, or what keeps the journal couldn't be cut. The sitting is lost then.
 #[tactic(auto, using(crate::proofs::LineLemmas::no_past))]
-pub(crate) fn do_past<K: Keeper + Drop, C: Cutter<K>, D: Desk, R: Source + Terminal>(
-    alloc: Global,
-    program: &Program,
-    manner: &Manner,
+pub(crate) fn do_past<K: Keeper + Drop, D: Desk + Cutter<K>, R: Source + Terminal>(
+    setting: &Setting,
     notebook: &mut Notebook,
     sitting: Sitting<K>,
     past: &Past,
     desk: &mut D,
-    cutter: &mut C,
     reader: &mut R,
 ) -> Result<After<K>, OperateEnd>
     requires { R.has_failed reader.old ≡ false }
@@ -245,14 +242,13 @@ pub(crate) fn do_past<K: Keeper + Drop, C: Cutter<K>, D: Desk, R: Source + Termi
     ensures stops { notebook.new.stops ≡ notebook.old.stops }
     ensures good { IfOk result (λ after. after.1 ≡ None → R.has_failed reader.new ≡ false) }
 {
+    let Setting { alloc, manner, .. } = *setting;
     let found = match listened(alloc, manner, notebook, &sitting, past, desk, reader) {
         Ok(found) => found,
         Err(end) => return Ok((sitting, Some(end))),
     };
     match found {
-        Ok(earlier) => go_back(
-            alloc, program, notebook, sitting, past, earlier, desk, cutter,
-        ),
+        Ok(earlier) => go_back(setting, notebook, sitting, past, earlier, desk),
         Err(fault) => match put_nowhere(notebook, past, fault) {
             Ok(()) => Ok((sitting, None)),
             Err(_) => Ok((sitting, Some(OperateEnd::Memory))),

@@ -2,9 +2,9 @@
 //! there is no fourth way to the machine.
 //!
 //! ```text
-//! let ended = operate(
-//!     alloc, sitting, &program, &manner, b"", None, &mut desk, &mut NothingKept, &mut reader, &mut writer,
-//! );
+//! let setting = Setting { alloc, program: &program, manner: &manner };
+//! let beginning = Beginning { greeting: b"", first: None };
+//! let ended = operate(&setting, sitting, beginning, &mut desk, &mut reader, &mut writer);
 //! ended.sitting       // its journal has the commands that the lines stood for
 //! ended.end           // OperateEnd::Quit
 //! ```
@@ -13,9 +13,11 @@
 // what a person types at, and which files they name
 pub mod desk;
 pub mod manner;
+pub mod setting;
 pub mod terminal;
 
-// how it ends
+// how it begins and ends
+pub mod beginning;
 pub mod ends;
 
 // lines that are typed, those of files, and those that wait
@@ -45,9 +47,11 @@ mod noting;
 mod lines;
 pub mod operating;
 
+pub use beginning::Beginning;
 pub use desk::{Desk, FileFault};
 pub use ends::{OperateEnd, Operated};
 pub use manner::Manner;
 pub use operating::operate;
 pub use script::Script;
+pub use setting::Setting;
 pub use terminal::Terminal;

@@ -8,9 +8,9 @@ use crate::desk::Desk;
 use crate::ends::OperateEnd;
 use crate::faults::put_no_order;
 use crate::going_back::{After, do_past};
-use crate::manner::Manner;
 use crate::notebook::Notebook;
 use crate::noting::{do_look, do_note};
+use crate::setting::Setting;
 use crate::terminal::Terminal;
 use bytes_streams::{Sink, Source};
 use operate_orders::{Act, Note, Order, OrderFault};
@@ -59,9 +59,7 @@ fn note<K: Keeper + Drop, D: Desk>(
 
 /// A line that acts.
 fn act<K: Keeper + Drop, D: Desk, R: Source + Terminal, W: Sink>(
-    alloc: Global,
-    program: &Program,
-    manner: &Manner,
+    setting: &Setting,
     notebook: &mut Notebook,
     sitting: Sitting<K>,
     act: &Act,
@@ -70,22 +68,13 @@ fn act<K: Keeper + Drop, D: Desk, R: Source + Terminal, W: Sink>(
     writer: &mut W,
 ) -> After<K>
     requires { R.has_failed reader.old ≡ false }
-    ensures did { ActDid program.now manner.now.limit (is_cut (is_some result.1) notebook.new) act.now
+    ensures did { ActDid setting.now.program.now setting.now.manner.now.limit
+        (is_cut (is_some result.1) notebook.new) act.now
         (at_console sitting notebook.old) (at_console result.0 notebook.new) }
     ensures good { result.1 ≡ None → R.has_failed reader.new ≡ false }
 {
     let mut sitting = sitting;
-    let done = do_act(
-        alloc,
-        program,
-        manner,
-        notebook,
-        &mut sitting,
-        act,
-        desk,
-        reader,
-        writer,
-    );
+    let done = do_act(setting, notebook, &mut sitting, act, desk, reader, writer);
     match done {
         Ok(()) => (sitting, None),
         Err(end) => (sitting, Some(end)),
@@ -94,24 +83,22 @@ fn act<K: Keeper + Drop, D: Desk, R: Source + Terminal, W: Sink>(
 
 /// Does what a line orders.
 #[tactic(auto, using(crate::proofs::LineLemmas::left, crate::proofs::LineLemmas::past_of_line))]
-fn do_order<K: Keeper + Drop, C: Cutter<K>, D: Desk, R: Source + Terminal, W: Sink>(
-    alloc: Global,
-    program: &Program,
-    manner: &Manner,
+fn do_order<K: Keeper + Drop, D: Desk + Cutter<K>, R: Source + Terminal, W: Sink>(
+    setting: &Setting,
     notebook: &mut Notebook,
     sitting: Sitting<K>,
     order: &Order,
     desk: &mut D,
-    cutter: &mut C,
     reader: &mut R,
     writer: &mut W,
 ) -> Result<After<K>, OperateEnd>
     requires { R.has_failed reader.old ≡ false }
-    ensures did { IfOk result (λ after. OrderDid program.now manner.now.limit
+    ensures did { IfOk result (λ after. OrderDid setting.now.program.now setting.now.manner.now.limit
         (is_cut (is_some after.1) notebook.new) order.now
         (at_console sitting notebook.old) (at_console after.0 notebook.new)) }
     ensures good { IfOk result (λ after. after.1 ≡ None → R.has_failed reader.new ≡ false) }
 {
+    let Setting { alloc, program, .. } = *setting;
     match order {
         Order::Nothing => Ok((sitting, None)),
         Order::Look(look) => {
@@ -126,12 +113,8 @@ fn do_order<K: Keeper + Drop, C: Cutter<K>, D: Desk, R: Source + Terminal, W: Si
             Ok(same(sitting, done))
         }
         Order::Note(order) => Ok(note(alloc, program, notebook, sitting, order, desk)),
-        Order::Act(order) => Ok(act(
-            alloc, program, manner, notebook, sitting, order, desk, reader, writer,
-        )),
-        Order::Past(past) => do_past(
-            alloc, program, manner, notebook, sitting, past, desk, cutter, reader,
-        ),
+        Order::Act(order) => Ok(act(setting, notebook, sitting, order, desk, reader, writer)),
+        Order::Past(past) => do_past(setting, notebook, sitting, past, desk, reader),
         Order::Quit => Ok((sitting, Some(OperateEnd::Quit))),
     }
 }
@@ -142,28 +125,23 @@ fn do_order<K: Keeper + Drop, C: Cutter<K>, D: Desk, R: Source + Terminal, W: Si
 ///
 /// `Unkept` if what keeps the journal couldn't be cut. The sitting is lost then.
 #[tactic(auto, using(crate::proofs::LineLemmas::left))]
-pub(crate) fn do_line<K: Keeper + Drop, C: Cutter<K>, D: Desk, R: Source + Terminal, W: Sink>(
-    alloc: Global,
-    program: &Program,
-    manner: &Manner,
+pub(crate) fn do_line<K: Keeper + Drop, D: Desk + Cutter<K>, R: Source + Terminal, W: Sink>(
+    setting: &Setting,
     notebook: &mut Notebook,
     sitting: Sitting<K>,
     said: &Result<Order, OrderFault>,
     desk: &mut D,
-    cutter: &mut C,
     reader: &mut R,
     writer: &mut W,
 ) -> Result<After<K>, OperateEnd>
     requires { R.has_failed reader.old ≡ false }
-    ensures did { IfOk result (λ after. LineDid program.now manner.now.limit
+    ensures did { IfOk result (λ after. LineDid setting.now.program.now setting.now.manner.now.limit
         (is_cut (is_some after.1) notebook.new) said.now
         (at_console sitting notebook.old) (at_console after.0 notebook.new)) }
     ensures good { IfOk result (λ after. after.1 ≡ None → R.has_failed reader.new ≡ false) }
 {
     match said {
-        Ok(order) => do_order(
-            alloc, program, manner, notebook, sitting, order, desk, cutter, reader, writer,
-        ),
+        Ok(order) => do_order(setting, notebook, sitting, order, desk, reader, writer),
         Err(fault) => {
             let done = put_no_order(notebook, fault);
             Ok(same(sitting, done))

@@ -3,18 +3,18 @@ ghost use Rattle.std.specs.Prelude.{◌≡◌, false, OnOk, IfSome};
 ghost use Rattle.operate_console.specs.Line.{LinesDid, OperatedBy};
 ghost use Rattle.operate_console.specs.Run.{at_console};
 
+use crate::beginning::Beginning;
 use crate::desk::Desk;
 use crate::ends::{OperateEnd, Operated};
 use crate::lines::do_line;
 use crate::manner::Manner;
 use crate::notebook::Notebook;
-use crate::script::Script;
+use crate::setting::Setting;
 use crate::terminal::Terminal;
 use crate::typed::{Typed, read_line};
 use bytes_streams::{Sink, Source};
 use operate_answers::put_dropped;
 use operate_orders::parse_order;
-use operate_program::Program;
 use operate_sitting::{Cutter, Sitting};
 use room_alone::Keeper;
 use std::alloc::{AllocError, Global};
@@ -217,22 +217,20 @@ fn next_line<D: Desk, R: Source, W: Sink>(
 /// Does lines until one ends the sitting. The answer of the last line isn't written yet. The last part of the result is
 /// how many of them had a fault.
 #[tactic(auto, using(crate::proofs::LineLemmas::no_line, crate::proofs::LineLemmas::lines_end))]
-fn do_lines<K: Keeper + Drop, C: Cutter<K>, D: Desk, R: Source + Terminal, W: Sink>(
-    alloc: Global,
+fn do_lines<K: Keeper + Drop, D: Desk + Cutter<K>, R: Source + Terminal, W: Sink>(
+    setting: &Setting,
     sitting: Sitting<K>,
-    program: &Program,
-    manner: &Manner,
     notebook: &mut Notebook,
     desk: &mut D,
-    cutter: &mut C,
     reader: &mut R,
     writer: &mut W,
 ) -> (Option<Sitting<K>>, OperateEnd, u32)
     requires { R.has_failed reader.old ≡ false }
-    ensures { IfSome result.0 (λ after. LinesDid program.now manner.now.limit
+    ensures { IfSome result.0 (λ after. LinesDid setting.now.program.now setting.now.manner.now.limit
         (record { at = at_console sitting notebook.old; faults = 0 })
         (record { at = at_console after notebook.new; faults = result.2 })) }
 {
+    let Setting { alloc, manner, .. } = *setting;
     let mut sitting = sitting;
     let mut faults = 0;
     for _line in 0..MOST_LINES {
@@ -243,9 +241,7 @@ fn do_lines<K: Keeper + Drop, C: Cutter<K>, D: Desk, R: Source + Terminal, W: Si
         };
         let said = parse_order(line.as_slice());
         notebook.begin_line();
-        match do_line(
-            alloc, program, manner, notebook, sitting, &said, desk, cutter, reader, writer,
-        ) {
+        match do_line(setting, notebook, sitting, &said, desk, reader, writer) {
             Ok(after) => {
                 faults = notebook.faults_with(faults);
                 let (now, end) = after;
@@ -261,9 +257,10 @@ fn do_lines<K: Keeper + Drop, C: Cutter<K>, D: Desk, R: Source + Terminal, W: Si
 }
 
 /// Begins with the lines of a file, if there are some, and with a greeting.
-fn begin(notebook: &mut Notebook, greeting: &[u8], first: Option<Script>) -> Result<(), AllocError>
+fn begin(notebook: &mut Notebook, beginning: Beginning) -> Result<(), AllocError>
     ensures { notebook.new ≡ notebook.old }
 {
+    let Beginning { greeting, first } = beginning;
     notebook.page.put(greeting)?;
     match first {
         Some(script) => notebook.waiting.begin(script),
@@ -303,42 +300,30 @@ fn hand_at_end<K: Keeper + Drop>(sitting: &Option<Sitting<K>>) -> usize {
     }
 }
 
-/// Does the lines of a person until `quit`, the end of the input or a failure: after a greeting those of `first`, then
+/// Does the lines of a person until `quit`, the end of the input or a failure: after a greeting those of a file, then
 /// those that are read. The journal of the sitting that is returned is that of the lines, one after the other: a
 /// line stands for each command in it.
 #[tactic(auto, using(crate::proofs::LineLemmas::operated, crate::proofs::LineLemmas::not_operated))]
-pub fn operate<K: Keeper + Drop, C: Cutter<K>, D: Desk, R: Source + Terminal, W: Sink>(
-    alloc: Global,
+pub fn operate<K: Keeper + Drop, D: Desk + Cutter<K>, R: Source + Terminal, W: Sink>(
+    setting: &Setting,
     sitting: Sitting<K>,
-    program: &Program,
-    manner: &Manner,
-    greeting: &[u8],
-    first: Option<Script>,
+    beginning: Beginning,
     desk: &mut D,
-    cutter: &mut C,
     reader: &mut R,
     writer: &mut W,
 ) -> Operated<K>
-    ensures lines { IfSome result.sitting (OperatedBy program.now manner.now.limit sitting result.faults) }
+    ensures lines { IfSome result.sitting (OperatedBy setting.now.program.now setting.now.manner.now.limit sitting
+        result.faults) }
 {
+    let Setting { alloc, manner, .. } = *setting;
     let mut notebook = Notebook::new(alloc, sitting.machine());
     if reader.has_failed() {
         return ended(Some(sitting), OperateEnd::Read, 0);
     }
-    if begin(&mut notebook, greeting, first).is_err() {
+    if begin(&mut notebook, beginning).is_err() {
         return ended(Some(sitting), OperateEnd::Memory, 0);
     }
-    let (sitting, end, faults) = do_lines(
-        alloc,
-        sitting,
-        program,
-        manner,
-        &mut notebook,
-        desk,
-        cutter,
-        reader,
-        writer,
-    );
+    let (sitting, end, faults) = do_lines(setting, sitting, &mut notebook, desk, reader, writer);
     let hand = hand_at_end(&sitting);
     let end = show_last(alloc, manner, &mut notebook, end, hand, desk, writer);
     ended(sitting, end, faults)

@@ -6,13 +6,14 @@ ghost use Rattle.operate_console.specs.Run.{is_why_met, was_cut, was_met};
 
 use crate::desk::Desk;
 use crate::ends::OperateEnd;
-use crate::extent::Extent;
+use crate::extent::Asked;
 use crate::faults::put_refused;
 use crate::listening::is_interrupted;
 use crate::manner::Manner;
 use crate::notebook::Notebook;
 use crate::rounds::{Progress, RunFault, go_on, is_spent};
 use crate::run_stops::RunStops;
+use crate::setting::Setting;
 use crate::terminal::Terminal;
 use bytes_streams::{Sink, Source};
 use cpu_1401::Machine;
@@ -66,23 +67,26 @@ pub enum Ran {
 ///
 /// If the sitting ends.
 fn run_rounds<K: Keeper + Drop, D: Desk, R: Source + Terminal, W: Sink>(
-    alloc: Global,
-    program: &Program,
-    manner: &Manner,
+    asked: &Asked,
     notebook: &mut Notebook,
     sitting: &mut Sitting<K>,
     test: &mut OneOf<RunStops, FullDevices>,
-    extent: &Extent,
     desk: &mut D,
     reader: &mut R,
     writer: &mut W,
 ) -> Result<Ran, OperateEnd>
     requires { R.has_failed reader.old ≡ false }
-    ensures did { RunDid manner.now.limit (was_cut result) (was_met result) extent.now.reach.most
-        (at_run sitting.old test.old) (at_run sitting.new test.new) }
+    ensures did { RunDid asked.now.setting.manner.now.limit (was_cut result) (was_met result)
+        asked.now.extent.reach.most (at_run sitting.old test.old) (at_run sitting.new test.new) }
     ensures noted { notebook.new ≡ notebook.old }
     ensures good { OnOk result (R.has_failed reader.new ≡ false) }
 {
+    let Setting {
+        alloc,
+        program,
+        manner,
+    } = asked.setting;
+    let extent = &asked.extent;
     let mut steps = 0;
     if is_spent(extent.reach.most, steps) {
         return Ok(Ran::Ended(extent.end(), steps));
@@ -180,29 +184,25 @@ fn end_run(
 /// If the sitting ends.
 #[tactic(auto, using(crate::proofs::RunLemmas::ran_as_far))]
 pub(crate) fn run<K: Keeper + Drop, D: Desk, R: Source + Terminal, W: Sink>(
-    alloc: Global,
-    program: &Program,
-    manner: &Manner,
+    asked: &Asked,
     notebook: &mut Notebook,
     sitting: &mut Sitting<K>,
-    extent: &Extent,
     desk: &mut D,
     reader: &mut R,
     writer: &mut W,
 ) -> Result<(), OperateEnd>
     requires { R.has_failed reader.old ≡ false }
-    ensures did { RanAsFar manner.now.limit (is_cut (is_err result) notebook.new) extent.now.reach
-        (at_console sitting.old notebook.old) (at_console sitting.new notebook.new) }
+    ensures did { RanAsFar asked.now.setting.manner.now.limit (is_cut (is_err result) notebook.new)
+        asked.now.extent.reach (at_console sitting.old notebook.old) (at_console sitting.new notebook.new) }
     ensures good { OnOk result (R.has_failed reader.new ≡ false) }
 {
+    let Setting { alloc, program, .. } = asked.setting;
     let stops = replace(&mut notebook.stops, Stops::new(alloc));
     let mut test = OneOf {
-        first: RunStops::new(extent.reach.until, stops),
+        first: RunStops::new(asked.extent.reach.until, stops),
         second: FullDevices::new(false),
     };
-    let ran = run_rounds(
-        alloc, program, manner, notebook, sitting, &mut test, extent, desk, reader, writer,
-    );
+    let ran = run_rounds(asked, notebook, sitting, &mut test, desk, reader, writer);
     let OneOf { first, .. } = test;
     let RunStops { stops, .. } = first;
     notebook.stops = stops;

@@ -1,4 +1,4 @@
-//! The files that a person names.
+//! The files that a person names, and that of the journal.
 
 use bytes_files::read_whole;
 use bytes_streams::put_all;
@@ -6,16 +6,23 @@ use devices_1401::Card;
 use job_runner::DeckTextFault;
 use machine_graphics::Graphics;
 use operate_console::{Desk, FileFault};
+use operate_sitting::Cutter;
 use program_run::{RunFault, list_cards, read_cards};
-use room_alone::Room;
+use room_alone::{NoKeeper, Room, Unkept};
 use room_files::{
-    Durability, JournalFile, JournalFileFault, KeepFault, MadeJournal, create_journal, read_room,
+    Durability, JournalFile, JournalFileFault, KeepFault, MadeJournal, TextKeeper, create_journal,
+    read_room, rewrite_journal,
 };
+use room_journal::write_journal;
 use std::fs::File;
+use std::marker::Brand;
 use std::rt::Files;
 use std::{fs, str};
 
-/// The files of a person, whose decks have the graphics of a chain.
+/// The keeper of a file's journal.
+type FileKeeper = TextKeeper<Brand, JournalFile>;
+
+/// The files of a person, whose decks have the graphics of a chain, and the file that keeps the journal.
 #[derive(Drop)]
 pub(crate) struct FileDesk<'a, R> {
     rt: &'a R,
@@ -161,5 +168,26 @@ impl<'a, R: Files<File = File> + Eprint + AllocGlobal> Desk for FileDesk<'a, R> 
 
     fn kept_name(&self) -> &[u8] {
         self.kept.as_bytes()
+    }
+}
+
+/// The journal's file gets the text of the other journal.
+impl<'a, R: Files<File = File> + AllocGlobal> Cutter<FileKeeper> for FileDesk<'a, R> {
+    fn cut(&mut self, keeper: FileKeeper, room: &Room) -> Result<FileKeeper, Unkept> {
+        let alloc = self.rt.alloc();
+        let Ok(text) = write_journal(alloc, room.machine().core().size(), room.journal()) else {
+            return Err(Unkept);
+        };
+        match rewrite_journal(self.rt, self.kept, keeper.into_sink(), text.as_slice()) {
+            Ok(file) => Ok(TextKeeper::new(alloc, file)),
+            Err(_) => Err(Unkept),
+        }
+    }
+}
+
+/// A journal that no file keeps has no text to cut.
+impl<'a, R> Cutter<NoKeeper> for FileDesk<'a, R> {
+    fn cut(&mut self, keeper: NoKeeper, _room: &Room) -> Result<NoKeeper, Unkept> {
+        Ok(keeper)
     }
 }

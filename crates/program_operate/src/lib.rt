@@ -14,7 +14,6 @@ mod decks;
 mod opening;
 
 // the files that a person names, and that of the journal
-mod cutter;
 mod desk;
 
 // the whole

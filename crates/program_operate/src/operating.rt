@@ -3,7 +3,6 @@ ghost use Rattle.std.specs.Prelude.{◌≡◌, ◌≢◌, ◌&&◌, nat_lt, not,
 ghost use Rattle.program_operate.specs.Outcome.{Sat, limit_at, outcome};
 
 use crate::beginning::{Around, Begun, around_again, begin};
-use crate::cutter::FileCutter;
 use crate::desk::FileDesk;
 use crate::fault::{OperateFault, ended};
 use crate::opening::Reading;
@@ -11,9 +10,10 @@ use bytes_files::{FileFault, read_whole};
 use bytes_streams::{Source, ToWriter};
 use devices_1401::Card;
 use machine_graphics::Graphics;
-use operate_console::{Desk, Manner, OperateEnd, Operated, Script, Terminal, operate};
-use operate_program::Program;
-use operate_sitting::{Cutter, NothingKept, Sitting};
+use operate_console::{
+    Beginning, Desk, Manner, OperateEnd, Operated, Script, Setting, Terminal, operate,
+};
+use operate_sitting::{Cutter, Sitting};
 use program_call::{NewJournal, Operating};
 use program_run::RunFault;
 use program_sessions::{HoldFault, durability_of, tell_cut};
@@ -136,54 +136,33 @@ fn outcome_at(end: OperateEnd, faults: u32, is_typed: bool) -> Result<(), Operat
 fn answer_lines<
     R: Print + AllocGlobal,
     K: Keeper + Drop,
-    C: Cutter<K>,
-    D: Desk,
+    D: Desk + Cutter<K>,
     I: Source + Terminal,
 >(
     rt: &R,
+    setting: &Setting,
     sitting: Sitting<K>,
-    program: &Program,
-    manner: &Manner,
-    greeting: &[u8],
-    first: Option<Script>,
+    beginning: Beginning,
     desk: &mut D,
-    cutter: &mut C,
     reader: &mut I,
 ) -> Result<(), OperateFault>
-    ensures { Sat manner.now.prompts manner.now.limit result }
+    ensures { Sat setting.now.manner.now.prompts setting.now.manner.now.limit result }
 {
     let mut writer = ToWriter::new(io::writer(rt));
-    let operated = operate(
-        rt.alloc(),
-        sitting,
-        program,
-        manner,
-        greeting,
-        first,
-        desk,
-        cutter,
-        reader,
-        &mut writer,
-    );
-    outcome_of(operated, manner.prompts)
+    let operated = operate(setting, sitting, beginning, desk, reader, &mut writer);
+    outcome_of(operated, setting.manner.prompts)
 }
 
-/// Greets, and answers the lines of a person at a room, which a cutter's keeper keeps in the file of this name.
+/// Greets, and answers the lines of a person at a room.
 ///
 /// # Errors
 ///
 /// `Run` for memory, `Hold` for how it ended, or `Faulty`.
-fn answer<
-    R: Files<File = File> + Print + Eprint + AllocGlobal,
-    K: Keeper + Drop,
-    C: Cutter<K>,
-    I: Source + Terminal,
->(
+fn answer<R: Print + AllocGlobal, K: Keeper + Drop, D: Desk + Cutter<K>, I: Source + Terminal>(
     rt: &R,
     room: KeptRoom<K>,
     around: Around,
-    cutter: &mut C,
-    kept: &str,
+    desk: &mut D,
     console: Console,
     reader: &mut I,
 ) -> Result<(), OperateFault>
@@ -195,27 +174,21 @@ fn answer<
         hand,
         greeting,
     } = around;
-    let Console {
-        manner,
-        graphics,
-        first,
-    } = console;
+    let Console { manner, first, .. } = console;
     let sitting = match sit_down(rt.alloc(), room, hand) {
         Ok(sitting) => sitting,
         Err(fault) => return Err(fault),
     };
-    let mut desk = FileDesk::new(rt, graphics, kept);
-    answer_lines(
-        rt,
-        sitting,
-        &program,
-        &manner,
-        greeting.as_slice(),
+    let setting = Setting {
+        alloc: rt.alloc(),
+        program: &program,
+        manner: &manner,
+    };
+    let beginning = Beginning {
+        greeting: greeting.as_slice(),
         first,
-        &mut desk,
-        cutter,
-        reader,
-    )
+    };
+    answer_lines(rt, &setting, sitting, beginning, desk, reader)
 }
 
 /// Keeps a room in a new file, and answers the lines of a person at it.
@@ -246,16 +219,8 @@ fn answer_in_new<R: Files<File = File> + Print + Eprint + AllocGlobal, I: Source
             return Err(OperateFault::Hold(HoldFault::Kept(fault)));
         }
     };
-    let mut cutter = FileCutter::new(rt, label.as_str());
-    answer(
-        rt,
-        kept,
-        around,
-        &mut cutter,
-        label.as_str(),
-        console,
-        reader,
-    )
+    let mut desk = FileDesk::new(rt, console.graphics, label.as_str());
+    answer(rt, kept, around, &mut desk, console, reader)
 }
 
 /// Goes on with the journal of a file, in the same file.
@@ -286,16 +251,8 @@ fn go_on<R: Files<File = File> + Print + Eprint + AllocGlobal, I: Source + Termi
     let around = around_again(rt, &room, label.as_str(), source, reading)?;
     // What the file had before is unknown, and so is what it has.
     let kept = take_up_room::<Brand, JournalFile>(rt.alloc(), room, file);
-    let mut cutter = FileCutter::new(rt, label.as_str());
-    answer(
-        rt,
-        kept,
-        around,
-        &mut cutter,
-        label.as_str(),
-        console,
-        reader,
-    )
+    let mut desk = FileDesk::new(rt, console.graphics, label.as_str());
+    answer(rt, kept, around, &mut desk, console, reader)
 }
 
 /// Answers the lines of a person at a new machine, or at that of a journal. If it is Ok, all lines were done that came
@@ -351,7 +308,8 @@ pub fn operate_at<R: Files<File = File> + Print + Eprint + AllocGlobal, I: Sourc
         None => {
             let Begun { room, around } = begun;
             let kept = KeptRoom::new(room, NoKeeper);
-            answer(rt, kept, around, &mut NothingKept, "", console, reader)
+            let mut desk = FileDesk::new(rt, console.graphics, "");
+            answer(rt, kept, around, &mut desk, console, reader)
         }
     }
 }

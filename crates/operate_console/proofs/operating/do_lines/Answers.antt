@@ -13,11 +13,12 @@ returns-in-Some g c =
     record { at = at_console c.loop-line.sitting c.loop-line.notebook; faults = c.loop-line.faults } in
     let after : AfterLines =
     record { at = at_console c.in-Ok.after.0 c.do_line.new.notebook; faults = c.faults_with-faults.result } in
-    last_line c.args.program.now c.args.manner.now.limit first before after c.loop-line.invariant.so_far
-    (line_did c.args.program.now c.args.manner.now.limit (is_some c.in-Ok.after.1) true c.as_slice.result.now
-    c.parse_order-said.result c.loop-line.sitting c.in-Ok.after.0 c.loop-line.notebook c.begin_line.new.self
-    c.do_line.new.notebook c.loop-line.faults c.faults_with-faults.result (ap is_some c.in-Some.is)
-    c.parse_order-said.ensures
+    last_line c.args.setting.now.program.now c.args.setting.now.manner.now.limit first before after
+    c.loop-line.invariant.so_far
+    (line_did c.args.setting.now.program.now c.args.setting.now.manner.now.limit (is_some c.in-Ok.after.1) true
+    c.as_slice.result.now c.parse_order-said.result c.loop-line.sitting c.in-Ok.after.0 c.loop-line.notebook
+    c.begin_line.new.self c.do_line.new.notebook c.loop-line.faults c.faults_with-faults.result
+    (ap is_some c.in-Some.is) c.parse_order-said.ensures
     (c.begin_line.ensures.stops ∙ ap (λ (it : NotebookAccount). it.stops) c.next_line.ensures.noted)
     c.in-Ok.ensures.did c.faults_with-faults.ensures.faults)
 
@@ -30,11 +31,12 @@ loop-line-preserved g c =
     record { at = at_console c.in-Ok.after.0 c.do_line.new.notebook; faults = c.faults_with-faults.result } in
     record {
       so_far =
-          line_more c.args.program.now c.args.manner.now.limit first before after c.loop-line.invariant.so_far
-          (line_did c.args.program.now c.args.manner.now.limit (is_some c.in-Ok.after.1) false c.as_slice.result.now
-          c.parse_order-said.result c.loop-line.sitting c.in-Ok.after.0 c.loop-line.notebook c.begin_line.new.self
-          c.do_line.new.notebook c.loop-line.faults c.faults_with-faults.result (ap is_some c.in-None.is)
-          c.parse_order-said.ensures
+          line_more c.args.setting.now.program.now c.args.setting.now.manner.now.limit first before after
+          c.loop-line.invariant.so_far
+          (line_did c.args.setting.now.program.now c.args.setting.now.manner.now.limit (is_some c.in-Ok.after.1) false
+          c.as_slice.result.now c.parse_order-said.result c.loop-line.sitting c.in-Ok.after.0 c.loop-line.notebook
+          c.begin_line.new.self c.do_line.new.notebook c.loop-line.faults c.faults_with-faults.result
+          (ap is_some c.in-None.is) c.parse_order-said.ensures
           (c.begin_line.ensures.stops ∙ ap (λ (it : NotebookAccount). it.stops) c.next_line.ensures.noted)
           c.in-Ok.ensures.did c.faults_with-faults.ensures.faults);
       counted = omega (arith, c.faults_with-faults.ensures.few, c.loop-line.invariant.counted);

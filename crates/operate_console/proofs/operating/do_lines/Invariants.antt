@@ -7,7 +7,8 @@ use Rattle.operate_console.proofs.operating.do_lines.Given as goal
 abbrev pub invariant-loop-line : goal.invariant-loop-line
 invariant-loop-line g l = record {
   so_far :
-      LinesSoFar l.program l.manner.limit (record { at = at_console l.fn.sitting l.fn.notebook; faults = 0 })
+      LinesSoFar l.setting.program.now l.setting.manner.now.limit
+      (record { at = at_console l.fn.sitting l.fn.notebook; faults = 0 })
       (record { at = at_console l.sitting l.notebook; faults = l.faults });
   counted : l.faults ≤ l._line;
   good : g.R.Source.has_failed l.reader ≡ false;

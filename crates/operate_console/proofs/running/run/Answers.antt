@@ -7,7 +7,8 @@ use Rattle.operate_console.proofs.running.run.Goals as goal
 
 pub returns-in-Ok-clause-did : goal.returns-in-Ok-clause-did
 returns-in-Ok-clause-did g c =
-    ran_as_far c.args.manner.now.limit (is_refused c.in-Ok.ran) (is_cut (is_err c.end_run.result) c.end_run.new.notebook)
-    (is_ran_met c.in-Ok.ran) c.args.extent.now.reach (at_console c.args.sitting.now c.args.notebook.now)
-    (at_console c.run_rounds-ran.new.sitting c.end_run.new.notebook) c.new-2.result c.run_rounds-ran.new.test.first
-    c.new-2.ensures.until (search rules) c.in-Ok.ensures.did c.end_run.ensures.cut (search rules)
+    ran_as_far c.args.asked.now.setting.manner.now.limit (is_refused c.in-Ok.ran)
+    (is_cut (is_err c.end_run.result) c.end_run.new.notebook) (is_ran_met c.in-Ok.ran) c.args.asked.now.extent.reach
+    (at_console c.args.sitting.now c.args.notebook.now) (at_console c.run_rounds-ran.new.sitting c.end_run.new.notebook)
+    c.new-2.result c.run_rounds-ran.new.test.first c.new-2.ensures.until (search rules)
+    c.in-Ok.ensures.did c.end_run.ensures.cut (search rules)

@@ -8,35 +8,35 @@ use Rattle.operate_console.proofs.running.run_rounds.Goals as goal
 -- No instruction may be carried out.
 pub returns-then-is_spent-clause-did : goal.returns-then-is_spent-clause-did
 returns-then-is_spent-clause-did g c =
-    run_unbegun c.args.manner.now.limit c.args.extent.now.reach.most false (is_why_met c.end.result)
-    (at_run c.args.sitting.now c.args.test.now) (search rules) c.end.ensures
+    run_unbegun c.args.asked.now.setting.manner.now.limit c.args.asked.now.extent.reach.most false
+    (is_why_met c.end.result) (at_run c.args.sitting.now c.args.test.now) (search rules) c.end.ensures
 
 -- The journal is full.
 pub returns-clause-did : goal.returns-clause-did
 returns-clause-did g c =
-    let most = c.args.extent.now.reach.most in
+    let most = c.args.asked.now.extent.reach.most in
     let now = at_run c.loop-round.sitting c.loop-round.test in
     let after : AfterRounds = record { at = now; steps = c.loop-round.steps } in
-    run_cut c.args.manner.now.limit most true (at_run c.args.sitting.now c.args.test.now) after now
+    run_cut c.args.asked.now.setting.manner.now.limit most true (at_run c.args.sitting.now c.args.test.now) after now
     c.loop-round.invariant.so_far refl (no_round (slice_after most c.loop-round.steps) now)
 
 -- What was printed couldn't be shown: no other round begins.
 pub returns-in-Err-clause-did : goal.returns-in-Err-clause-did
 returns-in-Err-clause-did g c =
-    let most = c.args.extent.now.reach.most in
+    let most = c.args.asked.now.extent.reach.most in
     let begun = at_run c.args.sitting.now c.args.test.now in
     let before : AfterRounds = record { at = at_run c.loop-round.sitting c.loop-round.test; steps = c.loop-round.steps } in
     let now = at_run c.go_on.new.sitting c.go_on.new.test in
     let on : c.in-Ok-On.field-0 ≡ progress.On c.in-Ok-On.all = search rules in
     let more = went_on most c.in-Ok-On.field-0 c.in-Ok-On.all before now on c.in-Ok-On.ensures.ok in
     let after : AfterRounds = record { at = now; steps = c.in-Ok-On.all } in
-    run_cut c.args.manner.now.limit most true begun after now
+    run_cut c.args.asked.now.setting.manner.now.limit most true begun after now
     (round_more most begun before after c.loop-round.invariant.so_far more) refl
     (no_round (slice_after most c.in-Ok-On.all) now)
 
 pub loop-round-preserved : goal.loop-round-preserved
 loop-round-preserved g c =
-    let most = c.args.extent.now.reach.most in
+    let most = c.args.asked.now.extent.reach.most in
     let begun = at_run c.args.sitting.now c.args.test.now in
     let before : AfterRounds = record { at = at_run c.loop-round.sitting c.loop-round.test; steps = c.loop-round.steps } in
     let now = at_run c.go_on.new.sitting c.go_on.new.test in

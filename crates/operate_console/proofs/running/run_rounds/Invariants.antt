@@ -6,10 +6,10 @@ use Rattle.operate_console.proofs.running.run_rounds.Given as goal
 abbrev pub invariant-loop-round : goal.invariant-loop-round
 invariant-loop-round g l = record {
   so_far :
-      RoundsSoFar l.extent.reach.most (at_run l.fn.sitting l.fn.test)
+      RoundsSoFar l.asked.extent.reach.most (at_run l.fn.sitting l.fn.test)
       (record { at = at_run l.sitting l.test; steps = l.steps });
   steps : l.steps ≤ l.round * 2 ^ 32;
-  left : is_spent l.extent.reach.most l.steps ≡ false;
+  left : is_spent l.asked.extent.reach.most l.steps ≡ false;
   noted : l.notebook ≡ l.fn.notebook;
   good : g.R.Source.has_failed l.reader ≡ false;
 }
