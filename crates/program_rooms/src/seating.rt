@@ -24,7 +24,8 @@ use room_1401::{Keeper, Opened, RoomId, Seat, SharedRoom};
 use room_files::MadeName;
 use serving_http::Origin;
 use serving_room::{
-    NotingKeeper, PagePort, SeatsFault, SeatsServed, TakingTurns, UntilRenewed, Watch, serve_seats,
+    Listeners, NotingKeeper, PagePort, SeatsFault, SeatsServed, TakingTurns, UntilRenewed, Watch,
+    serve_seats,
 };
 use std::fs::File;
 use std::io::StdinLock;
@@ -339,10 +340,12 @@ fn serve_by<
     requires count { (0 < J.seats) × (J.seats < 2 ^ 8) }
     requires pages { vec_len entrances.now.pages ≤ J.seats }
 {
-    let consoles = entrances.consoles.as_ref();
-    let pages = entrances.pages.as_slice();
+    let listeners = Listeners {
+        consoles: entrances.consoles.as_ref(),
+        pages: entrances.pages.as_slice(),
+    };
     let door = TakingTurns::new(rt);
-    let served = serve_seats(rt, room, seats, consoles, pages, watch, input, &door);
+    let served = serve_seats(rt, room, seats, listeners, watch, input, &door);
     tell_end(rt, served)
 }
 

@@ -3,7 +3,8 @@
 //!
 //! ```text
 //! // until the input says QUIT
-//! let served = serve_seats(rt, room, seats, Some(&listener), &[], &watch, input, &OpenDoor);
+//! let listeners = Listeners { consoles: Some(&listener), pages: &[] };
+//! let served = serve_seats(rt, room, seats, listeners, &watch, input, &OpenDoor);
 //! served.room.journal()       // all that the consoles did
 //! served.fault                // None: nothing was refused, and the room was closed with all of its seats
 //! ```
@@ -33,7 +34,7 @@ pub mod serving;
 
 pub use noting::NotingKeeper;
 pub use paging::PagePort;
-pub use serving::{SeatsServed, serve_seats};
+pub use serving::{Listeners, SeatsServed, serve_seats};
 pub use serving_seats::{GiveFault, SeatsFault, TakingTurns, foreign_seat, give, give_entries};
 pub use until_renewed::UntilRenewed;
 pub use watch::Watch;

@@ -25,6 +25,15 @@ use std::time::{Clock, Duration};
 /// How long an open room looks again whether there is something to report, in milliseconds.
 const LOOK: u64 = 100;
 
+/// Where the operators of a room come.
+#[derive(Clone, Copy)]
+pub struct Listeners<'a> {
+    /// The listener for consoles, if there is one.
+    pub consoles: Option<&'a TcpListener>,
+    /// The ports of pages, that of seat 1 first.
+    pub pages: &'a [PagePort],
+}
+
 /// What is left of a served room.
 #[derive(Drop)]
 pub struct SeatsServed<K: Keeper + Drop> {
@@ -60,8 +69,7 @@ pub fn serve_seats<J, H, K, R, S, D>(
     rt: &R,
     room: SharedRoom<J, H, K>,
     seats: Vec<Seat<J>>,
-    consoles: Option<&TcpListener>,
-    pages: &[PagePort],
+    listeners: Listeners<'_>,
     watch: &Watch,
     input: S,
     door: &D,
@@ -78,7 +86,7 @@ where
     // All of the room's seats are handed in, in the order of their numbers.
     requires seats { AreAllSeats J.seats seats.items }
     requires count { (0 < J.seats) × (J.seats < 2 ^ 8) }
-    requires pages { length pages.now ≤ J.seats }
+    requires pages { length listeners.pages.now ≤ J.seats }
     ensures size { result.room.size ≡ J.size }
     ensures legal { IsLegal J.size result.room.journal }
     ensures kept { IsKeptAs K.form J.size result.room.journal (K.has_failed result.keeper) K.first
@@ -97,7 +105,7 @@ where
                 pages: &in_common,
                 watch,
             };
-            serve_connections(&serving, &room, consoles, pages, input, door);
+            serve_connections(&serving, &room, listeners, input, door);
             service.into_seats()
         }
         Err(seats) => (Some(seats), Some(SeatsFault::Memory)),
@@ -145,8 +153,7 @@ fn end_service<J: RoomId, H: Wait + Drop, K: Keeper + Drop>(
 fn serve_connections<J, H, K, R, S, D>(
     serving: &Serving<'_, J, R>,
     room: &SharedRoom<J, H, K>,
-    consoles: Option<&TcpListener>,
-    pages: &[PagePort],
+    listeners: Listeners<'_>,
     input: S,
     door: &D,
 )
@@ -157,15 +164,15 @@ where
     R: Threads + Wait + Sync + Clock + Eprint + AllocGlobal + RandomSource,
     S: Source + Drop + Send,
     D: Door + Sync,
-    requires pages { length pages.now ≤ J.seats }
+    requires pages { length listeners.pages.now ≤ J.seats }
     requires count { J.seats < 2 ^ 8 }
 {
     thread::scope(
         thread::scope_env(),
         serving.rt,
         move |scope|
-            requires { (length pages.now ≤ J.seats) × (J.seats < 2 ^ 8) }
-        { listen(scope, serving, room, consoles, pages, input, door) },
+            requires { (length listeners.pages.now ≤ J.seats) × (J.seats < 2 ^ 8) }
+        { listen(scope, serving, room, listeners, input, door) },
     );
 }
 
@@ -175,8 +182,7 @@ fn listen<'s, E: 's, J, H, K, R, S, D>(
     scope: &Scope<'s, E>,
     serving: &'s Serving<'s, J, R>,
     room: &'s SharedRoom<J, H, K>,
-    consoles: Option<&'s TcpListener>,
-    pages: &'s [PagePort],
+    listeners: Listeners<'s>,
     input: S,
     door: &'s D,
 )
@@ -187,12 +193,12 @@ where
     R: Threads + Wait + Sync + Clock + Eprint + AllocGlobal + RandomSource + 's,
     S: Source + Drop + Send + 's,
     D: Door + Sync + 's,
-    requires pages { length pages.now ≤ J.seats }
+    requires pages { length listeners.pages.now ≤ J.seats }
     requires count { J.seats < 2 ^ 8 }
 {
     let rt = serving.rt;
     let service = serving.service;
-    let closing = scope.spawn(move || close_by_input(serving, consoles, pages, input));
+    let closing = scope.spawn(move || close_by_input(serving, listeners, input));
     if closing.is_err() {
         service.note(rt, SeatsFault::Thread);
         return;
@@ -200,8 +206,8 @@ where
     if scope.spawn(move || report_troubles(serving)).is_err() {
         service.note(rt, SeatsFault::Thread);
     }
-    start_pages(scope, serving, room, pages);
-    if let Some(listener) = consoles {
+    start_pages(scope, serving, room, listeners.pages);
+    if let Some(listener) = listeners.consoles {
         accept_each(scope, rt.alloc(), rt, room, service, listener, door);
     }
 }
@@ -233,18 +239,17 @@ fn report_troubles<J: RoomId, R: Wait + Clock + Eprint>(serving: &Serving<'_, J,
 /// Waits until the input closes the room, shuts the listeners down, and gives the consoles a second to end.
 fn close_by_input<J: RoomId, R: Wait + Clock, S: Source + Drop>(
     serving: &Serving<'_, J, R>,
-    consoles: Option<&TcpListener>,
-    pages: &[PagePort],
+    listeners: Listeners<'_>,
     input: S,
 ) {
     let rt = serving.rt;
     let service = serving.service;
     let mut input = input;
     service.close_by(rt, &mut input);
-    if let Some(listener) = consoles {
+    if let Some(listener) = listeners.consoles {
         shut_down(listener);
     }
-    for page in pages {
+    for page in listeners.pages {
         shut_down(&page.listener);
     }
     service.end_consoles(rt);

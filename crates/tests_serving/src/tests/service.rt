@@ -8,7 +8,7 @@ use crate::tests::operators::{Act, connect, operate};
 use crate::tests::{expect_same, expect_text};
 use console_1401::Door;
 use room_1401::{Opened, RoomId, Seat, SharedRoom};
-use serving_room::{SeatsFault, SeatsServed, Watch, serve_seats};
+use serving_room::{Listeners, SeatsFault, SeatsServed, Watch, serve_seats};
 use std::alloc::AllocGlobal;
 use std::marker::Brand;
 use std::net::{Ipv4Addr, Net, SocketAddr, TcpListener, TcpStream};
@@ -254,16 +254,11 @@ where
         holds: here.evening.holds,
     };
     let watch = Watch::new(None, false);
-    serve_seats(
-        rt,
-        room,
-        seats,
-        Some(here.listener),
-        &[],
-        &watch,
-        input,
-        &door,
-    )
+    let listeners = Listeners {
+        consoles: Some(here.listener),
+        pages: &[],
+    };
+    serve_seats(rt, room, seats, listeners, &watch, input, &door)
 }
 
 /// Compares what was kept, how many commands there were, and what went wrong.
