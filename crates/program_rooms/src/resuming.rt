@@ -175,15 +175,11 @@ fn serve_taken_up<
         ..
     } = taken;
     let watch = Watch::new(rooms.minutes, false);
-    let turn = Turn {
-        number: 1,
-        watch: &watch,
-    };
-    let served = verify_room(rt, room, file, text, rooms.seats, entrances, turn);
+    let served = verify_room(rt, room, file, text, rooms.seats, entrances, &watch);
     serve_others(rt, rooms, served, &watch, entrances)
 }
 
-/// Goes on by the file of a room's journal, which has its text.
+/// Goes on by the file of a room's journal, which has its text. The room is the first of those that follow each other.
 fn verify_room<
     R: Threads
         + Wait
@@ -202,7 +198,7 @@ fn verify_room<
     text: Vec<u8>,
     seats: u8,
     entrances: &Entrances,
-    turn: Turn<'_>,
+    watch: &Watch,
 ) -> Result<(), OpenFault>
     requires pages { vec_len entrances.now.pages ≤ seats }
     requires good { ⟦<JournalFile as Sink>⟧.has_failed file ≡ false }
@@ -214,5 +210,11 @@ fn verify_room<
         return Err(OpenFault::Hold(HoldFault::Memory));
     };
     let before = Before::Journal(room);
-    serve_new(rt, size, seats, &before, keeper, entrances, None, turn)
+    let turn = Turn {
+        number: 1,
+        watch,
+        before: &before,
+        entrances,
+    };
+    serve_new(rt, size, seats, keeper, None, turn)
 }

@@ -183,21 +183,17 @@ pub(crate) fn serve_new<
     rt: &R,
     size: u16,
     seats: u8,
-    before: &Before<'_>,
     keeper: K,
-    entrances: &Entrances,
     made: Option<MadeName>,
     turn: Turn<'_>,
 ) -> Result<(), OpenFault>
-    requires pages { vec_len entrances.now.pages ≤ seats }
+    requires pages { vec_len turn.entrances.now.pages ≤ seats }
     requires good { K.has_failed keeper ≡ false }
     requires kept { Appends K.first (K.kept keeper) (kept_text K.form size []) }
 {
     let opened = Opened::new(seats);
     let keeper = NotingKeeper::new(keeper, turn.watch, rt);
-    serve_room::<Brand, R, NotingKeeper<'_, K, R>>(
-        rt, size, seats, before, opened, keeper, entrances, made, turn,
-    )
+    serve_room::<Brand, R, NotingKeeper<'_, K, R>>(rt, size, seats, opened, keeper, made, turn)
 }
 
 /// The same for a room of this name.
@@ -218,23 +214,21 @@ fn serve_room<
     rt: &R,
     size: u16,
     seats: u8,
-    before: &Before<'_>,
     opened: Opened,
     keeper: K,
-    entrances: &Entrances,
     made: Option<MadeName>,
     turn: Turn<'_>,
 ) -> Result<(), OpenFault>
     requires history { opened.book ≡ J.book }
     requires ledger { (opened.ledger ≡ J.name) × (opened.parts ≡ J.parts) × (J.parts ≡ J.seats) }
     requires named { (size ≡ J.size) × (seats ≡ J.seats) }
-    requires pages { vec_len entrances.now.pages ≤ seats }
+    requires pages { vec_len turn.entrances.now.pages ≤ seats }
     requires good { K.has_failed keeper ≡ false }
     requires kept { Appends K.first (K.kept keeper) (kept_text K.form size []) }
 {
     let alloc = rt.alloc();
     match SharedRoom::<J, &R, K>::power_on_kept(rt, alloc, size, seats, opened, keeper) {
-        Ok((room, seats)) => serve_begun(rt, room, seats, before, entrances, made, turn),
+        Ok((room, seats)) => serve_begun(rt, room, seats, made, turn),
         Err(fault) => {
             remove(rt, made);
             Err(start_fault(fault))
@@ -260,22 +254,20 @@ fn serve_begun<
     rt: &R,
     room: SharedRoom<J, &R, K>,
     mut seats: Vec<Seat<J>>,
-    before: &Before<'_>,
-    entrances: &Entrances,
     made: Option<MadeName>,
     turn: Turn<'_>,
 ) -> Result<(), OpenFault>
     requires ledger { J.parts ≡ J.seats }
     requires seats { AreAllSeats J.seats seats.items }
     requires count { (0 < J.seats) × (J.seats < 2 ^ 8) }
-    requires pages { vec_len entrances.now.pages ≤ J.seats }
+    requires pages { vec_len turn.entrances.now.pages ≤ J.seats }
 {
-    if let Err(fault) = begin(rt, &room, &mut seats, before) {
+    if let Err(fault) = begin(rt, &room, &mut seats, turn.before) {
         remove(rt, made);
         return Err(fault);
     }
     drop(made);
-    serve_operators(rt, room, seats, entrances, turn)
+    serve_operators(rt, room, seats, turn)
 }
 
 /// Reports that the room listens, serves it, and reports how many commands its journal has at the end.
@@ -291,18 +283,13 @@ fn serve_operators<
         + Eprint
         + AllocGlobal,
     K: Keeper + Drop + Send + Sync,
->(
-    rt: &R,
-    room: SharedRoom<J, &R, K>,
-    seats: Vec<Seat<J>>,
-    entrances: &Entrances,
-    turn: Turn<'_>,
-) -> Result<(), OpenFault>
+>(rt: &R, room: SharedRoom<J, &R, K>, seats: Vec<Seat<J>>, turn: Turn<'_>) -> Result<(), OpenFault>
     requires ledger { J.parts ≡ J.seats }
     requires seats { AreAllSeats J.seats seats.items }
     requires count { (0 < J.seats) × (J.seats < 2 ^ 8) }
-    requires pages { vec_len entrances.now.pages ≤ J.seats }
+    requires pages { vec_len turn.entrances.now.pages ≤ J.seats }
 {
+    let entrances = turn.entrances;
     report_open(rt, turn.number, entrances.pages.as_slice())?;
     turn.watch.open();
     let input = FromReader::new(rt.reader());

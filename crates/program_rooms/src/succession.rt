@@ -29,6 +29,10 @@ pub(crate) struct Turn<'a> {
     pub number: u32,
     /// What it comes to, and when it is followed by the next one.
     pub watch: &'a Watch,
+    /// What is done before its operators come.
+    pub before: &'a Before<'a>,
+    /// Where they come.
+    pub entrances: &'a Entrances,
 }
 
 /// What rooms that follow each other have in common.
@@ -77,8 +81,10 @@ pub(crate) fn serve_rooms<
     let turn = Turn {
         number: 1,
         watch: &watch,
+        before: first,
+        entrances,
     };
-    let served = serve_one(rt, rooms, first, entrances, turn);
+    let served = serve_one(rt, rooms, turn);
     serve_others(rt, rooms, served, &watch, entrances)
 }
 
@@ -114,8 +120,10 @@ pub(crate) fn serve_others<
         let turn = Turn {
             number,
             watch: &watch,
+            before: &rooms.before,
+            entrances,
         };
-        let served = serve_one(rt, rooms, &rooms.before, entrances, turn);
+        let served = serve_one(rt, rooms, turn);
         goes_on = is_followed(&watch, &served);
         outcome = first_of(outcome, served);
     }
@@ -147,22 +155,16 @@ fn serve_one<
         + Eprint
         + AllocGlobal
         + Files<File = File>,
->(
-    rt: &R,
-    rooms: &Rooms<'_>,
-    before: &Before<'_>,
-    entrances: &Entrances,
-    turn: Turn<'_>,
-) -> Result<(), OpenFault>
-    requires { vec_len entrances.now.pages ≤ rooms.now.seats }
+>(rt: &R, rooms: &Rooms<'_>, turn: Turn<'_>) -> Result<(), OpenFault>
+    requires { vec_len turn.entrances.now.pages ≤ rooms.now.seats }
 {
     let size = rooms.size;
     let seats = rooms.seats;
     match begin_next(rt, rooms, turn.number)? {
-        None => serve_new(rt, size, seats, before, NoKeeper, entrances, None, turn),
+        None => serve_new(rt, size, seats, NoKeeper, None, turn),
         Some(MadeJournal { file, name }) => {
             let keeper = TextKeeper::<Brand, JournalFile>::new(rt.alloc(), file);
-            serve_new(rt, size, seats, before, keeper, entrances, Some(name), turn)
+            serve_new(rt, size, seats, keeper, Some(name), turn)
         }
     }
 }
