@@ -84,6 +84,15 @@ fn expect_made<J: RoomId>(rt: &(impl Abort + AllocGlobal), seats: &[Seat<J>], wa
     expect_record(rt, &record, wanted);
 }
 
+/// How large a room is.
+#[derive(Clone, Copy)]
+struct Extent {
+    /// How many places its core storage has.
+    size: u16,
+    /// How many seats it has.
+    seats: u8,
+}
+
 /// The room once it has ended, with its seats or without them.
 fn ended<J: RoomId, R: Wait + Abort>(
     rt: &R,
@@ -107,8 +116,7 @@ fn ended<J: RoomId, R: Wait + Abort>(
 /// what each wrote, how it ended, and how many commands each seat has made.
 fn operated<J: RoomId, R: Wait + Abort + AllocGlobal, D: Door>(
     rt: &R,
-    size: u16,
-    seats: u8,
+    extent: Extent,
     opened: Opened,
     door: &D,
     consoles: &[Console<'_>],
@@ -117,8 +125,9 @@ fn operated<J: RoomId, R: Wait + Abort + AllocGlobal, D: Door>(
 ) -> Room
     requires history { opened.book ≡ J.book }
     requires ledger { (opened.ledger ≡ J.name) × (opened.parts ≡ J.parts) × (J.parts ≡ J.seats) }
-    requires named { (size ≡ J.size) × (seats ≡ J.seats) }
+    requires named { (extent.size ≡ J.size) × (extent.seats ≡ J.seats) }
 {
+    let Extent { size, seats } = extent;
     let started = SharedRoom::<J, &R>::power_on(rt, rt.alloc(), size, seats, opened);
     let (room, seats) = started.expect(rt, "a room");
     let seats = expect_consoles(rt, &room, seats, door, consoles);
@@ -129,15 +138,15 @@ fn operated<J: RoomId, R: Wait + Abort + AllocGlobal, D: Door>(
 /// The same, and compares how many commands the room has then.
 fn expect_operated<R: Wait + Abort + AllocGlobal, D: Door>(
     rt: &R,
-    (size, seats): (u16, u8),
+    extent: Extent,
     door: &D,
     consoles: &[Console<'_>],
     made: &[u8],
     closes: bool,
     commands: usize,
 ) {
-    let opened = Opened::new(seats);
-    let room = operated::<Brand, R, D>(rt, size, seats, opened, door, consoles, made, closes);
+    let opened = Opened::new(extent.seats);
+    let room = operated::<Brand, R, D>(rt, extent, opened, door, consoles, made, closes);
     expect_same(rt, &"commands", &room.journal().len(), &commands);
 }
 
@@ -145,7 +154,10 @@ fn expect_operated<R: Wait + Abort + AllocGlobal, D: Door>(
 fn an_operator_sees_what_he_deposits(rt: HostRuntime) {
     expect_operated(
         &rt,
-        (4_000, 1),
+        Extent {
+            size: 4_000,
+            seats: 1,
+        },
         &OpenDoor,
         &[(
             b"DEPOSIT 0500 ~K\nGLANCE 0500\nQUIT\nREGS\n",
@@ -163,7 +175,10 @@ fn the_door_is_told_of_each_line(rt: HostRuntime) {
     let calls = RefCell::new(Vec::new(rt.alloc()));
     expect_operated(
         &rt,
-        (1_400, 2),
+        Extent {
+            size: 1_400,
+            seats: 2,
+        },
         &Watch { calls: &calls },
         &[
             (

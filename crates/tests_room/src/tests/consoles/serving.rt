@@ -104,6 +104,17 @@ fn expect_left(
     }
 }
 
+/// A room that is to be opened.
+#[derive(Clone, Copy)]
+struct NewRoom {
+    /// How many places its core storage has.
+    size: u16,
+    /// How many seats it has.
+    seats: u8,
+    /// Whether its listener waits for connections.
+    waits: bool,
+}
+
 /// What is left of a new room of this size that has served consoles from this listener.
 fn serve_room<
     J: RoomId + Send + Sync,
@@ -126,9 +137,9 @@ fn serve_room<
     serve(rt.alloc(), rt, room, seats, listener, door)
 }
 
-/// Serves consoles at a new room of this size, each of which has sent its lines, and compares the replies, with a bar
-/// after those of each, how many consoles there were, why there were no more, and the journal. Where the listener waits
-/// for nobody, it accepts those that have come, and then none is there.
+/// Serves consoles at this new room, each of which has sent its lines, and compares the replies, with a bar after those
+/// of each, how many consoles there were, why there were no more, and the journal. Where the listener waits for nobody,
+/// it accepts those that have come, and then none is there.
 fn expect_served<
     R: Threads
         + Wait
@@ -140,16 +151,15 @@ fn expect_served<
     D: Door + Sync,
 >(
     rt: &R,
-    size: u16,
-    seats: u8,
-    waits: bool,
+    asked: NewRoom,
     door: &D,
     consoles: &[Console<'_>],
     replies: &[u8],
     wanted: (u8, Option<ServeFault>, usize),
 )
-    requires { 0 < seats }
+    requires { 0 < asked.seats }
 {
+    let NewRoom { size, seats, waits } = asked;
     let listener = TcpListener::bind(rt, (Ipv4Addr::LOCALHOST, 0)).expect(rt, "a port");
     let mut streams = send_all(rt, &listener, consoles);
     listener.set_nonblocking(!waits).expect(rt, "a listener");
@@ -167,9 +177,11 @@ fn two_consoles_are_attended_at_once(rt: HostRuntime) {
     };
     expect_served(
         &rt,
-        4_000,
-        2,
-        true,
+        NewRoom {
+            size: 4_000,
+            seats: 2,
+            waits: true,
+        },
         &door,
         &[(b"EXAMINE 0\nQUIT\n", 0), (b"EXAMINE 0\nQUIT\n", 0)],
         b" \nBYE\n| \nBYE\n|",
@@ -182,9 +194,11 @@ fn two_consoles_are_attended_at_once(rt: HostRuntime) {
 fn a_console_that_closes_one_half_is_answered(rt: HostRuntime) {
     expect_served(
         &rt,
-        4_000,
-        2,
-        true,
+        NewRoom {
+            size: 4_000,
+            seats: 2,
+            waits: true,
+        },
         &OpenDoor,
         &[(b"EXAMINE 0", 0), (b"EXAMINE 0\nQUIT\n", 0)],
         b" \n| \nBYE\n|",
@@ -196,9 +210,11 @@ fn a_console_that_closes_one_half_is_answered(rt: HostRuntime) {
 fn consoles_go_on_after_a_refused_connection(rt: HostRuntime) {
     expect_served(
         &rt,
-        1_400,
-        3,
-        false,
+        NewRoom {
+            size: 1_400,
+            seats: 3,
+            waits: false,
+        },
         &OpenDoor,
         &[(b"EXAMINE 1399\n", 1_399)],
         b" \n|",
@@ -210,9 +226,11 @@ fn consoles_go_on_after_a_refused_connection(rt: HostRuntime) {
 fn connections_have_the_seats_in_their_order(rt: HostRuntime) {
     expect_served(
         &rt,
-        1_400,
-        8,
-        true,
+        NewRoom {
+            size: 1_400,
+            seats: 8,
+            waits: true,
+        },
         &OpenDoor,
         &[
             (b"EXAMINE 1\n", 1),

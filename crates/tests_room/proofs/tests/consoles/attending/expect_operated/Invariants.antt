@@ -5,4 +5,4 @@ abbrev pub ghosts-operated-J-Ledger : goal.ghosts-operated-J-Ledger
 ghosts-operated-J-Ledger g a = record { name = a.opened.ledger; parts = a.opened.parts }
 
 abbrev pub ghosts-operated-J-RoomId : goal.ghosts-operated-J-RoomId
-ghosts-operated-J-RoomId g a = record { book = a.opened.book; size = a.size; seats = a.seats }
+ghosts-operated-J-RoomId g a = record { book = a.opened.book; size = a.extent.size; seats = a.extent.seats }
