@@ -1,4 +1,4 @@
-"""The pages are short, say what the tree has, and keep to our English."""
+"""The pages are short, say what the tree has, and keep to our English; and a function has few parameters."""
 import re
 import tempfile
 import unittest
@@ -44,6 +44,43 @@ class Lengths(unittest.TestCase):
             with self.subTest(page.name):
                 prose = re.sub(r"```.*?```", "", page.read_text(), flags=re.DOTALL).splitlines()
                 self.assertEqual([line for line in prose if len(line) > MOST_COLUMNS and not line.startswith("|")], [])
+
+
+def parameters(source):
+    """The name of each function of a source in Rattle, with how many parameters it has."""
+    source = source.replace("->", "")
+    for found in re.finditer(r"\bfn (\w+)(?=[<(])", source):
+        depth, count, is_begun, is_list = 0, 0, False, False
+        for char in source[found.end():]:
+            is_list |= depth == 0 and char == "("
+            depth += (char in "([{<") - (char in ")]}>")
+            if is_list and (depth == 0 or depth == 1 and char == ","):
+                count, is_begun = count + is_begun, False
+            elif is_list and not char.isspace() and not (depth == 1 and char == "("):
+                is_begun = True
+            if is_list and depth == 0:
+                break
+        yield found[1], count
+
+
+class Parameters(unittest.TestCase):
+    """A function has seven parameters at most, itself among them: more are fields of a struct."""
+
+    def test_no_function_has_more_than_seven(self):
+        for source in sorted((TOP / "crates").glob("*/src/**/*.rt")):
+            with self.subTest(source.relative_to(TOP)):
+                self.assertEqual([name for name, count in parameters(source.read_text()) if count > 7], [])
+
+    def test_how_they_are_counted(self):
+        source = """
+        fn none() {}
+        fn nested<'a, F: Fn(u8) -> u8>(&mut self, map: BTreeMap<u8, (u8, u8)>, f: F) {}
+        fn lines<R: Source, W: Sink>(
+            alloc: Global,
+            all: &[(u8, u8)],
+        ) -> Result<(), AllocError> {}
+        """
+        self.assertEqual(list(parameters(source)), [("none", 0), ("nested", 3), ("lines", 2)])
 
 
 class Tree(unittest.TestCase):
