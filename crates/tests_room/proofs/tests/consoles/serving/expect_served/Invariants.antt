@@ -5,4 +5,4 @@ abbrev pub ghosts-serve_room-J-Ledger : goal.ghosts-serve_room-J-Ledger
 ghosts-serve_room-J-Ledger g a = record { name = a.opened.ledger; parts = a.opened.parts }
 
 abbrev pub ghosts-serve_room-J-RoomId : goal.ghosts-serve_room-J-RoomId
-ghosts-serve_room-J-RoomId g a = record { book = a.opened.book; size = a.asked.size; seats = a.asked.seats }
+ghosts-serve_room-J-RoomId g a = record { book = a.opened.book; size = a.size; seats = a.seats }
