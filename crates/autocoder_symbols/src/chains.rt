@@ -1,5 +1,5 @@
 //! Chains of EQUs: what a label stands for whose EQU names one without a value so far.
-ghost use Rattle.std.specs.Prelude.{◌≡◌, ◌<◌, ◌^◌, length, map, max, position, IfOk, IfErr, OnOk};
+ghost use Rattle.std.specs.Prelude.{◌≡◌, ◌<◌, ◌^◌, length, map, max, position, Some, IfOk, IfErr, OnOk};
 ghost use Rattle.indexmap.specs.IndexMap.{get};
 ghost use Rattle.autocoder_statements.specs.Statement.{is_end};
 ghost use Rattle.autocoder_symbols.specs.Chains.{no_chains, has_value, link_in_base, link_in, is_declared_here};
@@ -237,17 +237,39 @@ impl Chains {
         })
     }
 
+    /// Makes room for as many labels as there is room for links, if there is none so far: labels that grow leave such
+    /// pieces too.
+    fn make_room(&mut self) -> Result<(), AsmFault>
+        ensures same { OnOk result (chains_view self.new ≡ chains_view self.old) }
+        ensures err { IfErr result IsMemory }
+    {
+        if self.links.is_empty() {
+            self.labels.reserve(self.links.capacity())?;
+        }
+        Ok(())
+    }
+
     /// Adds a link, unless its label is that of one.
+    fn push(&mut self, label: Label, link: Link) -> Result<(), AsmFault>
+        ensures ok { OnOk result (chains_view self.new ≡ with_link (chains_view self.old) label (Some link)) }
+        ensures err { IfErr result IsMemory }
+    {
+        if self.labels.insert(label)? {
+            self.links.push(link)?;
+        }
+        Ok(())
+    }
+
+    /// The same, if there is one.
     fn add(&mut self, label: Label, link: Option<Link>) -> Result<(), AsmFault>
         ensures ok { OnOk result (chains_view self.new ≡ with_link (chains_view self.old) label link) }
         ensures err { IfErr result IsMemory }
     {
-        if let Some(link) = link {
-            if self.labels.insert(label)? {
-                self.links.push(link)?;
-            }
-        }
-        Ok(())
+        let Some(link) = link else {
+            return Ok(());
+        };
+        self.make_room()?;
+        self.push(label, link)
     }
 
     /// Adds the link that a line of this number is, and says whether it is END.

@@ -169,13 +169,12 @@ current_part old new s t current part e =
     subst (λ (u : Storage). IsCurrent new (marks_of u)) (sym e) (λ at entry cache. current at entry (part at entry cache))
 
 -- two places
-pub current_two : (old between new : List CacheEntry) (s t : Storage) (a b : ℕ) → IsCurrent old (marks_of s)
-    → IsPart old between → IsApart between a a → IsPart between new → IsApart new b b
+pub current_two : (old new : List CacheEntry) (s t : Storage) (a b : ℕ) → IsCurrent old (marks_of s)
+    → IsPart old new → IsApart new a a → IsApart new b b
     → ((q : ℕ) → q ≢ a → q ≢ b → cell_at t q ≡ cell_at s q) → IsCurrent new (marks_of t)
-current_two old between new s t a b current part apart_a further apart_b same =
+current_two old new s t a b current part apart_a apart_b same =
     λ at entry cache i lt.
-    let before : IsCached between at entry = further at entry cache in
-    let not_a : at + i ≢ a = λ e. elim (apart_a at entry before) [
+    let not_a : at + i ≢ a = λ e. elim (apart_a at entry cache) [
       | inl under ↦ absurd (omega (arith, e, under, lt))
       | inr over ↦ absurd (omega (arith, e, over))
     ] in
@@ -183,7 +182,7 @@ current_two old between new s t a b current part apart_a further apart_b same =
       | inl under ↦ absurd (omega (arith, e, under, lt))
       | inr over ↦ absurd (omega (arith, e, over))
     ] in
-    current at entry (part at entry before) i lt ∙ mark_at s (at + i)
+    current at entry (part at entry cache) i lt ∙ mark_at s (at + i)
     ∙ ap (λ (cell : Cell). cell.mark) (sym (same (at + i) not_a not_b)) ∙ sym (mark_at t (at + i))
 
 -- the places from the units down to the one above a register

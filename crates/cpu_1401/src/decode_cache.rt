@@ -1,5 +1,5 @@
 //! A cache of decoded instructions: one that is carried out again isn't decoded again.
-ghost use Rattle.std.specs.Prelude.{◌≡◌, ◌≢◌, ◌⊎◌, ℕ, ◌+◌, ◌%◌, ◌<◌, ◌≤◌, Bool, List, true, IfOk, IfSome, length};
+ghost use Rattle.std.specs.Prelude.{◌≡◌, ◌≢◌, ◌⊎◌, ℕ, ◌+◌, ◌%◌, ◌<◌, ◌≤◌, Bool, List, false, true, IfOk, IfSome, length};
 ghost use Rattle.core_1401.specs.Address.{addresses};
 ghost use Rattle.core_1401.specs.PlaceSet.{has_place};
 ghost use Rattle.cpu_1401.specs.declared.cache_entry.CacheEntry.{CacheEntry};
@@ -151,6 +151,15 @@ impl DecodeCache {
         };
     }
 
+    /// Whether a place may be among the eight cells of a cached instruction.
+    #[inline(always)]
+    fn covers(&self, at: u16) -> bool
+        requires { at < addresses }
+        ensures { result ≡ false → IsApart self.now.entries at at }
+    {
+        self.covered.has(at)
+    }
+
     /// Forgets each instruction that has this place among its eight cells.
     #[inline(always)]
     pub(crate) fn forget_at(&mut self, at: u16)
@@ -159,9 +168,39 @@ impl DecodeCache {
         ensures apart { IsApart self.new.entries at at }
         ensures size { self.new.size ≡ self.old.size }
     {
-        if self.covered.has(at) {
+        if self.covers(at) {
             self.forget(at, at);
         }
+    }
+
+    /// Forgets each instruction that has one of two places among its eight cells.
+    #[inline(always)]
+    pub(crate) fn forget_two(&mut self, a: u16, b: u16)
+        requires a { a < addresses }
+        requires b { b < addresses }
+        ensures part { IsPart self.old.entries self.new.entries }
+        ensures apart_a { IsApart self.new.entries a a }
+        ensures apart_b { IsApart self.new.entries b b }
+        ensures size { self.new.size ≡ self.old.size }
+    {
+        if self.covers(a) || self.covers(b) {
+            self.forget_both(a, b);
+        }
+    }
+
+    /// The same, whether or not the places may be cells of any.
+    #[cold]
+    #[inline(never)]
+    fn forget_both(&mut self, a: u16, b: u16)
+        requires a { a < addresses }
+        requires b { b < addresses }
+        ensures part { IsPart self.old.entries self.new.entries }
+        ensures apart_a { IsApart self.new.entries a a }
+        ensures apart_b { IsApart self.new.entries b b }
+        ensures size { self.new.size ≡ self.old.size }
+    {
+        self.forget(a, a);
+        self.forget(b, b);
     }
 
     /// Forgets each instruction that has one of the places among its eight cells that an operation wrote: from its

@@ -20,7 +20,7 @@ use fields_1401::{
 };
 use machine_products::{divide, dividend_len, multiply};
 
-/// Sets the word marks at both addresses.
+/// Sets the word marks at both addresses. What is cached there is forgotten last: fewer values have to outlast that call.
 #[inline(always)]
 pub(crate) fn set_marks_there(core: &mut Core, cache: &mut DecodeCache, a: u16, b: u16) -> Done
     requires a { a < addresses }
@@ -31,12 +31,12 @@ pub(crate) fn set_marks_there(core: &mut Core, cache: &mut DecodeCache, a: u16, 
     ensures current { IsCurrent cache.new.entries (marks_of core.new) }
     ensures size { cache.new.size ≡ cache.old.size }
 {
-    cache.forget_at(a);
-    cache.forget_at(b);
-    set_marks_within(core, a, b)
+    let done = set_marks_within(core, a, b);
+    cache.forget_two(a, b);
+    done
 }
 
-/// Clears the word marks at both addresses.
+/// Clears the word marks at both addresses, in the same order.
 #[inline(always)]
 pub(crate) fn clear_marks_there(core: &mut Core, cache: &mut DecodeCache, a: u16, b: u16) -> Done
     requires a { a < addresses }
@@ -47,9 +47,9 @@ pub(crate) fn clear_marks_there(core: &mut Core, cache: &mut DecodeCache, a: u16
     ensures current { IsCurrent cache.new.entries (marks_of core.new) }
     ensures size { cache.new.size ≡ cache.old.size }
 {
-    cache.forget_at(a);
-    cache.forget_at(b);
-    clear_marks_within(core, a, b)
+    let done = clear_marks_within(core, a, b);
+    cache.forget_two(a, b);
+    done
 }
 
 /// Loads the A field to b and the places below it.
