@@ -272,6 +272,13 @@ class MemoryTest(unittest.TestCase):
                 with self.subTest(f"{tail}: {call}"):
                     self.expect_few(0, small, large, call, "--language", "ibm", "file")
 
+    def test_the_longest_source_of_them_does_too(self):
+        for tail in TAILS:
+            line, last = equal_below(tail)
+            small, large = (again(size, line, last) for size in (SHORTER_BYTES // 4, MOST_BYTES))
+            with self.subTest(tail):
+                self.expect_few(0, small, large, "run", "--language", "ibm", "file")
+
     def test_sources_and_listings_take_a_few_bytes_a_byte(self):
         for name, ((first, again, last), call) in LISTED.items():
             with self.subTest(name):
