@@ -127,6 +127,19 @@ impl<'a> LabelValues<'a> {
         }
     }
 
+    /// Makes room for the values of so many labels more.
+    ///
+    /// # Errors
+    ///
+    /// `Memory` if there is none.
+    pub(crate) fn make_room(&mut self, labels: usize) -> Result<(), AsmFault>
+        ensures same { OnOk result (self.new ≡ self.old) }
+        ensures err { IfErr result IsMemory }
+    {
+        self.own.reserve(labels)?;
+        Ok(())
+    }
+
     /// Gives a label its value.
     ///
     /// # Errors

@@ -539,6 +539,14 @@ impl<'a> Placing<'a> {
         }
     }
 
+    /// Makes room for the values of so many labels at once.
+    fn make_room(&mut self, labels: usize) -> Result<(), AsmFault>
+        ensures same { OnOk result (places_of self.new ≡ places_of self.old) }
+        ensures err { IfErr result IsMemory }
+    {
+        self.values.make_room(labels)
+    }
+
     /// Places lines.
     fn place_each(&mut self, lines: &Lines<'_>) -> Result<(), AsmFault>
         ensures ok { OnOk result (places_of self.new ≡ fold placed_after (places_of self.old) lines.now) }
@@ -567,6 +575,7 @@ pub fn place_all<'a>(
     ensures err { IfErr result IsMemory }
 {
     let mut placing = Placing::new(alloc, hashing, chains);
+    placing.make_room(lines.labelled())?;
     placing.place_each(lines)?;
     Ok(placing)
 }

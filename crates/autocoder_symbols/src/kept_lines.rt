@@ -35,6 +35,8 @@ pub(crate) struct LinesSoFar<'s> {
     held: Vec<Line>,
     /// Where among them each line is, counted from 1; 0 for a comment.
     places: Vec<u32>,
+    /// How many have a label.
+    labelled: usize,
 }
 
 impl<'s> Model for LinesSoFar<'s> {
@@ -81,6 +83,7 @@ pub struct Lines<'a> {
     unread: &'a [Unread],
     held: &'a [Line],
     places: &'a [u32],
+    labelled: usize,
 }
 
 impl<'a> Model for Lines<'a> {
@@ -128,6 +131,7 @@ impl<'s> LinesSoFar<'s> {
             unread: Vec::new(alloc),
             held: Vec::new(alloc),
             places: Vec::with_capacity(alloc, most)?,
+            labelled: 0,
         })
     }
 
@@ -147,6 +151,9 @@ impl<'s> LinesSoFar<'s> {
         }
         self.unread.push(unread)?;
         self.places.push(count as u32 + 1)?;
+        self.labelled = self
+            .labelled
+            .saturating_add(usize::from(line.label().is_some()));
         hold(&mut self.held, count, line)
     }
 
@@ -212,6 +219,7 @@ impl LinesSoFar<'_> {
             unread: self.unread.as_slice(),
             held: self.held.as_slice(),
             places: self.places.as_slice(),
+            labelled: self.labelled,
         }
     }
 }
@@ -251,6 +259,12 @@ impl<'a> Lines<'a> {
         self.places.len()
     }
 
+    /// How many lines of the source have a label: what a table of its symbols has room for at once. A table that grows
+    /// leaves pieces of memory that nothing else fits.
+    pub fn labelled(&self) -> usize {
+        self.labelled
+    }
+
     /// The line with this index.
     #[tactic(auto, using(crate::proofs::KeptLinesLemmas::one_line, crate::proofs::KeptLinesLemmas::line_with_index))]
     pub fn line(&self, i: usize) -> Line
@@ -271,6 +285,7 @@ impl<'a> Lines<'a> {
             unread: self.unread,
             held: self.held,
             places: self.places.split_at(i + 1).1,
+            labelled: self.labelled,
         }
     }
 
@@ -283,6 +298,7 @@ impl<'a> Lines<'a> {
             unread: self.unread,
             held: self.held,
             places: places_from(self.places, i),
+            labelled: self.labelled,
         }
     }
 
@@ -296,6 +312,7 @@ impl<'a> Lines<'a> {
             unread: self.unread,
             held: self.held,
             places: self.places.split_at(n).0,
+            labelled: self.labelled,
         }
     }
 }

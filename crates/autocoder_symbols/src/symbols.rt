@@ -176,7 +176,7 @@ pub(crate) fn sites_of(
         (λ sites. (label : ALabel) → get same_label sites label ≡ sites_of lines.now label) }
     ensures err { IfErr result IsMemory }
 {
-    let mut sites = IndexMap::with_hasher(alloc, hashing);
+    let mut sites = IndexMap::with_capacity_and_hasher(alloc, lines.labelled(), hashing)?;
     for i in 0..lines.len() {
         let line = lines.line(i);
         note_line(&mut sites, &line, i as u32 + 1)?;
