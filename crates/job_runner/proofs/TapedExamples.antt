@@ -1,6 +1,6 @@
 -- A job that reads a reel and prints it, worked out by hand. The program is at 600 in a core of 1,000 places, on a machine
 -- that is fitted with tapes.
-use Rattle.std.proofs.Common.{◌≡◌, Bool, false, List, [], ◌∷◌, ◌++◌, length, map, take, drop, refl}
+use Rattle.std.proofs.Common.{◌≡◌, false, List, [], ◌∷◌, ◌++◌, length, map, take, refl}
 use Rattle.std.specs.Prelude.{ℕ, codes}
 use Rattle.bcd_1401.specs.Graphic.{graphics}
 use Rattle.bcd_1401.specs.declared.cell.Cell.{Cell}

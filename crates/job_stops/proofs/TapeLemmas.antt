@@ -1,14 +1,12 @@
 -- What a step of a machine with tape units stops for.
 use Rattle.std.proofs.Common.{◌≡◌, ℕ, true, false, refl, sym, ap, ◌∙◌}
-use Rattle.std.specs.Prelude.{Option, None, Some, Result, Ok, Err, if◌then◌else◌}
-use Rattle.machine_panel.specs.declared.stop.Stop.{Stop}
+use Rattle.std.specs.Prelude.{Option, None, Some, Ok, Err}
 use Rattle.machine_panel.specs.declared.stop.Stop.TheVariants as stop
-use Rattle.cpu_1401.specs.Fitting.{fitted_step}
 use Rattle.cpu_1401.specs.State.{State}
 use Rattle.machine_tapes.specs.Drive.{no_reel}
 use Rattle.machine_tapes.specs.Instruction.{tape_instruction}
 use Rattle.machine_tapes.specs.TapeLoading.{loaded_from, loading}
-use Rattle.machine_tapes.specs.TapedStep.{TapedStepped, after_file_branch, after_work, step_by, takes_file_branch, taped_step}
+use Rattle.machine_tapes.specs.TapedStep.{after_work, step_by, takes_file_branch, taped_step}
 use Rattle.machine_tapes.specs.Tapes.{unit_of}
 use Rattle.machine_tapes.specs.Transfer.{TapeOutcome, stop_after, work_at, work_ready}
 use Rattle.machine_tapes.specs.declared.drive.Drive.{Drive}

@@ -1,6 +1,6 @@
 -- Worked values: the commands of acts, and the lines of a statement.
-use Rattle.std.proofs.Common.{◌≡◌, ℕ, true, false, List, [], ◌∷◌, replicate, refl}
-use Rattle.std.specs.Prelude.{codes, Ok, Err}
+use Rattle.std.proofs.Common.{◌≡◌, true, [], ◌∷◌, replicate, refl}
+use Rattle.std.specs.Prelude.{codes, Ok}
 use Rattle.core_1401.specs.Storage.{blank}
 use Rattle.machine_commands.specs.declared.command.Command.TheVariants.{Deposit, SetI}
 use Rattle.operate_orders.specs.declared.orders.Act.TheVariants as act

@@ -1,5 +1,5 @@
 -- A program of two labels for the worked values, and a small machine.
-use Rattle.std.proofs.Common.{ℕ, List, [], ◌∷◌, pos, Some, None, Option}
+use Rattle.std.proofs.Common.{ℕ, List, [], ◌∷◌, pos, Some, None}
 use Rattle.std.specs.Prelude.{codes}
 use Rattle.autocoder_listing.specs.declared.rows.Row.{Row}
 use Rattle.autocoder_listing.specs.declared.symbol_table.Symbol.{Symbol}

@@ -1,17 +1,17 @@
 -- Worked values: addresses and ranges.
-use Rattle.std.proofs.Common.{◌≡◌, List, [], ◌∷◌, pos, Some, None, refl}
+use Rattle.std.proofs.Common.{◌≡◌, refl}
 use Rattle.std.specs.Prelude.{codes, Ok, Err}
-use Rattle.operate_orders.specs.declared.places.Adjustment.TheVariants.{Plus, Minus, Indexed}
+use Rattle.operate_orders.specs.declared.places.Adjustment.TheVariants.{Plus, Minus}
 use Rattle.operate_orders.specs.declared.places.Base.TheVariants.{Line, Index, Held}
 use Rattle.operate_orders.specs.declared.places.IndexRegister.TheVariants.{X1, X3}
 use Rattle.operate_orders.specs.declared.places.Register.TheVariants.{A}
 use Rattle.operate_orders.specs.declared.ranges.Area.TheVariants.{Print}
 use Rattle.operate_orders.specs.declared.ranges.Range.TheVariants as range
 use Rattle.operate_program.specs.Field.{field_of, register_named}
-use Rattle.operate_program.specs.Range.{area_of, between, counted, first_named, index_places, label_places}
+use Rattle.operate_program.specs.Range.{between, counted, first_named, index_places, label_places}
 use Rattle.operate_program.specs.Range.{places_in_core}
 use Rattle.operate_program.specs.Range.{places_named, range_of}
-use Rattle.operate_program.specs.Value.{address_of, adjusted, in_core, index_value, indexed_value, label_value}
+use Rattle.operate_program.specs.Value.{address_of, adjusted, in_core, index_value, label_value}
 use Rattle.operate_program.specs.Value.{line_value, place_of, row_of_line, value_of}
 use Rattle.operate_program.specs.declared.fault.PlaceFault.TheVariants as fault
 use Rattle.operate_program.specs.declared.field.Field.TheVariants as field

@@ -1,7 +1,7 @@
 -- Holds of the machine, computed.
-use Rattle.std.proofs.Common.{◌≡◌, ℕ, List, [], ◌∷◌, refl, true, false}
+use Rattle.std.proofs.Common.{◌≡◌, ℕ, [], ◌∷◌, refl, true, false}
 use Rattle.std.specs.Fmt.{digits}
-use Rattle.std.specs.Prelude.{codes, Option, None, Some}
+use Rattle.std.specs.Prelude.{codes, None, Some}
 use Rattle.serving_room.specs.declared.hold.Hold.{Hold}
 use Rattle.serving_room.specs.Holds.{ended_by, going_on, held_by, hold_line, is_kept_off, seconds_held, taken_line}
 

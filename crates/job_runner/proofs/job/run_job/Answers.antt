@@ -1,7 +1,6 @@
 -- Each stretch leaves the whole, or ends it.
 use Rattle.std.proofs.Common.{◌-◌, arith, length, subst, sym, ◌∙◌, ap, rules}
 use Rattle.cpu_1401.specs.State.{State}
-use Rattle.machine_tapes.specs.declared.taped_machine.TapedMachine.{TapedMachine}
 use Rattle.job_runner.specs.Unattended.{Job, IsPartOf, taped_with_deck, unattended}
 use Rattle.job_runner.proofs.JoinLemmas.{at_end, begins, goes_on}
 use Rattle.job_runner.proofs.job.run_job.Goals as goal

@@ -1,5 +1,5 @@
 -- A character more, or a byte that is no graphic.
-use Rattle.std.proofs.Common.{ℕ, List, ◌++◌, ◌+◌, ◌∙◌, ap, sym, get_or, refl, drop, option_map, ◌≡◌}
+use Rattle.std.proofs.Common.{ℕ, List, ◌++◌, ◌+◌, ◌∙◌, ap, sym, drop, option_map}
 use Rattle.operate_program.specs.Act.{chars_in}
 use Rattle.operate_program.proofs.ActLemmas.{chars_missed, chars_more}
 use Rattle.operate_program.proofs.commands.chars_in.Goals as goal

@@ -3,7 +3,7 @@ use Rattle.std.proofs.Common.{rules, ◌≡◌, ℕ, ◌+◌, ◌<◌, List, len
 use Rattle.std.proofs.Common.{refl, sym, ◌∙◌, ap, subst, arith, take_all}
 use Rattle.std.proofs.lemmas.List.{drop-set-lt, length-set, length-take-le}
 use Rattle.std.proofs.lemmas.Grind.{drop_more_same}
-use Rattle.std.proofs.Common.{Ok, Err}
+use Rattle.std.proofs.Common.{Err}
 use Rattle.console_text.specs.CardText.{card_of}
 use Rattle.console_text.specs.declared.line.LineFault.TheVariants.{Graphic, Length}
 use Rattle.machine_notation.specs.Characters.{char_of, chars_of}

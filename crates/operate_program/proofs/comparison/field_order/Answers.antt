@@ -1,5 +1,5 @@
 -- All characters are compared.
-use Rattle.std.proofs.Common.{◌∙◌, List, ℕ, arith, sym}
+use Rattle.std.proofs.Common.{◌∙◌, arith, sym}
 use Rattle.fields_1401.specs.Number.{places_down}
 use Rattle.operate_program.specs.Comparison.{orders_of, orders_of_text}
 use Rattle.operate_program.proofs.ComparisonLemmas.{orders_counted, text_counted, text_done}

@@ -1,5 +1,5 @@
 -- The image of the source, or its fault.
-use Rattle.std.proofs.Common.{◌≡◌, ℕ, List, Result, Err, Vec, Global, sym, ap, subst, ◌∙◌, inl, inr}
+use Rattle.std.proofs.Common.{List, Result, Err, Vec, Global, sym, ap, subst, ◌∙◌, inl, inr}
 use Rattle.machine_commands.specs.declared.command.Command.{Command}
 use Rattle.operate_program.specs.Act.{Gives}
 use Rattle.operate_program.specs.declared.fault.ActFault.{ActFault}

@@ -1,5 +1,5 @@
 -- The line is that of the statement.
-use Rattle.std.proofs.Common.{◌≡◌, ℕ, List, Vec, Global, subst, ap, ◌∙◌}
+use Rattle.std.proofs.Common.{ℕ, List, Vec, Global, subst, ap, ◌∙◌}
 use Rattle.machine_commands.specs.declared.command.Command.{Command}
 use Rattle.operate_program.specs.Act.{Gives}
 use Rattle.operate_program.specs.Statement.{placed_commands, statement_line}
