@@ -14,9 +14,9 @@ pub enum FileFault {
     /// The file may not be read.
     #[error("permission denied")]
     Denied,
-    /// The file is larger than any program or deck may be.
-    #[error("is larger than 16777216 bytes")]
-    TooLong,
+    /// The file is larger than any program or deck may be, or any reel: it has more bytes than this.
+    #[error("is larger than {0} bytes")]
+    TooLong(u64),
     /// The system can't read the file.
     #[error("cannot be read")]
     Unreadable,

@@ -1,7 +1,7 @@
 //! What names of files lead to.
 
 use crate::fault::WriteFault;
-use std::fs::Metadata;
+use std::fs::{Metadata, OpenFile};
 use std::io::ErrorKind;
 use std::os::unix::fs::{FileTypeExt, MetadataExt};
 use std::rt::Files;
@@ -34,7 +34,7 @@ fn linked_name<R: Files + AllocGlobal>(rt: &R, link: &str) -> io::Result<String>
 /// # Errors
 ///
 /// If a link can't be read, or there are too many; or if memory is refused.
-pub(crate) fn end_of_links<R: Files + AllocGlobal>(rt: &R, name: &str) -> io::Result<String> {
+pub fn end_of_links<R: Files + AllocGlobal>(rt: &R, name: &str) -> io::Result<String> {
     let mut end = String::from_str(rt.alloc(), name)?;
     for _ in 0..MOST_LINKS {
         match fs::symlink_metadata(rt, end.as_str()) {
@@ -53,6 +53,15 @@ pub fn is_there<R: Files>(rt: &R, name: &str) -> bool {
 /// Whether these are of one file or folder.
 fn are_same(first: &Metadata, second: &Metadata) -> bool {
     first.dev() == second.dev() && first.ino() == second.ino()
+}
+
+/// Takes the name of an open file away, if the name is still that file's: another process may have put its own there.
+pub(crate) fn remove_own<R: Files>(rt: &R, name: &str, file: &R::File) {
+    if let (Ok(open), Ok(named)) = (file.metadata(), fs::symlink_metadata(rt, name)) {
+        if are_same(&open, &named) {
+            let _ = fs::remove_file(rt, name);
+        }
+    }
 }
 
 /// Whether a second writer spoils what the first one writes: not what a terminal, another device or a pipe takes.

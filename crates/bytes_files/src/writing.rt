@@ -2,7 +2,7 @@
 
 use crate::fault::WriteFault;
 use crate::limited::LimitedFile;
-use crate::names::{end_of_links, split_name};
+use crate::names::{end_of_links, remove_own, split_name};
 use bytes_streams::{ToWriter, put_all};
 use std::fs::{File, Metadata, OpenFile, OpenOptions};
 use std::io::{ErrorKind, Printer, Write};
@@ -76,7 +76,7 @@ fn create_beside<R: Files + AllocGlobal>(rt: &R, name: &str) -> io::Result<(R::F
 }
 
 /// Gives a new file the owner, the group and the permissions of an old one, as far as the system lets us.
-fn keep_rights<R: Files>(rt: &R, file: &R::File, beside: &str, old: &Metadata) {
+pub fn keep_rights<R: Files>(rt: &R, file: &R::File, beside: &str, old: &Metadata) {
     if chown(rt, beside, Some(old.uid()), Some(old.gid())).is_err() {
         let _ = chown(rt, beside, None, Some(old.gid()));
     }
@@ -208,14 +208,76 @@ pub fn put_whole<R: Files + Print + AllocGlobal>(
     end_whole(rt, writer.into_inner(), written.is_ok())
 }
 
-/// A new file, in place of one of the name, to which bytes are written as they come, as many as a file may have.
+/// A file to which bytes are written as they come, or standard output.
+#[derive(Drop)]
+pub enum CreatedFile<F, O> {
+    /// A file.
+    File(LimitedFile<F>),
+    /// Standard output.
+    Output(O),
+}
+
+impl<F: Write, O: Write> Write for CreatedFile<F, O> {
+    fn write(&mut self, buf: &[u8]) -> io::Result<usize> {
+        match self {
+            CreatedFile::File(file) => file.write(buf),
+            CreatedFile::Output(output) => output.write(buf),
+        }
+    }
+
+    fn flush(&mut self) -> io::Result<()> {
+        match self {
+            CreatedFile::File(file) => file.flush(),
+            CreatedFile::Output(output) => output.flush(),
+        }
+    }
+}
+
+/// Whether a file of this name can be made, where there is none. It is made, and taken away again if the name is still
+/// its own.
+fn can_make<R: Files + AllocGlobal>(rt: &R, name: &str) -> bool {
+    let Ok(end) = end_of_links(rt, name) else {
+        return false;
+    };
+    match File::create_new(rt, end.as_str()) {
+        Ok(file) => {
+            remove_own(rt, end.as_str(), &file);
+            true
+        }
+        Err(_) => false,
+    }
+}
+
+/// Whether `create` can be expected to make a file of this name. A file that is there stays as it is, and none is left
+/// where there was none. A device or a pipe isn't opened.
+pub fn can_create<R: Files + AllocGlobal>(rt: &R, name: &str) -> bool {
+    if name == STANDARD_OUTPUT {
+        return true;
+    }
+    match fs::metadata(rt, name) {
+        Ok(metadata) if metadata.is_dir() => false,
+        Ok(metadata) if !metadata.is_file() => true,
+        Ok(_) => OpenOptions::new().write(true).open(rt, name).is_ok(),
+        Err(error) if error.kind() == ErrorKind::NotFound => can_make(rt, name),
+        Err(_) => false,
+    }
+}
+
+/// A new file, in place of one of the name, to which bytes are written as they come, as many as a file may have. If the
+/// name is that of standard output, the bytes go there.
 ///
 /// # Errors
 ///
 /// If it can't be made.
-pub fn create<R: Files>(rt: &R, name: &str) -> Result<ToWriter<LimitedFile<R::File>>, WriteFault> {
+pub fn create<'r, R: Files + Print>(
+    rt: &'r R,
+    name: &str,
+) -> Result<ToWriter<CreatedFile<R::File, Printer<'r, R>>>, WriteFault> {
+    if name == STANDARD_OUTPUT {
+        return Ok(ToWriter::new(CreatedFile::Output(io::writer(rt))));
+    }
     match fs::create(rt, name) {
-        Ok(file) => Ok(ToWriter::new(LimitedFile::new(file))),
+        Ok(file) => Ok(ToWriter::new(CreatedFile::File(LimitedFile::new(file)))),
         Err(_) => Err(WriteFault::Unwritten),
     }
 }

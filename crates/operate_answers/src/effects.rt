@@ -4,11 +4,12 @@ ghost use Rattle.std.specs.Prelude.{◌≡◌, ◌<◌, ◌≤◌, length};
 use crate::counted::{label_at, put_column, put_span};
 use autocoder_statements::word_in;
 use bcd_1401::{Cell, Char};
-use core_1401::Core;
+use core_1401::{ADDRESSES, Core};
 use cpu_1401::Machine;
 use devices_1401::{Card, Movement};
 use job_trace::next_change;
 use machine_notation::{put_characters, put_digits};
+use machine_panel::Regs;
 use operate_program::Program;
 use operate_views::{put_change, put_comparison, put_labelled};
 use std::alloc::{AllocError, Global};
@@ -114,6 +115,11 @@ fn put_moved(effect: &mut Vec<u8>, before: &Machine, after: &Machine) -> Result<
     put_digits(effect, 1, u64::from(new.form))
 }
 
+/// Whether the last comparison found the same.
+fn is_same_comparison(one: &Regs, other: &Regs) -> bool {
+    one.unequal == other.unequal && one.low == other.low && one.high == other.high
+}
+
 /// Adds what a comparison found, if the step was one.
 fn put_compared(effect: &mut Vec<u8>, before: &Machine, after: &Machine) -> Result<(), AllocError> {
     let Some(cells) = before.next_instruction() else {
@@ -126,7 +132,13 @@ fn put_compared(effect: &mut Vec<u8>, before: &Machine, after: &Machine) -> Resu
         return Ok(());
     }
     put_semicolon(effect)?;
-    effect.extend_from_slice(b"finds ".as_slice())?;
+    // One of one character leaves the indicators if it finds its fields equal.
+    let word = if cells.as_slice().len() == 1 && is_same_comparison(&before.regs(), &after.regs()) {
+        b"the comparison stays ".as_slice()
+    } else {
+        b"finds ".as_slice()
+    };
+    effect.extend_from_slice(word)?;
     put_comparison(effect, &after.regs())
 }
 
@@ -152,7 +164,8 @@ fn put_branch(
     if is_passed_over(cells.as_slice()) {
         return Ok(());
     }
-    if usize::from(before.regs().i) + cells.as_slice().len() == usize::from(to) {
+    let beyond = usize::from(before.regs().i) + cells.as_slice().len();
+    if beyond % usize::from(ADDRESSES) == usize::from(to) {
         return Ok(());
     }
     put_semicolon(effect)?;

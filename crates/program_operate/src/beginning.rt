@@ -155,7 +155,10 @@ pub(crate) fn around_again(
     ensures { IfErr result (λ why. why ≢ OperateFault.Faulty) }
 {
     let program = match source {
-        Some(file) => labels_of(rt, file, reading)?,
+        Some(file) => {
+            let size = Some(room.machine().core().size());
+            labels_of(rt, file, Reading { size, ..reading })?
+        }
         None => sourceless(rt.alloc(), reading),
     };
     let mut greeting = Vec::new(rt.alloc());

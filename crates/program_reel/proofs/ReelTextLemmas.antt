@@ -11,7 +11,7 @@ use Rattle.devices_1401.specs.declared.card.Card.{Card}
 use Rattle.machine_reels.specs.Held.{is_record}
 use Rattle.machine_reels.specs.Reel.{characters_in, most_characters, tape_mark}
 use Rattle.machine_reels.specs.TapReading.{records_read}
-use Rattle.machine_reels.specs.TapText.{data_text, length_text, odd_byte, record_text, tap_text}
+use Rattle.machine_reels.specs.TapText.{length_text, odd_byte, record_text, tap_text}
 use Rattle.machine_reels.proofs.WriteLemmas.{tap_again, tap_text-first, tap_text-none}
 use Rattle.program_call.specs.declared.call.Parity.{Parity}
 use Rattle.program_reel.specs.Decks.{are_whole, card_record, deck_records, reel_cards, StayAsTheyAre}

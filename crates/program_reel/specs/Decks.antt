@@ -3,10 +3,11 @@ use Rattle.std.specs.Prelude.{◌≡◌, ℕ, ⊤, ◌+◌, ◌-◌, ◌<◌, �
 use Rattle.std.specs.Prelude.{◌∷◌, ◌++◌}
 use Rattle.std.specs.Prelude.{length, map, replicate, Result, Ok, Err}
 use Rattle.std.specs.List.{flat_map, list_all}
+use Rattle.bytes_files.specs.FileSize.{most_reel_bytes}
 use Rattle.devices_1401.specs.Card.{card_columns}
 use Rattle.devices_1401.specs.declared.card.Card.{Card}
 use Rattle.job_runner.specs.DeckText.{card_text}
-use Rattle.machine_reels.specs.Reel.{is_tape_mark, most_characters, tape_mark}
+use Rattle.machine_reels.specs.Reel.{is_tape_mark, tape_mark}
 use Rattle.program_call.specs.declared.call.Parity.{Parity}
 use Rattle.program_call.specs.declared.call.Parity.TheVariants.{Even, Odd}
 use Rattle.program_reel.specs.Parity.{a_alone, read_as, taped}
@@ -62,12 +63,12 @@ abbrev pub StayAsTheyAre : Parity → List Card → Type 0
 StayAsTheyAre Odd cards = ⊤
 StayAsTheyAre Even cards = list_all (λ (card : Card). list_all (λ char. not (nat_eq char a_alone)) card.0) cards ≡ true
 
--- why there is no reel of a deck: memory, or the deck has more characters than a reel can have, with the tape mark
+-- why there is no reel of a deck: memory, or the text of the reel, with the tape mark, has more bytes than are read
 abbrev pub IsWhyNoReelOf : List Card → ReelFault → Type 0
 IsWhyNoReelOf cards (fault.File name why) = ⊥
 IsWhyNoReelOf cards (fault.Reel why) = ⊥
 IsWhyNoReelOf cards (fault.Record number) = ⊥
-IsWhyNoReelOf cards fault.Full = most_characters < card_columns * length cards + 1
+IsWhyNoReelOf cards fault.Full = most_reel_bytes < (card_columns + 8) * length cards + 4
 IsWhyNoReelOf cards fault.Memory = ⊤
 IsWhyNoReelOf cards fault.Output = ⊥
 IsWhyNoReelOf cards (fault.Unwritten name) = ⊥

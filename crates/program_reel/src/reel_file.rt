@@ -5,7 +5,7 @@ use crate::fault::ReelFault;
 use crate::listing::write_reel_listing;
 use crate::reels::ReelText;
 use bytes_files::{
-    FileFault, WriteFault, begin_whole, end_whole, is_one_file, put_whole, read_whole,
+    FileFault, WriteFault, begin_whole, end_whole, is_one_file, put_whole, read_whole_reel,
 };
 use bytes_streams::ToWriter;
 use job_runner::CardList;
@@ -21,7 +21,7 @@ use std::rt::Files;
 ///
 /// `File`, with the name as it was given; else `Memory`.
 fn read_reel_file(rt: &(impl Files + AllocGlobal), name: String) -> Result<Vec<u8>, ReelFault> {
-    match read_whole(rt, name.as_str()) {
+    match read_whole_reel(rt, name.as_str()) {
         Ok(bytes) => Ok(bytes),
         Err(FileFault::Memory) => Err(ReelFault::Memory),
         Err(fault) => Err(ReelFault::File(name, fault)),

@@ -21,12 +21,12 @@ use bytes_pages::PAGE;
 use bytes_streams::{Failed, Sink};
 use devices_1401::{CARD_COLUMNS, Card};
 use job_runner::{CardList, Cards, Deck};
-use machine_reels::MOST_CHARACTERS;
 use program_call::Parity;
 use std::alloc::Global;
 
-/// The most cards of a deck that becomes a reel, with a tape mark after them.
-const MOST_CARDS: usize = (MOST_CHARACTERS - 1) / CARD_COLUMNS;
+/// The most cards of a deck that becomes a reel, with a tape mark after them: so the file of the reel has no more bytes
+/// than are read. The record of a card takes 88 of them, and the tape mark four.
+const MOST_CARDS: usize = (268_435_456 - 4) / (CARD_COLUMNS + 8);
 
 /// The codes of the characters of a card as they are on tape.
 fn card_record(parity: Parity, card: Card) -> [u8; CARD_COLUMNS]
@@ -158,7 +158,7 @@ impl<'a> ReelText<'a> {
     ///
     /// # Errors
     ///
-    /// `Full` if the deck has more characters than a reel can have; or `Memory`.
+    /// `Full` if the deck has more cards than the file of a reel may have; or `Memory`.
     pub fn new(
         alloc: Global,
         cards: &'a CardList,

@@ -1,5 +1,5 @@
 -- What a run begins with, by what its files were read as.
-use Rattle.std.proofs.Common.{◌≡◌, ℕ, true, false, List, [], ◌++◌, Option, None, Some, Result, Ok, refl, sym, subst, ◌∙◌}
+use Rattle.std.proofs.Common.{◌≡◌, ℕ, true, false, List, [], ◌++◌, Option, None, Some, Result, Ok, refl, sym, subst}
 use Rattle.std.proofs.lemmas.Bool.{and_parts}
 use Rattle.std.proofs.lemmas.List.{append-nil}
 use Rattle.std.specs.Prelude.{unwrap_or}
@@ -15,7 +15,7 @@ use Rattle.machine_image.specs.Image.{IsInCore}
 use Rattle.machine_image.specs.Version.{has_size}
 use Rattle.machine_image.specs.declared.version.Version.{Version}
 use Rattle.machine_image.specs.declared.version.Version.TheVariants.{One, Two}
-use Rattle.machine_image.specs.ImageText.{IsTextOf, HasText}
+use Rattle.machine_image.specs.ImageText.{IsTextOf}
 use Rattle.machine_image.specs.declared.image.Image.{Image}
 use Rattle.program_run.specs.Program.{IsAssembled, IsImageMachine, is_meant_as_image, with_image}
 use Rattle.program_run.specs.RunJob.{HasFile, HasLoader, HasProgram, IsBegun, IsDeckText}

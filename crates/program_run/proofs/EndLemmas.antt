@@ -17,7 +17,7 @@ use Rattle.program_run.specs.Run.{job_outcome, outcome_after}
 use Rattle.program_run.specs.ReelPlaces.{places_of}
 use Rattle.program_run.specs.RunDeck.{IsAtEndOf, started_job}
 use Rattle.program_run.specs.RunEnd.{EndsAs, EndsWith, IfStopped, IsHalt}
-use Rattle.program_run.specs.RunFile.{InputNames, IsUnread, IsUnstored, IsUnwritten, WrittenNames}
+use Rattle.program_run.specs.RunFile.{InputNames, IsUnread, IsUnready, IsUnwritten, WrittenNames}
 use Rattle.program_run.specs.RunJob.{begun_with, report_on, set_up}
 use Rattle.program_run.specs.RunReels.{AreMounted, IsNotPut, IsOfReelFile, IsThere, IsUnmounted, IsUnmountedOf}
 use Rattle.program_run.specs.RunReels.{IsUnwrittenOf, IsUnwrittenReel}
@@ -60,21 +60,21 @@ unread_untold Is how size names (fault.Reel name why) is = tt
 unread_untold Is how size names (fault.Exists name) is = tt
 unread_untold Is how size names fault.Memory is = tt
 
-pub unstored_untold : (Is : Ending → Type 0) (how : Start) (file : Option (List ℕ)) (why : RunFault)
-    → IsUnstored how file why → IfStopped Is why
-unstored_untold Is how file fault.Output is = tt
-unstored_untold Is how file fault.Size is = tt
-unstored_untold Is how file (fault.File name why) is = tt
-unstored_untold Is how file (fault.Unwritten name) is = tt
-unstored_untold Is how file (fault.OneFile first second) is = tt
-unstored_untold Is how file (fault.Deck name why) is = tt
-unstored_untold Is how file (fault.Unloaded why) is = tt
-unstored_untold Is how file (fault.Stopped ending) is = absurd is
-unstored_untold Is how file (fault.Source why) is = tt
-unstored_untold Is how file (fault.Image why) is = tt
-unstored_untold Is how file (fault.Reel name why) is = tt
-unstored_untold Is how file (fault.Exists name) is = tt
-unstored_untold Is how file fault.Memory is = tt
+pub unready_untold : (Is : Ending → Type 0) (how : Start) (names : WrittenNames) (why : RunFault)
+    → IsUnready how names why → IfStopped Is why
+unready_untold Is how names fault.Output is = tt
+unready_untold Is how names fault.Size is = absurd is
+unready_untold Is how names (fault.File name why) is = absurd is
+unready_untold Is how names (fault.Unwritten name) is = tt
+unready_untold Is how names (fault.OneFile first second) is = absurd is
+unready_untold Is how names (fault.Deck name why) is = absurd is
+unready_untold Is how names (fault.Unloaded why) is = tt
+unready_untold Is how names (fault.Stopped ending) is = absurd is
+unready_untold Is how names (fault.Source why) is = absurd is
+unready_untold Is how names (fault.Image why) is = absurd is
+unready_untold Is how names (fault.Reel name why) is = absurd is
+unready_untold Is how names (fault.Exists name) is = absurd is
+unready_untold Is how names fault.Memory is = tt
 
 -- nor is a reel that isn't mounted or written
 not_put_untold : (Is : Ending → Type 0) (file : List ℕ) (why : RunFault) → IsNotPut file why → IfStopped Is why

@@ -1,8 +1,7 @@
 -- Faults of reels among those of a run.
-use Rattle.std.proofs.Common.{◌≡◌, ℕ, List, [], ◌∷◌, String, inl, inr, refl, string_bytes, subst, sym}
+use Rattle.std.proofs.Common.{◌≡◌, ℕ, List, [], ◌∷◌, inl, inr, refl, string_bytes, subst, sym}
 use Rattle.std.proofs.Common.{OnOk, IfErr, Result, Ok, Err}
 use Rattle.std.specs.Prelude.{⊤}
-use Rattle.std.specs.Global.{Global}
 use Rattle.program_call.specs.declared.call.Job.{Job}
 use Rattle.program_call.specs.declared.call.MountedReel.{MountedReel}
 use Rattle.program_call.specs.declared.call.ReelSource.{ReelSource}
@@ -12,7 +11,7 @@ use Rattle.machine_panel.specs.declared.stop.Stop.TheVariants as stop
 use Rattle.program_run.specs.Run.{job_outcome, outcome_after}
 use Rattle.program_run.specs.RunFile.{IsOfRun, IsUnreadFile, WrittenNames}
 use Rattle.program_run.specs.RunJob.{ReportsJob, ReportsStop}
-use Rattle.program_run.specs.RunReels.{IsNamed, IsNewFile, IsNewReel, IsNotPut, IsOfReelFile, IsThere, IsUnmounted}
+use Rattle.program_run.specs.RunReels.{IsNewFile, IsNewReel, IsNotPut, IsOfReelFile, IsThere, IsUnmounted}
 use Rattle.program_run.specs.RunReels.{IsUnmountedOf, IsUnwrittenOf, IsUnwrittenReel, IsWrittenReel, IsWrittenTo}
 use Rattle.program_run.specs.declared.ending.Ending.{Ending}
 use Rattle.program_run.specs.declared.fault.RunFault.{RunFault}

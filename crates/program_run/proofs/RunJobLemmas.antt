@@ -16,7 +16,8 @@ use Rattle.machine_image.specs.ImageText.{written_text}
 use Rattle.job_runner.specs.Unattended.{with_deck}
 use Rattle.machine_tapes.specs.Tapes.{Tapes, no_tapes}
 use Rattle.machine_panel.specs.declared.stop.Stop.TheVariants as stop
-use Rattle.program_run.specs.RunFile.{InputNames, IsFaultOf, IsUnread, IsUnstored, IsUnwritten, WrittenNames}
+use Rattle.program_run.specs.RunFile.{InputNames, IsFaultOf, IsUnread, IsUnready, IsUnstored, IsUnwritten, WrittenNames}
+use Rattle.program_run.specs.RunFile.{written_of}
 use Rattle.program_run.specs.RunJob.{HasHalted, IsBegun, IsReportOf, ReportsJob, ReportsStop, begun_with, report_on}
 use Rattle.program_run.specs.RunJob.{turned}
 use Rattle.program_run.specs.RunReels.{AreMounted}
@@ -82,39 +83,70 @@ is_loaded_text size features switches cards machine loaded text same is text_is 
     let there = subst (λ (s : State). IsLoadedDeck (loaded_deck 1000000 (with_deck cards s)) loaded) same is in
     (loaded.image, (loaded, refl, there), text_is)
 
--- nor is an image that isn't stored
-pub unstored_reports : (job : Job) (how : Start) (file : Option (List ℕ)) (why : RunFault) → IsUnstored how file why
+-- nor is a file that can't be made, or an image that isn't stored
+pub unwritten_unready : (how : Start) (names : WrittenNames) (why : RunFault) → IsUnwritten names why
+    → IsUnready how names why
+unwritten_unready how names fault.Output is = tt
+unwritten_unready how names fault.Size is = absurd is
+unwritten_unready how names (fault.File name why) is = absurd is
+unwritten_unready how names (fault.Unwritten name) is = is
+unwritten_unready how names (fault.OneFile first second) is = absurd is
+unwritten_unready how names (fault.Deck name why) is = absurd is
+unwritten_unready how names (fault.Unloaded why) is = absurd is
+unwritten_unready how names (fault.Stopped ending) is = absurd is
+unwritten_unready how names (fault.Source why) is = absurd is
+unwritten_unready how names (fault.Image why) is = absurd is
+unwritten_unready how names (fault.Reel name why) is = absurd is
+unwritten_unready how names (fault.Exists name) is = absurd is
+unwritten_unready how names fault.Memory is = tt
+
+pub unstored_unready : (how : Start) (names : WrittenNames) (why : RunFault) → IsUnstored how names.image why
+    → IsUnready how names why
+unstored_unready how names fault.Output is = absurd is
+unstored_unready how names fault.Size is = absurd is
+unstored_unready how names (fault.File name why) is = absurd is
+unstored_unready how names (fault.Unwritten name) is = inr (inr (inr (inl is)))
+unstored_unready how names (fault.OneFile first second) is = absurd is
+unstored_unready how names (fault.Deck name why) is = absurd is
+unstored_unready how names (fault.Unloaded why) is = is
+unstored_unready how names (fault.Stopped ending) is = absurd is
+unstored_unready how names (fault.Source why) is = absurd is
+unstored_unready how names (fault.Image why) is = absurd is
+unstored_unready how names (fault.Reel name why) is = absurd is
+unstored_unready how names (fault.Exists name) is = absurd is
+unstored_unready how names fault.Memory is = tt
+
+pub unready_reports : (job : Job) (how : Start) (names : WrittenNames) (why : RunFault) → IsUnready how names why
     → ReportsJob job why
-unstored_reports job how file fault.Output is = absurd is
-unstored_reports job how file fault.Size is = absurd is
-unstored_reports job how file (fault.File name why) is = absurd is
-unstored_reports job how file (fault.Unwritten name) is = tt
-unstored_reports job how file (fault.OneFile first second) is = absurd is
-unstored_reports job how file (fault.Deck name why) is = absurd is
-unstored_reports job how file (fault.Unloaded why) is = tt
-unstored_reports job how file (fault.Stopped ending) is = absurd is
-unstored_reports job how file (fault.Source why) is = absurd is
-unstored_reports job how file (fault.Image why) is = absurd is
-unstored_reports job how file (fault.Reel name why) is = absurd is
-unstored_reports job how file (fault.Exists name) is = absurd is
-unstored_reports job how file fault.Memory is = tt
+unready_reports job how names fault.Output is = tt
+unready_reports job how names fault.Size is = absurd is
+unready_reports job how names (fault.File name why) is = absurd is
+unready_reports job how names (fault.Unwritten name) is = tt
+unready_reports job how names (fault.OneFile first second) is = absurd is
+unready_reports job how names (fault.Deck name why) is = absurd is
+unready_reports job how names (fault.Unloaded why) is = tt
+unready_reports job how names (fault.Stopped ending) is = absurd is
+unready_reports job how names (fault.Source why) is = absurd is
+unready_reports job how names (fault.Image why) is = absurd is
+unready_reports job how names (fault.Reel name why) is = absurd is
+unready_reports job how names (fault.Exists name) is = absurd is
+unready_reports job how names fault.Memory is = tt
 
 -- and it is a fault of its job
-pub unstored_fault : (job : Job) (why : RunFault) → IsUnstored job.start (option_map string_bytes job.image) why
-    → IsFaultOf job why
-unstored_fault job fault.Output is = absurd is
-unstored_fault job fault.Size is = absurd is
-unstored_fault job (fault.File name why) is = absurd is
-unstored_fault job (fault.Unwritten name) is = inr (inr (inr (inr (inr (inr (inl is))))))
-unstored_fault job (fault.OneFile first second) is = absurd is
-unstored_fault job (fault.Deck name why) is = absurd is
-unstored_fault job (fault.Unloaded why) is = inl is
-unstored_fault job (fault.Stopped ending) is = absurd is
-unstored_fault job (fault.Source why) is = absurd is
-unstored_fault job (fault.Image why) is = absurd is
-unstored_fault job (fault.Reel name why) is = absurd is
-unstored_fault job (fault.Exists name) is = absurd is
-unstored_fault job fault.Memory is = inl tt
+pub unready_fault : (job : Job) (why : RunFault) → IsUnready job.start (written_of job) why → IsFaultOf job why
+unready_fault job fault.Output is = inr (inr (inr tt))
+unready_fault job fault.Size is = absurd is
+unready_fault job (fault.File name why) is = absurd is
+unready_fault job (fault.Unwritten name) is = inr (inr (inr is))
+unready_fault job (fault.OneFile first second) is = absurd is
+unready_fault job (fault.Deck name why) is = absurd is
+unready_fault job (fault.Unloaded why) is = inl is
+unready_fault job (fault.Stopped ending) is = absurd is
+unready_fault job (fault.Source why) is = absurd is
+unready_fault job (fault.Image why) is = absurd is
+unready_fault job (fault.Reel name why) is = absurd is
+unready_fault job (fault.Exists name) is = absurd is
+unready_fault job fault.Memory is = inl tt
 
 -- what a job begins with, and its report
 abbrev pub IsBegunFor : Job → State → List Card → Type 0

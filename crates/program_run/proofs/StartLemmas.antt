@@ -1,6 +1,6 @@
 -- How a job begins that a key starts.
 use Rattle.std.proofs.Common.{◌≡◌, ℕ, ◌==◌, not, Bool, true, false, List, [], length, Option, None, Some, Result, Ok}
-use Rattle.std.proofs.Common.{Err, IfOk, MatchOption, OnOk, refl, subst, sym, ◌∙◌, ap}
+use Rattle.std.proofs.Common.{Err, IfOk, MatchOption, OnOk, subst, sym, ◌∙◌, ap}
 use Rattle.std.proofs.lemmas.Bool.{not-false, not-true}
 use Rattle.std.specs.Prelude.{if◌then◌else◌}
 use Rattle.devices_1401.specs.declared.card.Card.{Card}
@@ -14,9 +14,9 @@ use Rattle.machine_tapes.specs.declared.taped_machine.TapedMachine.{TapedMachine
 use Rattle.job_runner.specs.Unattended.{Job, ended, taped_load, taped_with_deck, unattended}
 use Rattle.program_call.specs.declared.call.Start.{Start}
 use Rattle.program_call.specs.declared.call.Start.TheVariants as start
-use Rattle.program_run.specs.RunDeck.{IsAtEndOf, job_by, pressed_job, report_of, started_job}
+use Rattle.program_run.specs.RunDeck.{IsAtEndOf, pressed_job, report_of, started_job}
 use Rattle.program_run.specs.RunStart.{GoesOnAs, StopsAs}
-use Rattle.program_run.specs.RunTrace.{pressed_trace, rest_traced, started_trace}
+use Rattle.program_run.specs.RunTrace.{pressed_trace, started_trace}
 use Rattle.program_run.specs.TraceText.{trace_text}
 use Rattle.program_run.specs.declared.deck_running.Broken.{Broken}
 use Rattle.program_run.specs.declared.job_report.JobReport.{JobReport}

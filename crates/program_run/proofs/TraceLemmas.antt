@@ -2,7 +2,6 @@
 use Rattle.std.proofs.Common.{◌≡◌, ◌≢◌, ◌<◌, ◌≤◌, ◌⊎◌, not, ℕ, ◌+◌, ◌-◌, zero, suc, Bool, true, false, List, [], ◌++◌}
 use Rattle.std.proofs.Common.{length, min, Option, None, Some}
 use Rattle.std.proofs.Common.{refl, sym, ◌∙◌, ap, subst, arith, append_assoc, length-append, inl, inr}
-use Rattle.std.proofs.lemmas.Bool.{not-false, not-true}
 use Rattle.std.proofs.lemmas.Option.{none-some}
 use Rattle.std.specs.Prelude.{nat_lt, ◌==◌, if◌then◌else◌, is_some}
 use Rattle.std.proofs.lemmas.List.{append-nil}
@@ -14,12 +13,11 @@ use Rattle.cpu_1401.specs.Run.{carried_out_by}
 use Rattle.cpu_1401.specs.State.{State}
 use Rattle.machine_tapes.specs.Instruction.{tape_instruction}
 use Rattle.machine_tapes.specs.TapedFrame.{TapedStepLaw}
-use Rattle.machine_tapes.specs.TapeLoading.{loaded_from}
-use Rattle.machine_tapes.specs.TapedStep.{TapedStepped, taped_step}
+use Rattle.machine_tapes.specs.TapedStep.{taped_step}
 use Rattle.machine_tapes.specs.Tapes.{Tapes}
 use Rattle.machine_tapes.specs.declared.taped_machine.TapedMachine.{TapedMachine}
 use Rattle.machine_tapes.specs.declared.work.TapeInstruction.{TapeInstruction}
-use Rattle.job_runner.specs.Unattended.{Job, after_output, go_on, taken_first, taped_emptied, taped_load, taped_with_deck}
+use Rattle.job_runner.specs.Unattended.{Job, after_output, go_on, taken_first, taped_emptied, taped_with_deck}
 use Rattle.job_runner.specs.Unattended.{unattended}
 use Rattle.job_trace.specs.declared.work.TapeMark.{TapeMark}
 use Rattle.job_trace.specs.declared.work.Work.{Work}
@@ -28,10 +26,9 @@ use Rattle.program_run.specs.TraceText.{mark_after, taped_line, trace_on, trace_
 use Rattle.std.proofs.KnownBytes.{Appends-nil, Appends-trans}
 use Rattle.std.specs.Io.KnownBytes.{Appends}
 use Rattle.bytes_streams.specs.Sink.{AppendsPart}
-use Rattle.program_call.specs.declared.call.Start.{Start}
 use Rattle.program_call.specs.declared.call.Start.TheVariants as start
 use Rattle.program_run.specs.RunTrace.{IsWhyUntraced, TracedStretch, line_if, lines_after, most_at_once, rest_traced}
-use Rattle.program_run.specs.RunTrace.{seen_if, started_trace, traced}
+use Rattle.program_run.specs.RunTrace.{seen_if, traced}
 use Rattle.program_run.specs.declared.deck_running.Broken.{Broken}
 use Rattle.program_run.specs.declared.deck_running.Broken.TheVariants as broken
 use Rattle.program_run.proofs.StretchLemmas.{ran_part}

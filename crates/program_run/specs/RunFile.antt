@@ -143,6 +143,23 @@ IsUnstored how file (fault.Reel name why) = ⊥
 IsUnstored how file (fault.Exists name) = ⊥
 IsUnstored how file fault.Memory = ⊤
 
+-- why a run doesn't begin whose files are read: a file can't be made that it writes, or there is no image of what a deck
+-- has loaded
+abbrev pub IsUnready : Start → WrittenNames → RunFault → Type 0
+IsUnready how names fault.Output = ⊤
+IsUnready how names fault.Size = ⊥
+IsUnready how names (fault.File name why) = ⊥
+IsUnready how names (fault.Unwritten name) = IsWrittenName names (string_bytes name)
+IsUnready how names (fault.OneFile first second) = ⊥
+IsUnready how names (fault.Deck name why) = ⊥
+IsUnready how names (fault.Unloaded why) = how ≡ start.LoadKey
+IsUnready how names (fault.Stopped ending) = ⊥
+IsUnready how names (fault.Source why) = ⊥
+IsUnready how names (fault.Image why) = ⊥
+IsUnready how names (fault.Reel name why) = ⊥
+IsUnready how names (fault.Exists name) = ⊥
+IsUnready how names fault.Memory = ⊤
+
 -- how a run fails that has begun: what isn't written, a new reel whose file is there, or a stop that is no halt
 abbrev pub IsOfRun : WrittenNames → RunFault → Type 0
 IsOfRun names fault.Output = ⊤

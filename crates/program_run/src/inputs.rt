@@ -15,7 +15,7 @@ use crate::source_reports::{report_faults, report_warnings};
 use crate::stopped_at::RunSource;
 use autocoder_1401::{AsmFault, AsmKind};
 use autocoder_statements::Language;
-use bytes_files::{FileFault, read_whole};
+use bytes_files::{FileFault, read_whole, read_whole_reel};
 use core_1401::CoreFault;
 use cpu_1401::Machine;
 use job_runner::{CardList, DeckTextFault, ReadDeck, read_deck};
@@ -34,8 +34,34 @@ pub(crate) fn read_file(rt: &(impl Files + AllocGlobal), name: String) -> Result
 {
     match read_whole(rt, name.as_str()) {
         Ok(bytes) => Ok(bytes),
-        Err(FileFault::Memory) => Err(RunFault::Memory),
-        Err(fault) => Err(RunFault::File(name, fault)),
+        Err(fault) => Err(unread(name, fault)),
+    }
+}
+
+/// The fault of a file of this name that can't be read.
+fn unread(name: String, fault: FileFault) -> RunFault
+    ensures { IsUnreadFile (string_bytes name) result }
+{
+    match fault {
+        FileFault::Memory => RunFault::Memory,
+        fault => RunFault::File(name, fault),
+    }
+}
+
+/// The bytes of the file of a reel.
+///
+/// # Errors
+///
+/// As of `read_file`.
+pub(crate) fn read_reel_file(
+    rt: &(impl Files + AllocGlobal),
+    name: String,
+) -> Result<Vec<u8>, RunFault>
+    ensures { IfErr result (IsUnreadFile (string_bytes name)) }
+{
+    match read_whole_reel(rt, name.as_str()) {
+        Ok(bytes) => Ok(bytes),
+        Err(fault) => Err(unread(name, fault)),
     }
 }
 

@@ -7,11 +7,12 @@ use crate::deck_running::Broken;
 use crate::fault::RunFault;
 use crate::punch_file::PunchFile;
 use crate::tracing::Trace;
-use bytes_files::{LimitedFile, WriteFault, create};
+use bytes_files::{CreatedFile, WriteFault, can_create, create};
 use bytes_streams::ToWriter;
 use machine_graphics::Graphics;
 use program_call::MountedReel;
 use std::alloc::Global;
+use std::io::Printer;
 use std::rt::Files;
 
 /// The names of the files that a run writes.
@@ -69,7 +70,7 @@ pub(crate) fn unwritten_file(alloc: Global, name: &str) -> RunFault
 }
 
 /// A file that a run writes.
-pub(crate) type OutputFile<F> = ToWriter<LimitedFile<F>>;
+pub(crate) type OutputFile<F, O> = ToWriter<CreatedFile<F, O>>;
 
 /// Where a run writes.
 #[derive(Drop)]
@@ -83,17 +84,68 @@ pub struct Outputs<W, P, F> {
 }
 
 /// Where a run of files writes: its paper, a file of the punched cards if there is one, and a trace if there is one.
-pub(crate) type FileOutputs<W, F> = Outputs<W, PunchFile<OutputFile<F>>, OutputFile<F>>;
+pub(crate) type FileOutputs<W, F, O> = Outputs<W, PunchFile<OutputFile<F, O>>, OutputFile<F, O>>;
+
+/// The files that a run writes, if they have names, in a runtime.
+pub(crate) type NamedOutputs<'r, R, F> = FileOutputs<
+    Option<OutputFile<F, Printer<'r, R>>>,
+    F,
+    Printer<'r, R>,
+>;
+
+/// Looks at each of the files that a run writes as it goes on: whether it can be made. A file that is there stays as it
+/// is.
+///
+/// # Errors
+///
+/// `Unwritten` if one can't be made, or `Memory`.
+pub(crate) fn check_outputs<R: Files + AllocGlobal>(
+    rt: &R,
+    names: &OutputNames,
+) -> Result<(), RunFault>
+    ensures { IfErr result (IsUnwritten (written_names (option_map string_bytes names.now.paper)
+        (option_map string_bytes names.now.punch) (option_map string_bytes names.now.trace)
+        (option_map string_bytes names.now.image) names.now.reels.items)) }
+{
+    match check_if_named(rt, &names.paper) {
+        Ok(()) => {}
+        Err(fault) => return Err(fault),
+    }
+    match check_if_named(rt, &names.punch) {
+        Ok(()) => {}
+        Err(fault) => return Err(fault),
+    }
+    match check_if_named(rt, &names.trace) {
+        Ok(()) => Ok(()),
+        Err(fault) => Err(fault),
+    }
+}
+
+/// Looks whether a file can be made, if one was named.
+fn check_if_named<R: Files + AllocGlobal>(rt: &R, name: &Option<String>) -> Result<(), RunFault>
+    ensures { IfErr result (IsUnwrittenFile (option_map string_bytes name.now)) }
+{
+    match name {
+        Some(name) => {
+            if can_create(rt, name.as_str()) {
+                Ok(())
+            } else {
+                Err(unwritten_file(rt.alloc(), name.as_str()))
+            }
+        }
+        None => Ok(()),
+    }
+}
 
 /// New files, in place of those of these names; without a name for the paper it has none.
 ///
 /// # Errors
 ///
 /// `Unwritten` if one can't be made, or `Memory`.
-pub(crate) fn create_outputs<R: Files + AllocGlobal>(
-    rt: &R,
+pub(crate) fn create_outputs<'r, R: Files + Print + AllocGlobal>(
+    rt: &'r R,
     names: &OutputNames,
-) -> Result<FileOutputs<Option<OutputFile<R::File>>, R::File>, RunFault>
+) -> Result<NamedOutputs<'r, R, R::File>, RunFault>
     ensures { IfErr result (IsUnwritten (written_names (option_map string_bytes names.now.paper)
         (option_map string_bytes names.now.punch) (option_map string_bytes names.now.trace)
         (option_map string_bytes names.now.image) names.now.reels.items)) }
@@ -121,10 +173,10 @@ pub(crate) fn create_outputs<R: Files + AllocGlobal>(
 }
 
 /// Creates or truncates the file, if one was named.
-fn create_if_named<R: Files + AllocGlobal>(
-    rt: &R,
+fn create_if_named<'r, R: Files + Print + AllocGlobal>(
+    rt: &'r R,
     name: &Option<String>,
-) -> Result<Option<OutputFile<R::File>>, RunFault>
+) -> Result<Option<OutputFile<R::File, Printer<'r, R>>>, RunFault>
     ensures { IfErr result (IsUnwrittenFile (option_map string_bytes name.now)) }
 {
     match name {
@@ -137,7 +189,10 @@ fn create_if_named<R: Files + AllocGlobal>(
 }
 
 /// Creates or truncates the file of this name.
-fn create_named<R: Files + AllocGlobal>(rt: &R, name: &str) -> Result<OutputFile<R::File>, RunFault>
+fn create_named<'r, R: Files + Print + AllocGlobal>(
+    rt: &'r R,
+    name: &str,
+) -> Result<OutputFile<R::File, Printer<'r, R>>, RunFault>
     ensures { IfErr result (IsUnwrittenFile (Some name.now)) }
 {
     match create(rt, name) {

@@ -12,7 +12,7 @@ ghost use Rattle.program_run.specs.WrittenReels.{AreHandedOver, HandsOver, IsHan
 ghost use Rattle.program_run.specs.WrittenReels.{text_on};
 
 use crate::fault::RunFault;
-use crate::inputs::read_file;
+use crate::inputs::read_reel_file;
 use crate::reel_files::{ReelFiles, exists};
 use bytes_files::is_there;
 use machine_operations::TAPE_UNITS;
@@ -47,7 +47,7 @@ fn read_reel(rt: &(impl Files + AllocGlobal), name: &str) -> Result<Reel, RunFau
     let Ok(label) = String::from_str(rt.alloc(), name) else {
         return Err(RunFault::Memory);
     };
-    let text = match read_file(rt, label) {
+    let text = match read_reel_file(rt, label) {
         Ok(text) => text,
         Err(fault) => return Err(fault),
     };

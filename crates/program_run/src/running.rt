@@ -1,9 +1,9 @@
 //! What the subcommand `run` does.
-ghost use Rattle.std.specs.Prelude.{◌≡◌, ◌⊎◌, true, Err, IfOk, IfErr, OnOk, option_map, string_bytes};
+ghost use Rattle.std.specs.Prelude.{◌≡◌, ◌⊎◌, true, false, Err, IfOk, IfErr, OnOk, option_map, string_bytes};
 ghost use Rattle.job_runner.specs.Unattended.{taped_with_deck};
 ghost use Rattle.program_run.specs.RunDeck.{IsAtEndOf, started_job};
 ghost use Rattle.program_run.specs.Run.{job_outcome};
-ghost use Rattle.program_run.specs.RunFile.{IsFaultOf, IsOfRun, IsUnwritten, written_names};
+ghost use Rattle.program_run.specs.RunFile.{IsFaultOf, IsOfRun, IsUnready, IsUnwritten, written_names};
 ghost use Rattle.program_run.specs.RunJob.{HasHalted, ReportsJob, ReportsStop, begun_with, report_on, set_up};
 ghost use Rattle.program_run.specs.RunJob.{with_switches};
 ghost use Rattle.program_run.specs.RunEnd.{EndsAs, EndsWith, IfStopped, IsHalt};
@@ -17,10 +17,10 @@ use crate::inputs::{InputGraphics, Inputs, read_inputs};
 use crate::job_report::JobReport;
 use crate::loaded_image::store_image;
 use crate::one_file::{Clash, check_names};
-use crate::outputs::{FileOutputs, OutputFile, OutputNames, Outputs, create_outputs};
+use crate::outputs::{NamedOutputs, OutputNames, Outputs, check_outputs, create_outputs};
 use crate::reel_files::{NamedFiles, ReelFiles};
 use crate::reels::{read_reels, write_reels};
-use crate::watching::{Shown, Unwatched};
+use crate::watching::{AboveLine, Shown, Unwatched};
 use bytes_streams::{Sink, ToWriter};
 use cpu_1401::{Machine, Stop};
 use job_runner::CardList;
@@ -28,6 +28,7 @@ use machine_graphics::Graphics;
 use machine_panel::Features;
 use machine_tapes::{TapedMachine, Tapes};
 use program_call::{Job, Start, is_refused};
+use std::cell::Cell;
 use std::io;
 use std::rt::{Clock, Files};
 
@@ -58,10 +59,10 @@ pub(crate) fn set_up(machine: &mut Machine, features: Features, switches: &[bool
     set_switches(machine, switches);
 }
 
-/// Runs a machine with its cards, and shows how far it is if standard error is a terminal.
+/// Runs a machine with its cards, and shows how far it is if there is a line for that.
 fn run_shown<R: Eprint + Clock + AllocGlobal, W: Sink, P: Sink, F: Sink>(
     rt: &R,
-    error_output: ErrorOutput,
+    line: Option<&Cell<bool>>,
     taped: &mut TapedMachine,
     cards: &CardList,
     start: Start,
@@ -73,29 +74,30 @@ fn run_shown<R: Eprint + Clock + AllocGlobal, W: Sink, P: Sink, F: Sink>(
         (IsAtEndOf (started_job start limit (taped_with_deck cards.now taped.old)) taped.new) }
 {
     let alloc = rt.alloc();
-    match error_output {
-        ErrorOutput::Terminal => {
-            let mut shown = Shown::new(rt);
+    match line {
+        Some(is_shown) => {
+            let mut shown = Shown::new(rt, is_shown);
             let ended = run_started(alloc, taped, cards, start, limit, outputs, &mut shown);
             shown.end();
             ended
         }
-        ErrorOutput::Other => {
+        None => {
             let mut watch = Unwatched;
             run_started(alloc, taped, cards, start, limit, outputs, &mut watch)
         }
     }
 }
 
-/// Runs a machine with its cards, and writes where it is to.
-fn run_into<R: Files + Print + Eprint + Clock + AllocGlobal>(
-    rt: &R,
+/// Runs a machine with its cards, and writes where it is to. If standard error is a terminal, one line of it shows how
+/// far the machine is.
+fn run_into<'r, R: Files + Print + Eprint + Clock + AllocGlobal>(
+    rt: &'r R,
     error_output: ErrorOutput,
     taped: &mut TapedMachine,
     cards: &CardList,
     start: Start,
     limit: u32,
-    outputs: FileOutputs<Option<OutputFile<R::File>>, R::File>,
+    outputs: NamedOutputs<'r, R, R::File>,
 ) -> Result<JobReport, Broken>
     ensures report { IfOk result (λ report. report ≡ report_on start limit (taped_with_deck cards.now taped.old)) }
     ensures end { OnOk result
@@ -106,6 +108,11 @@ fn run_into<R: Files + Print + Eprint + Clock + AllocGlobal>(
         punch,
         trace,
     } = outputs;
+    let is_shown = Cell::new(false);
+    let line = match error_output {
+        ErrorOutput::Terminal => Some(&is_shown),
+        ErrorOutput::Other => None,
+    };
     match paper {
         Some(paper) => {
             let mut outputs = Outputs {
@@ -113,15 +120,15 @@ fn run_into<R: Files + Print + Eprint + Clock + AllocGlobal>(
                 punch,
                 trace,
             };
-            run_shown(rt, error_output, taped, cards, start, limit, &mut outputs)
+            run_shown(rt, line, taped, cards, start, limit, &mut outputs)
         }
         None => {
             let mut outputs = Outputs {
-                paper: ToWriter::new(io::writer(rt)),
+                paper: ToWriter::new(AboveLine::new(rt, line, io::writer(rt))),
                 punch,
                 trace,
             };
-            run_shown(rt, error_output, taped, cards, start, limit, &mut outputs)
+            run_shown(rt, line, taped, cards, start, limit, &mut outputs)
         }
     }
 }
@@ -186,6 +193,37 @@ pub fn run_file<R: Files + Print + Eprint + Clock + AllocGlobal>(
     run_job(rt, error_output, job, &mut NamedFiles::new(rt))
 }
 
+/// Looks at the files that are to be written, and writes the image of what the deck loads, if it is asked for.
+///
+/// # Errors
+///
+/// `Unwritten` if a file can't be made, or the image isn't written; `Unloaded` if there is no image of what the deck has
+/// loaded; or `Memory`. Files that were there are then as they were.
+#[tactic(auto, using(crate::proofs::RunJobLemmas::unwritten_unready, crate::proofs::RunJobLemmas::unstored_unready))]
+fn make_ready<R: Files + Print + AllocGlobal>(
+    rt: &R,
+    names: &OutputNames,
+    start: Start,
+    cards: &CardList,
+    size: Option<u16>,
+    features: Features,
+    switches: &[bool; 7],
+) -> Result<(), RunFault>
+    requires { is_refused size ≡ false }
+    ensures { IfErr result (IsUnready start (written_names (option_map string_bytes names.now.paper)
+        (option_map string_bytes names.now.punch) (option_map string_bytes names.now.trace)
+        (option_map string_bytes names.now.image) names.now.reels.items)) }
+{
+    match check_outputs(rt, names) {
+        Ok(()) => {}
+        Err(fault) => return Err(fault),
+    }
+    match store_image(rt, &names.image, start, cards, size, features, switches) {
+        Ok(()) => Ok(()),
+        Err(fault) => Err(fault),
+    }
+}
+
 /// What was read for a job: a machine with its program and deck, and tape units with its reels.
 struct Begun {
     inputs: Inputs,
@@ -197,7 +235,7 @@ struct Begun {
 /// # Errors
 ///
 /// As of `run_file`.
-#[tactic(auto, using(crate::proofs::RunJobLemmas::unread_reports, crate::proofs::RunJobLemmas::unstored_reports, crate::proofs::RunJobLemmas::unstored_fault, crate::proofs::RunJobLemmas::run_halted, crate::proofs::RunJobLemmas::run_stopped, crate::proofs::ReelLemmas::unmounted_reports, crate::proofs::EndLemmas::unread_untold, crate::proofs::EndLemmas::unstored_untold, crate::proofs::EndLemmas::unmounted_untold, crate::proofs::EndLemmas::job_halts, crate::proofs::EndLemmas::job_told))]
+#[tactic(auto, using(crate::proofs::RunJobLemmas::unread_reports, crate::proofs::RunJobLemmas::unready_reports, crate::proofs::RunJobLemmas::unready_fault, crate::proofs::RunJobLemmas::run_halted, crate::proofs::RunJobLemmas::run_stopped, crate::proofs::ReelLemmas::unmounted_reports, crate::proofs::EndLemmas::unread_untold, crate::proofs::EndLemmas::unready_untold, crate::proofs::EndLemmas::unmounted_untold, crate::proofs::EndLemmas::job_halts, crate::proofs::EndLemmas::job_told))]
 pub fn run_job<R: Files + Print + Eprint + Clock + AllocGlobal, D: ReelFiles>(
     rt: &R,
     error_output: ErrorOutput,
@@ -264,15 +302,7 @@ pub fn run_job<R: Files + Print + Eprint + Clock + AllocGlobal, D: ReelFiles>(
         Ok(tapes) => tapes,
         Err(fault) => return Err(fault),
     };
-    match store_image(
-        rt,
-        &names.image,
-        start,
-        &inputs.cards,
-        size,
-        features,
-        &switches,
-    ) {
+    match make_ready(rt, &names, start, &inputs.cards, size, features, &switches) {
         Ok(()) => {}
         Err(fault) => return Err(fault),
     }
@@ -321,7 +351,17 @@ fn run_and_tell<R: Files + Print + Eprint + Clock + AllocGlobal, D: ReelFiles>(
             let ending = Ending::of(rt.alloc(), report, &taped, start, source.as_ref());
             tell_both(rt, ending, written)
         }
-        Err(fault) => Err(fault),
+        Err(fault) => {
+            tell_unwritten(rt, &written);
+            Err(fault)
+        }
+    }
+}
+
+/// Reports on standard error that a reel isn't written.
+fn tell_unwritten(rt: &impl Eprint, written: &Result<(), RunFault>) {
+    if let Err(fault) = written {
+        let _ = eprintln!(rt; "ibm1401: {fault}");
     }
 }
 

@@ -2,6 +2,9 @@
 
 use machine_operations::TAPE_UNITS;
 use machine_tapes::Tapes;
+use std::cell::Cell;
+use std::io;
+use std::io::Write;
 use std::rt::Clock;
 use std::time::{Duration, Instant};
 
@@ -36,23 +39,31 @@ const BETWEEN_LOOKS: u32 = 16;
 /// How many seconds a run goes on before it is shown how far it is, and again each time.
 const BETWEEN_LINES: u64 = 1;
 
+/// Takes the line away that shows how far a run is, if it is there.
+fn take_away(rt: &impl Eprint, is_shown: &Cell<bool>) {
+    if is_shown.get() {
+        let _ = eprint!(rt; "\r\x1b[K");
+        is_shown.set(false);
+    }
+}
+
 /// Shows how far the run is each second, on one line of the terminal that standard error is.
 #[derive(Drop)]
 pub struct Shown<'a, R> {
     rt: &'a R,
     seen: u32,
     last: Option<Instant>,
-    is_told: bool,
+    is_shown: &'a Cell<bool>,
 }
 
 impl<'a, R: Clock + Eprint> Shown<'a, R> {
-    /// A run that begins now.
-    pub fn new(rt: &'a R) -> Shown<'a, R> {
+    /// A run that begins now. The cell says whether the line is there.
+    pub fn new(rt: &'a R, is_shown: &'a Cell<bool>) -> Shown<'a, R> {
         Shown {
             rt,
             seen: 0,
             last: Instant::now(rt).ok(),
-            is_told: false,
+            is_shown,
         }
     }
 
@@ -69,9 +80,39 @@ impl<'a, R: Clock + Eprint> Shown<'a, R> {
 
     /// Takes the line away again.
     pub fn end(&self) {
-        if self.is_told {
-            let _ = eprint!(self.rt; "\r\x1b[K");
+        take_away(self.rt, self.is_shown);
+    }
+}
+
+/// What is written where the line may be, which is taken away before: the two may be on one terminal.
+#[derive(Drop)]
+pub struct AboveLine<'a, R, W> {
+    rt: &'a R,
+    is_shown: Option<&'a Cell<bool>>,
+    output: W,
+}
+
+impl<'a, R, W> AboveLine<'a, R, W> {
+    /// Writes to this output. Without a cell there is no line.
+    pub fn new(rt: &'a R, is_shown: Option<&'a Cell<bool>>, output: W) -> AboveLine<'a, R, W> {
+        AboveLine {
+            rt,
+            is_shown,
+            output,
         }
+    }
+}
+
+impl<R: Eprint, W: Write> Write for AboveLine<'_, R, W> {
+    fn write(&mut self, buf: &[u8]) -> io::Result<usize> {
+        if let Some(is_shown) = self.is_shown {
+            take_away(self.rt, is_shown);
+        }
+        self.output.write(buf)
+    }
+
+    fn flush(&mut self) -> io::Result<()> {
+        self.output.flush()
     }
 }
 
@@ -96,6 +137,6 @@ impl<R: Clock + Eprint> Watch for Shown<'_, R> {
         self.show_reels(tapes);
         let _ = eprint!(self.rt; "\x1b[K");
         self.last = Some(now);
-        self.is_told = true;
+        self.is_shown.set(true);
     }
 }

@@ -56,6 +56,11 @@ impl JournalFile {
         }
     }
 
+    /// The file.
+    pub(crate) fn file(&self) -> &File {
+        &self.file
+    }
+
     /// What lines of it outlast.
     pub(crate) fn durability(&self) -> Durability {
         self.durability

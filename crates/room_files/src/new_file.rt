@@ -5,6 +5,7 @@ use crate::fault::{JournalFileFault, KeepFault};
 use crate::files::{file_fault, keep_name, lock};
 use crate::journal_file::{Durability, JournalFile};
 use crate::keeping::begin_text;
+use bytes_files::{end_of_links, keep_rights};
 use bytes_streams::{Sink, put_all};
 use std::fs;
 use std::fs::{File, OpenOptions};
@@ -220,23 +221,42 @@ fn put_in_place(
     Ok(file)
 }
 
-/// A new file that has this text, in the place of the one of this name: whoever opens that finds the old text or the
-/// new one.
+/// The name of the open file that has this name, or to which it leads.
+fn name_of_open(
+    rt: &(impl Files<File = File> + AllocGlobal),
+    name: &str,
+    file: &File,
+) -> Result<String, JournalFileFault> {
+    match end_of_links(rt, name) {
+        Ok(end) if is_named(rt, end.as_str(), file) => Ok(end),
+        Ok(_) => Err(JournalFileFault::Unwritten),
+        Err(error) => Err(file_fault(error.kind(), JournalFileFault::Unwritten)),
+    }
+}
+
+/// A new file that has this text, in the place of the open file of this name, or to which it leads: whoever opens that
+/// finds the old text or the new one. It gets the owner, the group and the permissions of the old one as far as the
+/// system lets us.
 ///
 /// # Errors
 ///
-/// Why it can't be made or written; then the file of this name is the old one, unless the new name isn't forced onto
-/// the disk.
+/// `Unwritten` if the name is another file's by now; else why it can't be made or written. Then the file of this name is
+/// the old one, unless the new name isn't forced onto the disk.
 pub(crate) fn supersede(
     rt: &(impl Files<File = File> + AllocGlobal),
     name: &str,
+    old: &File,
     text: &[u8],
     durability: Durability,
 ) -> Result<JournalFile, JournalFileFault>
     ensures good { IfOk result (λ made. ⟦<JournalFile as Sink>⟧.has_failed made ≡ false) }
 {
-    let (file, beside) = make_beside(rt, name)?;
-    let made = put_in_place(rt, file, beside.as_str(), name, text, durability);
+    let name = name_of_open(rt, name, old)?;
+    let (file, beside) = make_beside(rt, name.as_str())?;
+    if let Ok(old) = old.metadata() {
+        keep_rights(rt, &file, beside.as_str(), &old);
+    }
+    let made = put_in_place(rt, file, beside.as_str(), name.as_str(), text, durability);
     if made.is_err() {
         let _ = fs::remove_file(rt, beside.as_str());
     }

@@ -28,12 +28,13 @@ fn common_lines(old: &[u8], new: &[u8]) -> usize
 
 /// Gives the file of a journal, which has this name, the text of another journal. It is cut after the last line that
 /// both texts have in common, and the other lines are added by one write. If there is no such line, as where the
-/// machines have different sizes, a new file takes its name. So whoever opens the file, at whichever time the program
+/// machines have different sizes, a new file with its rights takes its name; a link to it stays one. So whoever opens the file, at whichever time the program
 /// was ended, finds a journal: the old one, the new one, or what they have in common.
 ///
 /// # Errors
 ///
-/// If another process has changed the file, or it can't be read or written, or `Memory`.
+/// If another process has changed the file, or has given its name to another where a new one takes it; if it can't be
+/// read or written; or `Memory`.
 pub fn rewrite_journal(
     rt: &(impl Files<File = File> + AllocGlobal),
     name: &str,
@@ -44,7 +45,7 @@ pub fn rewrite_journal(
 {
     let common = common_lines(file.text(rt.alloc())?.as_slice(), text);
     if common == 0 {
-        return supersede(rt, name, text, file.durability());
+        return supersede(rt, name, file.file(), text, file.durability());
     }
     let mut file = file.cut(common as u64)?;
     if put_all(&mut file, &text[common..]).is_err() || file.has_failed() {

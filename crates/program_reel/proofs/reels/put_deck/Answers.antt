@@ -1,5 +1,5 @@
 -- The record of one card more, or of no more.
-use Rattle.std.proofs.Common.{◌≡◌, ℕ, List, ◌++◌, true, length, map, ◌∙◌, sym, ap, subst, arith}
+use Rattle.std.proofs.Common.{◌≡◌, ℕ, List, ◌++◌, true, map, ◌∙◌, sym, ap, subst, arith}
 use Rattle.std.proofs.lemmas.Bool.{and_from}
 use Rattle.std.proofs.lemmas.Result.{err_from_is_err_and}
 use Rattle.std.specs.List.{list_all}

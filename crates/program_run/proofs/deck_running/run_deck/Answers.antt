@@ -1,5 +1,5 @@
 -- Each stretch adds what it writes, and leaves the rest.
-use Rattle.std.proofs.Common.{drop, refl, sym, subst, ap, ◌∙◌, rules}
+use Rattle.std.proofs.Common.{refl, sym, subst, ap, ◌∙◌, rules}
 use Rattle.bytes_streams.specs.Sink.{AppendsPart}
 use Rattle.program_run.specs.TraceText.{trace_text}
 use Rattle.program_run.specs.RunTrace.{seen_if, traced}

@@ -1,5 +1,5 @@
 -- What was written, and what the rest of the job writes, make the whole.
-use Rattle.std.proofs.Common.{◌≡◌, drop}
+use Rattle.std.proofs.Common.{◌≡◌}
 use Rattle.job_runner.specs.Unattended.{taped_with_deck}
 use Rattle.std.specs.Prelude.{is_some, option_and_then}
 use Rattle.program_run.specs.RunDeck.{failed_of, received}

@@ -1,5 +1,5 @@
 -- The job and its trace are those that go on after the key, or were stopped by it.
-use Rattle.std.proofs.Common.{◌≡◌, ℕ, List, [], length, OnErr, OnOk, sym, subst, ap, ◌∙◌}
+use Rattle.std.proofs.Common.{ℕ, List, length, OnErr, OnOk, sym, subst, ap, ◌∙◌}
 use Rattle.std.specs.Prelude.{is_some, option_and_then}
 use Rattle.std.specs.Io.KnownBytes.{Appends}
 use Rattle.bytes_streams.specs.Sink.{AppendsPart}

@@ -1,5 +1,5 @@
 -- What a stretch writes, and what it leaves.
-use Rattle.std.proofs.Common.{Option, drop, length, subst, ap, ◌∙◌, refl, arith, rules}
+use Rattle.std.proofs.Common.{Option, length, subst, ap, ◌∙◌, refl, arith, rules}
 use Rattle.std.specs.Prelude.{is_some, nat_lt, option_and_then}
 use Rattle.std.specs.Io.KnownBytes.{Appends}
 use Rattle.bytes_streams.specs.Sink.{AppendsPart}
