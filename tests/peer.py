@@ -31,7 +31,8 @@ def deposits(at, cells):
     return lines
 
 
-def image(entry, cells):
+def image(entry, cells, size=4_000):
     """The text of a core image with these cells by their addresses, which begins at this entry."""
     parts = [(at, text, len(text) - text.count("~")) for at, text in cells.items()]
-    return "IMAGE2 04000\n" + "".join(f"{at:05} {count:02} {text}\n" for at, text, count in parts) + f"END {entry:05}\n"
+    segments = "".join(f"{at:05} {count:02} {text}\n" for at, text, count in parts)
+    return f"IMAGE2 {size:05}\n{segments}END {entry:05}\n"

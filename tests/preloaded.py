@@ -1,4 +1,4 @@
-"""Small C libraries that are preloaded into a program and refuse what it asks of the system; cc builds them."""
+"""Small C libraries, which cc builds: preloaded into a program, they refuse or put off what it asks of the system."""
 import os
 import shutil
 import subprocess

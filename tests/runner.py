@@ -19,7 +19,7 @@ from tests.support import FIRST_PORT, LAST_PORT, TESTS, TOP
 LONGEST = "test_browser", "test_running", "test_served_journals", "test_serving"
 # The kind of a module's tests. Every other module tests the process: statuses, streams, files, sockets and pages.
 KINDS = {
-    "sessions as texts": ("test_sessions",),
+    "sessions as texts": ("test_sessions", "test_sittings"),
     "sources as texts": ("test_sources",),
     "tables of rows": ("test_arguments", "test_diagnostics", "test_fields", "test_own_decks", "test_page_requests",
                        "test_wider_language"),

@@ -32,6 +32,9 @@ TRIALS = Path(os.environ.get("TRIALS", TOP / "crates/tests_allocation/out/tests_
 # The page that is served: what page/embed joins of the files in page/.
 PAGE = subprocess.run([TOP / "page/embed", "--show"], stdout=subprocess.PIPE, check=True).stdout
 MOST_BYTES = 16_777_216
+# The most bytes that the file of a reel may have, and the most cards that become a reel, each a record of 88 bytes.
+MOST_REEL_BYTES = 268_435_456
+MOST_CARDS = (MOST_REEL_BYTES - 4) // 88
 MOST_ENTRIES = 100_000
 # How long a test waits for a run to end, and for one reply. Each says only that the program hangs: a host with much to
 # do may take a hundred times as long as a quiet one.

@@ -95,6 +95,23 @@ class Statuses(ProgramTest):
             self.expect(f"ibm1401 {words}", shell(f'"$0" {words}'), status, output, error)
 
 
+class Lines(ProgramTest):
+    """Lines whose bytes or lengths a session text doesn't show."""
+
+    def test_what_is_no_graphic_and_what_is_too_long(self):
+        nines = b"9" * 79
+        for name, line, reply in [
+            ("one carriage return after a line", b"QUIT\r", "BYE\n"),
+            ("two of them", b"QUIT\r\r", "ERROR 1 WORD\n"),
+            ("a tab before a word", b"\tREGS", "ERROR 1 WORD\n"),
+            ("200 blanks", b" " * 200, ""),
+            ("201 blanks", b" " * 201, "ERROR 4 LENGTH\n"),
+            ("a byte in a card's last column, before a column too many", b"FEED " + nines + b"\xb99",
+             "ERROR 3 GRAPHIC\n"),
+        ]:
+            self.expect(name, program("console", lines=line + b"\n"), 0, reply)
+
+
 class Sizes(ProgramTest):
     """Core storage of each size, and of no other."""
 

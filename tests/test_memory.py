@@ -6,7 +6,7 @@ import tempfile
 import unittest
 from pathlib import Path
 
-from tests.support import a_port
+from tests.support import MOST_CARDS, a_port
 from tests.tape_reels import tape
 
 TOP = Path(__file__).resolve().parent.parent
@@ -79,6 +79,8 @@ SAYING = {
 }
 # Symbols that the last line of a source declares, a long one and a short one.
 TAILS = "TAIL", "T"
+# A few labels more than a table has room for before it doubles: nine times a power of two.
+GROWN_LABELS = 590_000
 
 
 def with_literals(number):
@@ -165,7 +167,7 @@ class MemoryTest(unittest.TestCase):
     def test_a_deck_that_becomes_a_reel_does_too(self):
         for line in b"\n", b"A\n", b"A" * 80 + b"\n":
             with self.subTest(line[:2]):
-                many = line * (MOST_BYTES // len(line))
+                many = line * min(MOST_BYTES // len(line), MOST_CARDS)
                 self.expect_few(0, line, many, "reel", "--from-deck", "-o", "/dev/null", "file")
 
     def test_a_reel_does_too(self):
@@ -272,12 +274,13 @@ class MemoryTest(unittest.TestCase):
                 with self.subTest(f"{tail}: {call}"):
                     self.expect_few(0, small, large, call, "--language", "ibm", "file")
 
-    def test_the_longest_source_of_them_does_too(self):
+    def test_the_longest_source_of_them_and_one_whose_tables_have_just_grown_do_too(self):
         for tail in TAILS:
             line, last = equal_below(tail)
-            small, large = (again(size, line, last) for size in (SHORTER_BYTES // 4, MOST_BYTES))
-            with self.subTest(tail):
-                self.expect_few(0, small, large, "run", "--language", "ibm", "file")
+            small = again(SHORTER_BYTES // 4, line, last)
+            for size in GROWN_LABELS * len(line(0)), MOST_BYTES:
+                with self.subTest(f"{tail}: {size}"):
+                    self.expect_few(0, small, again(size, line, last), "run", "--language", "ibm", "file")
 
     def test_sources_and_listings_take_a_few_bytes_a_byte(self):
         for name, ((first, again, last), call) in LISTED.items():

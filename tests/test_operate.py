@@ -168,6 +168,10 @@ class Lines(Operated):
             self.answers(word, f"{word}\n", f"? {word} is no word here; did you mean {meant}?\n", status=1)
         self.answers("none", "zzzzzz\n", "? zzzzzz is no word here\n", status=1)
 
+    def test_help_has_the_shortest_form_the_usage_and_the_meaning(self):
+        row = f"{'r':<8}{'registers':<54}  registers, indicators, switches and devices in words\n"
+        self.answers("registers", "help registers\n", row)
+
     def test_help_says_what_enter_does(self):
         ran = self.operate("operate", lines="help\n")
         self.check("its last line", "" if ran.stdout.decode().splitlines()[-1].startswith("An empty line") else ran)
@@ -384,6 +388,17 @@ class Files(Operated):
         self.same("each line", [line for line in lines if line], wanted)
 
 
+    def test_the_step_that_fills_the_paper_is_the_last_before_its_lines_are_taken(self):
+        """Of 1,000 steps every other prints a line, and a form has 66."""
+        lines = "deposit 500 ~2~B500~N\nstart 500\ncontinue 1000\n"
+        paper = "".join(f"{1 + line // 66:>4}/{1 + line % 66:02} |\n" for line in range(500))
+        ran = self.operate("operate", "--journal", "kept", lines=lines)
+        self.expect("it", ran, 0, BARE + "00500  ~2~B500~N\nnext is 0500 (W)\n" + paper + "next is 0500 (W)\n")
+        said, _ = recorded((self.desk / "kept").read_text())
+        wanted = ["DEPOSIT 0500 ~2~B500~N", "START 0500", "RUN 999", *["LINE"] * 500, "RUN 1"]
+        self.same("its commands", said, wanted)
+
+
 class CommandLine(Operated):
     """What the command line may ask for, and what it is refused."""
 
@@ -544,6 +559,44 @@ class Kept(Operated):
         self.expect("it is legal", program("journal", "--check", self.desk / "kept"), 0, "2 entries\n")
         self.same("no other file", sorted(each.name for each in self.desk.glob("kept*")), ["kept"])
 
+    def test_then_a_link_and_the_rights_stay(self):
+        self.operate("operate", "--size", "8000", lines="save large\n")
+        self.operate("operate", "--journal", "kept", lines="deposit 700 ~B\n")
+        kept, link = self.desk / "kept", self.desk / "link"
+        kept.chmod(0o640)
+        link.symlink_to("kept")
+        ran = self.operate("operate", "--resume", "link", lines="restore large\n")
+        self.same("its status", ran.returncode, 0)
+        self.check("it is a link", "" if link.is_symlink() else link)
+        self.holds("its file", kept, "JOURNAL1 8000\n")
+        self.same("the rights", kept.stat().st_mode & 0o777, 0o640)
+
+    def test_a_file_that_has_got_the_name_meanwhile_stays(self):
+        self.operate("operate", "--size", "8000", lines="save large\n")
+        kept, moved = self.desk / "kept", self.desk / "moved"
+        call = [PROGRAM, "operate", "--journal", "kept"]
+        with subprocess.Popen(call, cwd=self.desk, stdin=subprocess.PIPE, stdout=subprocess.PIPE,
+                              stderr=subprocess.PIPE) as process:
+            process.stdin.write(b"deposit 700 ~B\n")
+            process.stdin.flush()
+            while b"00700" not in process.stdout.readline():
+                pass
+            kept.rename(moved)
+            kept.write_text("theirs\n")
+            _, error = process.communicate(b"restore large\n", SECONDS)
+        self.same("its end", (process.returncode, error), (1, b"ibm1401: session ended: UNKEPT\n"))
+        self.holds("their file", kept, "theirs\n")
+        self.holds("the journal", moved, "JOURNAL1 4000\n1\t0\tDEPOSIT 0700 ~B\tOK\n")
+
+    def test_a_source_next_to_the_journal_of_a_larger_machine(self):
+        source = self.desk / "high.source"
+        source.write_text("               ORG  5000\n     START     NOP\n     TOTAL     DCW  @0005@\n"
+                          "               H\n               END  START\n")
+        self.operate("operate", source.name, "--size", "8000", "--journal", "kept", lines="step\n")
+        ran = self.operate("operate", source.name, "--resume", "kept", lines="print TOTAL\n")
+        self.same("its end", (ran.returncode, ran.stderr), (0, b""))
+        self.check("the label", "" if b"TOTAL" in ran.stdout else ran.stdout)
+
     def test_a_journal_for_which_the_disk_has_no_room(self):
         """A beginning of it stays, whose last line `resume` discards."""
         self.operate("operate", lines="".join(f"deposit {400 + place} ~A\n" for place in range(60)) + "save many\n")
@@ -584,8 +637,13 @@ class Kept(Operated):
         self.same("closed", (closed.returncode, closed.stderr), (1, error))
 
     def test_a_journal_that_cannot_grow(self):
-        ran = self.operate(*SALES, "--journal", "kept", lines="set TOTAL = 5\n" * 50, preexec_fn=small_files)
-        self.same("its end", (ran.returncode, ran.stderr), (1, b"ibm1401: session ended: UNKEPT\n"))
+        """The commands before the one at which it can't are taken up."""
+        for line, command in ("set TOTAL = 5\n", "DEPOSIT 0489 ~00000005"), ("step\n", "RUN 1"):
+            kept = self.desk / command
+            ran = self.operate(*SALES, "--journal", kept, lines=line * 50, preexec_fn=small_files)
+            self.same(f"{command}: its end", (ran.returncode, ran.stderr), (1, b"ibm1401: session ended: UNKEPT\n"))
+            self.same(f"{command}: it is taken up", program("resume", kept).returncode, 0)
+            self.same(f"{command}: its last line", recorded(kept.read_text())[0][-1], command)
 
 
 if __name__ == "__main__":

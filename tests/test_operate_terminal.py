@@ -15,6 +15,7 @@ import time
 import unittest
 from pathlib import Path
 
+from tests.preloaded import library, needs_compiler
 from tests.support import EXAMPLES, LAUNCHER, PROGRAM, REPLY_SECONDS, SECONDS, ProgramTest, program, wait_until
 
 PROMPT = b"1401> "
@@ -23,6 +24,16 @@ SHELL = b"shell$ "
 SIZE = struct.pack("HHHH", 24, 80, 0, 0)
 # A loop without an end.
 LOOP = b"deposit 600 ~A705704~B600~.\ndeposit 703 ~00~1\n"
+# Three instructions and a halt. Two commands load them: the cells, and where they begin.
+FOUR = """\
+               ORG  500
+     FIRST     NOP
+               NOP
+               NOP
+               H
+               NOP
+               END  FIRST
+"""
 INTERRUPTED = re.compile(rb"interrupted after (\d+) steps")
 # A second and a part of it, in the unit in which the system counts a process's time.
 A_SECOND = os.sysconf("SC_CLK_TCK")
@@ -62,13 +73,14 @@ def is_at_work(process):
 
 
 class Seat:
-    """A process at a terminal of its own."""
+    """A process at a terminal of its own, where these keys were pressed before it began."""
 
-    def __init__(self, words, folder, **environment):
+    def __init__(self, words, folder, typed=b"", **environment):
         self.master, slave = pty.openpty()
         fcntl.ioctl(slave, termios.TIOCSWINSZ, SIZE)
         self.settings = termios.tcgetattr(slave)
         self.slave = slave
+        self.type(typed)
         names = {**os.environ, **environment}
         self.process = subprocess.Popen(words, cwd=folder, stdin=slave, stdout=slave, stderr=slave, env=names,
                                         start_new_session=True, preexec_fn=self.take)
@@ -237,6 +249,29 @@ class Terminal(ProgramTest):
         steps = self.steps_of(seat.say(b""))
         self.check("it goes on from there", "" if goes_on and steps > 0 else "it doesn't")
         return used_by(seat.process.pid) - before
+
+    @needs_compiler
+    def test_each_command_that_is_carried_out_again_may_be_the_last(self):
+        """The program looks for Enter before each of them, and sees it after so many looks in vain. Then the line ends,
+        and nothing has changed."""
+        (self.desk / "four").write_text(FOUR)
+        for line, commands, gone, last in (
+            ("undo", 3, "1 command taken back; next is 0502 (line 4, NOP)", "3  RUN 2 "),
+            ("back 1", 2, "next is 0501 (line 3, NOP)", "3  RUN 1 "),
+            ("restart", 2, "next is 0500 (line 2, FIRST NOP)", "2  START 0500 "),
+        ):
+            (self.desk / "lines").write_text(f"until 502\nstart 500\n{line}\n")
+            for looks in range(4):
+                seat = Seat([PROGRAM, "operate", "four", "--do", "lines"], self.desk, typed=b"\n", NO_COLOR="1",
+                            LD_PRELOAD=str(library("late_looks")), LATE_LOOKS=str(looks))
+                self.addCleanup(seat.close)
+                stopped = "? lines: line 3: interrupted: the machine is where it was", "4  START 0500 "
+                answer, entry = stopped if looks < commands else (gone, last)
+                shown = seat.until(PROMPT) or seat.shown
+                self.check(f"{line}, {looks} looks", "" if f"\r\n{answer}\r\n".encode() in shown else f"{shown}")
+                seat.type(b"journal 1\nevaluate 400\n")
+                shown = seat.until(b"400, spelled 400") or seat.shown
+                self.check(f"{line}, {looks} looks: its journal", "" if entry.encode() in shown else f"{shown}")
 
     def test_ctrl_c_through_the_launcher(self):
         seat = self.launched()

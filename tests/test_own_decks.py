@@ -14,9 +14,66 @@ DECK = """\
                                        /000080
 """
 
+# Core images: cells without a word mark, and none. Each has its last place as it is on the first card of its deck, and
+# the cards after the second.
+SHORT_DECKS = [
+    ("IMAGE2 01400\n01399 01 A\n00081 01 Q\nEND 00000\n", "T99", """\
+Q                                      M039119,040,040,040,040,040,040,0401040
+A                                      M001T99,040,040,040,040,040,040,0401040
+                                       /000080
+"""),
+    ("IMAGE2 04000\nEND 03099\n", "I99", "                                       /?99080\n"),
+]
+# The 64 characters by their codes, with a word mark at the first and the last. The first one is no operation.
+CHARACTERS = r"""IMAGE2 01400
+00100 32 ~ 1234567890#@:>(^/STUVWXYZ',%=\+
+00132 32 -JKLMNOPQR!$*];_&ABCDEFGHI?.)[<~"
+END 00100
+"""
+WORD_MARKS = """IMAGE2 02000
+00200 40 ~1~2~3~4~5~6~7~8~9~0~1~2~3~4~5~6~7~8~9~0~1~2~3~4~5~6~7~8~9~0~1~2~3~4~5~6~7~8~9~0
+00240 09 ~ ~ ~ ~ ~ ~ ~ ~ ~A
+00230 03 X~ Y
+00320 06 ~     X
+01992 08 ~1~2~3~4~5~6~7~8
+END 01999
+"""
+EACH_SIZE = [f"IMAGE2 {size:05}\n{size - 4:05} 04 ~1AB~C\n00081 03 A~BC\nEND {size - 4:05}\n"
+             for size in (1_400, 2_000, 4_000, 8_000, 12_000, 16_000)]
+# Images with something where the cards are read, or with blanks over it, and the place that is refused.
+UNDER_THE_CARDS = [
+    ("IMAGE2 01400\n00080 01 A\nEND 00400\n", 80),
+    ("IMAGE2 01400\n00000 01 ~ \nEND 00400\n", 0),
+    ("IMAGE2 01400\n00007 01 A\nEND 00400\n", 7),
+    ("IMAGE2 01400\n00001 03    \n00078 04  12 \nEND 00400\n", 79),
+    ("IMAGE2 01400\n00040 01 A\n00038 04     \nEND 00400\n", None),
+]
+
 # A source that has something where the cards are read, and how it is refused.
 UNDER_THE_CARD = "               ORG  75\n               DCW  @      ABC@\n               END  0\n"
-TAKEN = "ibm1401: place 075 isn't blank: the deck's cards are read into 001 to 080\n"
+TAKEN = "ibm1401: place {:03} isn't blank: the deck's cards are read into 001 to 080\n"
+
+
+def segments_of(image):
+    """The segments of an image, each as its address and its cells."""
+    return [(int(line[:5]), re.findall("~?.", line[9:])) for line in image.splitlines()[1:-1]]
+
+
+def source_of(image):
+    """A source that places the cells of an image, a constant for each."""
+    lines = []
+    for address, cells in segments_of(image):
+        lines.append(f"ORG  {address}")
+        lines += [f"{'DCW' if len(cell) == 2 else 'DC':5}@{cell[-1]}@" for cell in cells]
+    return "".join(f"{'':15}{line}\n" for line in [*lines, f"END  {int(image[-6:])}"])
+
+
+def storage_of(image):
+    """All cells of core storage with those of an image."""
+    storage = [" "] * int(image[7:12])
+    for address, cells in segments_of(image):
+        storage[address:address + len(cells)] = cells
+    return storage
 
 
 class OwnDecks(ProgramTest):
@@ -64,11 +121,53 @@ class OwnDecks(ProgramTest):
         self.expect("it is written", self.assemble("--size", "16000"))
         self.is_written("the deck", DECK.replace("I99", "I9I").replace("/000080", "/I9I080"))
 
+    def deck_of(self, image):
+        """A run of `assemble` that writes the deck of an image's cells."""
+        self.source.write_text(source_of(image))
+        return self.assemble("--size", str(int(image[7:12])), "--language", "ibm")
+
+    def test_the_cards_of_cells_without_a_word_mark_and_of_no_cells(self):
+        for image, last, cards in SHORT_DECKS:
+            self.expect(f"{image!r}: assemble --deck", self.deck_of(image))
+            self.holds(image, self.deck, "".join(DECK.splitlines(True)[:2]).replace("I99", last) + cards)
+
+    def test_each_cell_of_an_image_is_loaded(self):
+        """Core storage is the image's when the program begins, and so is the entry."""
+        for image in *(image for image, _, _ in SHORT_DECKS), CHARACTERS, WORD_MARKS, *EACH_SIZE:
+            name, size = image[:60], image[7:12]
+            self.expect(f"{name!r}: assemble --deck", self.deck_of(image))
+            program("run", "--load", self.deck, "--size", str(int(size)), "--image", self.out, "--limit", "0")
+            loaded = self.out.read_text()
+            self.same(f"{name!r}: the size and the entry", (loaded[7:12], loaded[-6:]), (size, image[-6:]))
+            self.same(f"{name!r}: the cells", storage_of(loaded), storage_of(image))
+
+    def test_what_was_in_storage_is_cleared(self):
+        """Each place has a character with a word mark before the load key is pressed."""
+        self.expect("assemble --deck", self.deck_of(CHARACTERS))
+        places = range(0, 1_400, 40)
+        full = "".join(f"~{'?ABCDEFGHI'[at % 10]}" for at in range(40))
+        lines = [f"DEPOSIT {at:04} {full}" for at in places]
+        lines += [f"FEED {card}" for card in self.deck.read_text().splitlines()]
+        lines += ["LOAD", "RUN 2000", *(f"EXAMINE {at:04} 40" for at in places)]
+        ran = program("console", "--size", "1400", lines="".join(f"{line}\n" for line in lines).encode())
+        replies = ran.stdout.decode().splitlines()
+        before = len(lines) - len(places) - 1
+        self.same("what is typed before the run", replies[:before], ["OK"] * before)
+        is_at_entry = re.fullmatch(r"STOP 07 OPCODE STEPS \d+ I 00100", replies[before])
+        self.check("it comes to the entry", "" if is_at_entry else replies[before])
+        cells = [cell for reply in replies[before + 1:] for cell in re.findall("~?.", reply)]
+        self.same("the cells", cells, storage_of(CHARACTERS))
+
+    def test_the_places_of_a_card_are_refused(self):
+        for image, place in UNDER_THE_CARDS:
+            status, error = (0, "") if place is None else (1, TAKEN.format(place))
+            self.expect(image, self.deck_of(image), status, "", error)
+
     def test_a_fault_leaves_the_file_as_it_was(self):
         self.deck.write_text(DECK)
         image = self.folder / "image"
         faults = [(text, f"ibm1401: {fault}\n") for text, fault in FAULTY_SOURCES]
-        for text, fault in [*faults, (UNDER_THE_CARD, TAKEN)]:
+        for text, fault in [*faults, (UNDER_THE_CARD, TAKEN.format(75))]:
             self.source.write_text(text)
             for words in [], ["--list"], ["-o", image], ["--symbols"]:
                 name = f"{fault.strip()}, {' '.join(map(str, words[:1]))}"

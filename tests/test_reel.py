@@ -6,7 +6,7 @@ import unittest
 
 from tests.chains import BUSINESS, OURS
 from tests.peer import deposits, peer, with_peer
-from tests.support import EXAMPLES, MOST_BYTES, NO_FILE, ProgramTest, misuse, program, shell
+from tests.support import EXAMPLES, MOST_CARDS, MOST_REEL_BYTES, NO_FILE, ProgramTest, misuse, program, shell
 
 SALES = EXAMPLES / "sales.cards"
 MARK = bytes(4)
@@ -130,8 +130,23 @@ class Refusals(ReelTest):
         none = self.folder / "none"
         for words in [none], ["--deck", self.new, none], ["--from-deck", "-o", self.new, none]:
             self.expect("no file", program("reel", *words), 1, "", f"ibm1401: {none}: no such file\n")
-        ran = self.listed(bytes(MOST_BYTES + 1))
-        self.expect("too long", ran, 1, "", f"ibm1401: {self.reel}: is larger than {MOST_BYTES} bytes\n")
+        with self.reel.open("wb") as reel:
+            reel.truncate(MOST_REEL_BYTES + 1)
+        ran = program("reel", self.reel)
+        self.expect("too long", ran, 1, "", f"ibm1401: {self.reel}: is larger than {MOST_REEL_BYTES} bytes\n")
+
+    def test_a_deck_of_more_cards_than_the_file_of_a_reel_may_have(self):
+        self.deck.write_bytes(b"\n" * (MOST_CARDS + 1))
+        ran = program("reel", "--from-deck", self.deck, "-o", self.new)
+        self.expect("one card more", ran, 1, "", "ibm1401: the deck is longer than a reel\n")
+        self.check("no reel", "" if not self.new.exists() else "it is there")
+
+    def test_the_reel_of_the_longest_deck_is_read_again(self):
+        self.deck.write_bytes(b"\n" * MOST_CARDS)
+        self.expect("it is made", program("reel", "--from-deck", self.deck, "-o", self.new))
+        self.same("its bytes", self.new.stat().st_size, 88 * MOST_CARDS + 4)
+        ran = program("reel", "--deck", "/dev/null", self.new)
+        self.expect("it is read", ran)
 
     def test_names_of_one_file(self):
         self.reel.write_bytes(MARK)

@@ -106,6 +106,8 @@ class Refused(ProgramTest):
             ("A\n" * 6 + " " * 11 + "\u00e9\n", f"line 7, column 12: {bad}"),
             ("\n" + "A" * 81 + "\n", "line 2, column 81: a card has 80 columns"),
             ("A\rB\n", f"line 1, column 2: {bad}"),
+            ("A\rB\n~", SIMH, f"line 1, column 2: {bad}"),
+            ("\nAB~~", SIMH, f"line 2, column 3: {bad}"),
         ]:
             self.deck.write_text(text, newline="")
             ran = program("run", self.source, "--cards", self.deck, "--punch", self.none)
@@ -156,6 +158,44 @@ class Streams(ProgramTest):
         ]:
             self.expect(words, shell(f"{self.call} {words}"), status, output, error)
 
+    def test_standard_output_by_its_name_is_written_as_a_stream(self):
+        call = ("run", "--load", EXAMPLES / "listing.deck", "--switches", "A")
+        paper, punched = (EXAMPLES / "listing.paper").read_bytes(), self.folder / "punched"
+        self.same("it ends", program(*call, "--punch", punched).returncode, 0)
+        for words, wanted in [
+            (["--paper", "/dev/stdout"], paper),
+            (["--paper", "/dev/null", "--punch", "/dev/stdout"], punched.read_bytes()),
+        ]:
+            out = self.folder / "out"
+            with out.open("wb") as file:
+                file.write(b"before\n")
+                file.flush()
+                ran = program(*call, *words, stdout=file)
+            self.same(f"{words}: its status", ran.returncode, 0)
+            self.holds(f"{words}: what is there", out, b"before\n" + wanted)
+            self.same(f"{words}: a pipe", program(*call, *words).stdout, wanted)
+        out = self.folder / "both"
+        with out.open("wb") as file:
+            program(*call, "--punch", "/dev/stdout", stdout=file)
+        self.same("paper and cards", len(out.read_bytes()), len(paper) + len(punched.read_bytes()))
+
+    def test_nothing_is_written_if_a_file_cannot_be_made(self):
+        deck, old = EXAMPLES / "listing.deck", self.folder / "old"
+        none = self.folder / "none" / "file"
+        for option, others in [
+            ("--paper", ["--punch", old]), ("--punch", ["--paper", old]), ("--trace", ["--paper", old]),
+            ("--trace", ["--punch", old]), ("--paper", ["--image", old]), ("--punch", ["--trace", old]),
+        ]:
+            for name in none, self.folder:
+                old.write_text("old")
+                ran = program("run", "--load", deck, "--switches", "A", option, name, *others)
+                self.expect(f"{option} {name} {others[0]}", ran, 1, "", f"ibm1401: cannot write {name}\n")
+                self.holds("it stays", old, "old")
+        old.unlink()
+        ran = program("run", "--load", deck, "--switches", "A", "--trace", none, "--paper", old)
+        self.expect("a file that isn't there", ran, 1, "", f"ibm1401: cannot write {none}\n")
+        self.check("it isn't made", "" if not old.exists() else "it is there")
+
     def test_cards_that_a_full_disk_does_not_take(self):
         copy = EXAMPLES / "deck_copy"
         ran = program("run", f"{copy}.source", "--cards", f"{copy}.cards", "--punch", "/dev/full", "--switches", "A")
@@ -196,9 +236,10 @@ class LoadKey(ProgramTest):
         self.first.write_text("")
         end = ending("READER", 0, 0, why=NO_CARD)
         self.expect("no card", program("run", "--load", self.first), 1, "", end)
-        self.first.write_text(",008009.\n")
-        ran = program("run", "--load", self.first, "--size", "1400")
-        self.expect("one card", ran, 0, "", ending("HALT", 8, 2, 1, shown="H"))
+        for name, deck in ("one card", ",008009.\n"), ("the first of two", ",008009.\nREST\n"):
+            self.first.write_text(deck)
+            ran = program("run", "--load", self.first, "--size", "1400")
+            self.expect(name, ran, 0, "", ending("HALT", 8, 2, 1, shown="H"))
 
     def test_refused(self):
         self.first.write_text(",008009.\n")

@@ -1,4 +1,4 @@
-"""The line that says how a run ended: the statement at which it stopped, by the line that placed its cells."""
+"""The line that says how a run ended: the statement at which it stopped, by the line that placed its cells; and why."""
 import os
 import pty
 import re
@@ -9,12 +9,75 @@ import time
 import unittest
 from pathlib import Path
 
+from tests.peer import image
+from tests.support import ProgramTest, program
+
 TOP = Path(__file__).resolve().parent.parent
 PROGRAM = Path(os.environ.get("IBM1401", TOP / "crates/ibm1401/out/ibm1401")).absolute()
 SECONDS = 300
 
 # A branch to itself, which goes on to its limit.
 LOOP = "               ORG  400\n     START     B    START\n               END  START\n"
+
+# Programs that stop at their first instruction: the cells by their addresses, the program's first, the stop, and why. A
+# machine has 1,400 places here, so U50 is an address that it doesn't have: 1450.
+PLAIN = [
+    ({500: "~A001509~   ~."}, "ADDRESS", "no word mark from 001 down to 000 in the A field"),
+    ({500: "~X12~."}, "NOTFITTED", "the operation X isn't fitted"),
+    ({500: "~A12~."}, "LENGTH", "the operation A has no instruction of 3 characters"),
+    ({500: "~ ~."}, "OPCODE", "the character blank is no operation"),
+    ({500: "~2X~."}, "DCHAR", "the d-character X means nothing to the operation 2"),
+    ({500: "~F ~."}, "DCHAR", "the d-character blank means nothing to the operation F"),
+    ({500: "~L501500~."}, "ADDRESS", "loading to 500 writes over the A field's word mark at 500 before it is read"),
+    ({600: "~L510507~.", 505: "~123456"}, "ADDRESS",
+     "loading to 507 writes over the A field's word mark at 505 before it is read"),
+    ({600: "~L707003~.", 700: "~12345678"}, "ADDRESS",
+     "from 003 down core has no 8 places, as many as the A field"),
+    ({600: "~A510507~.", 500: "~12345678901"}, "OVERLAP",
+     "the A field from 510 down to 503 and the B field from 507 down to 500 overlap"),
+]
+# The same with all features.
+PRODUCTS_AND_QUOTIENTS = [
+    ({600: "~@001715~.", 700: "~123"}, "ADDRESS", "no word mark from 001 down to 000 in the A field"),
+    ({600: "~@702U50~.", 700: "~123"}, "ADDRESS", "the B address 1450 isn't in core"),
+    ({600: "~@702003~.", 700: "~123"}, "ADDRESS", "core has no place for a multiplier 4 places left of 003"),
+    ({600: "~@722020~.", 720: "~123"}, "ADDRESS", "no word mark from 016 down to 000 in the multiplier"),
+    # One address is that of the multiplicand and of the product.
+    ({600: "~@713~.", 705: "~00000~0012"}, "OVERLAP",
+     "the A field from 713 down to 710 and the product from 713 down to 705 overlap"),
+    ({600: "~%701708~.", 700: "~12~0000145"}, "ADDRESS",
+     "no place from 708 up to the end of core has a zone that ends the dividend"),
+    ({600: "~%701U50~.", 700: "~12"}, "ADDRESS", "the B address 1450 isn't in core"),
+    ({600: "~%005001~.", 1: "4E0~12"}, "ADDRESS", "from 002 down core has no 4 places for rest and quotient"),
+    ({600: "~%715713~.", 710: "~00014E"}, "OVERLAP",
+     "the A field from 715 down to 710 and rest and quotient from 715 down to 708 overlap"),
+]
+RECORDS_ADDRESSES_AND_BRANCHES = [
+    ({600: "~P700710~.", 700: "ABC"}, "ADDRESS",
+     "moving from 700 to 710 comes to the end of core before a record mark or a group mark with a word mark"),
+    # A group mark without a word mark is none of them, and the record mark is past the last place at b.
+    ({600: "~P700T96~.", 700: "A\"BC'"}, "ADDRESS",
+     "moving from 700 to 1396 comes to the end of core before a record mark or a group mark with a word mark"),
+    ({600: "~PU50700~.", 700: "A'"}, "ADDRESS", "the A address 1450 isn't in core"),
+    ({600: "~#001702~.", 700: "001"}, "ADDRESS", "from 001 down core has no 3 places for an address"),
+    ({600: "~#702001~.", 700: "001"}, "ADDRESS", "from 001 down core has no 3 places for an address"),
+    ({600: "~#702U50~.", 700: "001"}, "ADDRESS", "the B address 1450 isn't in core"),
+    ({600: "~W800U50A~."}, "ADDRESS", "the B address 1450 isn't in core"),
+    ({600: "~H001700~."}, "ADDRESS", "from 001 down core has no 3 places for an address"),
+    # The A register is 000 at power-on.
+    ({600: "~Q~."}, "ADDRESS", "from 000 down core has no 3 places for an address"),
+]
+LENGTHS_AND_UNITS = [
+    ({600: "~W12~."}, "LENGTH", "the operation W has no instruction of 3 characters"),
+    ({600: "~8000~."}, "LENGTH", "the operation 8 has no instruction of 4 characters"),
+    ({600: "~@7007101~."}, "LENGTH",
+     "the operation @ has no instruction of 8 or more characters, and no word mark from 601 to 607 ends it"),
+    ({600: "~X700710~."}, "NOTFITTED", "the operation X isn't fitted"),
+    ({600: "~M%U1700R~."}, "TAPE", "tape unit 1 has no reel"),
+    ({600: "~M%T0700R~."}, "NOTFITTED", "no tape unit has this name"),
+]
+ENDED = re.compile(r"ibm1401: (\w+) at (\d+)(?: \(.*\))?(?:: (.*))? after (\d+) steps?; "
+                   r"0 cards read, 0 lines printed, 0 cards punched\n")
 
 
 def ended(stop, shown, steps=0, why=""):
@@ -162,6 +225,64 @@ class StopTest(SourceTest):
             "               END  400\n",
             "H 123",
         )
+
+
+class ReasonTest(ProgramTest):
+    """Why a program stopped, and at which address."""
+
+    def expect_stop(self, cells, words, stop, why, at=None, steps=0):
+        """A subtest: a program of these cells ends so, at its entry if no other address is named."""
+        entry, file = next(iter(cells)), self.folder / "program"
+        file.write_text(image(entry, cells, size=1_400))
+        ran = program("run", file, *words)
+        line = ENDED.fullmatch(ran.stderr.decode())
+        found = (ran.returncode, ran.stdout, line.groups() if line else ran.stderr)
+        wanted = (stop, f"{at if at is not None else entry:04}", why, str(steps))
+        self.same(f"{cells} {' '.join(words)}", found, (0 if stop == "HALT" else 1, b"", wanted))
+
+    def expect_all(self, rows, *words):
+        """Subtests: each program of a table ends so."""
+        for cells, stop, why in rows:
+            self.expect_stop(cells, words, stop, why)
+
+    def test_the_places_of_fields_and_the_characters_at_fault(self):
+        self.expect_all(PLAIN)
+
+    def test_at_the_limit_the_reason_of_the_next_stop_is_not_given(self):
+        for cells, _, _ in PLAIN:
+            self.expect_stop(cells, ["--limit", "0"], "LIMIT", "the step limit was reached")
+
+    def test_the_next_instruction_has_no_word_mark_or_no_place(self):
+        for done, at, why in ("~B007~.", 7, "no word mark at 007"), ("~BU00~.", 1_400, "place 1400 isn't in core"):
+            self.expect_stop({600: done}, [], "NOMARK", why, at, steps=1)
+
+    def test_a_product_or_quotient_needs_its_places(self):
+        self.expect_all(PRODUCTS_AND_QUOTIENTS, "--fit", "all")
+
+    def test_records_addresses_and_branches_need_their_places(self):
+        self.expect_all(RECORDS_ADDRESSES_AND_BRANCHES, "--fit", "all")
+
+    def test_a_feature_leaves_lengths_that_no_machine_has(self):
+        self.expect_all(LENGTHS_AND_UNITS, "--fit", "all")
+
+    def test_a_branch_by_bits_without_an_address_needs_two_features(self):
+        cells = {600: "~W~."}
+        self.expect_stop(cells, ["--fit", "bit-test"], "LENGTH", "the operation W has no instruction of 1 character")
+        self.expect_stop(cells, ["--fit", "lengths"], "NOTFITTED", "the operation W isn't fitted")
+
+    def test_a_branch_of_one_character_names_its_register(self):
+        """An H of seven leaves its second address in the B register."""
+        for branch in "BVW":
+            cells = {600: f"~H710U50~{branch}~."}
+            self.expect_stop(cells, ["--fit", "all"], "ADDRESS", "the B address 1450 isn't in core", 607, steps=1)
+
+    def test_a_halt_is_found_again(self):
+        """Whatever its length is, and wherever it goes on."""
+        plain = "~.", "~.500", "~.077"
+        fitted = "~.1", "~.12", "~.0771", "~.07712", "~.077500", "~.0775001", "~.07750012"
+        for words, halts in ([], plain), (["--fit", "all"], plain + fitted):
+            for halt in halts:
+                self.expect_stop({500: f"{halt}~."}, words, "HALT", None, steps=1)
 
 
 class ProgressTest(SourceTest):

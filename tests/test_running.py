@@ -8,7 +8,56 @@ import unittest
 
 from tests.jobs import (DONE, LIMIT, LINES_WITHOUT_END, LIST_AND_PUNCH, NO_CARD, ONE_LINE, ROUND, SALES, SALES_CALL,
                         SALES_ENDING, STEPS, SWITCHED, ending, paper_of, statement)
+from tests.peer import image
 from tests.support import EXAMPLES, MOST_TRIALS, PROGRAM, SECONDS, TOP, ProgramTest, program, run, wait_until
+
+# Steps and their lines, worked out by hand. Programs are at 600: their cells, how many cards they have with ABC in the
+# first columns, and the line of the first step.
+TRACED = [
+    # A move of one character.
+    ("~M610611~.00~5~3", 0, "00600\t~M610611 \tMCW  610,611        \t00609\t00610\t00611|~3|~5\n"),
+    # 07 and 15 are 22: both digits change, and are one change.
+    ("~A611613~.00~07~15", 0, "00600\t~A611613 \tA    611,613        \t00609\t00611\t00612|~15|~22\n"),
+    # Word marks at two places that aren't next to each other.
+    ("~,608610~.576", 0,
+     "00600\t~,608610 \tSW   608,610        \t00607\t00609\t00608|5|~5\t00610|6|~6\n"),
+    ("~B650~.", 0, "00600\t~B650    \tB    650            \t00650\t00604\n"),
+    ("~1~.", 1, "00600\t~1       \tR                   \t00000\t00081\tREAD\t00001|   |ABC\n"),
+    ("~2~.", 0,
+     "00600\t~2       \tW                   \t00000\t00333\tPRINT 0001/01\tCARRIAGE 0001/02\n"),
+    ("~4~.", 0, "00600\t~4       \tP                   \t00000\t00181\tPUNCH\n"),
+    ("~FK~.", 0, "00600\t~FK      \tCC   K              \t00000\t00000\tCARRIAGE 0001/03\n"),
+    ("~.~.", 0, "00600\t~.       \tH                   \t00000\t00000\tHALT\n"),
+    ("~1~.", 0, "00600\t~1       \tR                   \t00000\t00000\tREADER\n"),
+    # Cells without a word mark are no instruction.
+    ("M610611~.", 0, "00600\tM610611  \tMCW  610,611        \t00000\t00000\tNOMARK\n"),
+]
+# The same with all features, and without cards.
+TRACED_WITH_FEATURES = [
+    # 3 times 7 is 21, in three places.
+    ("~@610614~.00~30~7  ", "00600\t~@610614 \tM    610,614        \t00609\t00611\t00612|~7  |~02A\n"),
+    # 21 by 3 is 07, and the rest 00.
+    ("~%610614~.00~30002A", "00600\t~%610614 \tD    610,614        \t00609\t00612\t00613|02A|G0?\n"),
+    # A character and the record mark.
+    ("~P610614~.00A'", "00600\t~P610614 \tMCM  610,614        \t00612\t00616\t00614|  |A'\n"),
+    # 001 added to 099.
+    ("~#612617~.0000100099", "00600\t~#612617 \tMA   612,617        \t00609\t00614\t00615|099|100\n"),
+    # A and C have both zones in common.
+    ("~W650610A~.0C", "00600\t~W650610A\tBBE  650,610,A      \t00650\t00608\n"),
+    ("~H612650~.00000", "00600\t~H612650 \tSBR  612,650        \t00609\t00650\t00610|00|65\n"),
+    ("~8~.", "00600\t~8       \tSRF                 \t00000\t00000\n"),
+    ("~.12~.", "00600\t~.12     \tH    12             \t00000\t00000\tHALT\n"),
+    ("~@610003~.00~30", "00600\t~@610003 \tM    610,003        \t00000\t00000\tADDRESS\n"),
+]
+# Two skips to channel 1 after the next print, then three spaces in their place, two spaces at once, and a print.
+WAITING = "~FA~FA~FT~FK~2~."
+TRACE_OF_WAITING = [
+    "00600\t~FA      \tCC   A              \t00000\t00000\tPENDING SKIP 04\n",
+    "00602\t~FA      \tCC   A              \t00000\t00000\n",
+    "00604\t~FT      \tCC   T              \t00000\t00000\tPENDING SPACE 3\n",
+    "00606\t~FK      \tCC   K              \t00000\t00000\tCARRIAGE 0001/03\n",
+    "00608\t~2       \tW                   \t00000\t00333\tPRINT 0001/03\tCARRIAGE 0001/06\n",
+]
 
 
 class Examples(ProgramTest):
@@ -99,6 +148,26 @@ class Traces(ProgramTest):
             self.expect(f"{limit} steps at most", ran, status, "\n" if steps else "", end)
             self.holds(f"{limit} steps at most: its lines", self.trace, "".join(steps))
 
+    def traced(self, cells, steps, *words):
+        """The trace of so many steps of a program at 600."""
+        file = self.folder / "image"
+        file.write_text(image(600, {600: cells}))
+        program("run", file, "--trace", self.trace, "--limit", str(steps), *words)
+        return self.trace.read_text()
+
+    def test_each_kind_of_step_has_its_line(self):
+        cards = self.folder / "cards"
+        for cells, count, line in TRACED:
+            cards.write_text("ABC\n" * count)
+            self.same(f"{cells}, {count} cards", self.traced(cells, 1, "--cards", cards), line)
+
+    def test_an_operation_of_a_feature_has_its_mnemonic_and_what_it_changes(self):
+        for cells, line in TRACED_WITH_FEATURES:
+            self.same(cells, self.traced(cells, 1, "--fit", "all"), line)
+
+    def test_a_movement_that_waits_is_shown_once(self):
+        self.same("five lines", self.traced(WAITING, 5), "".join(TRACE_OF_WAITING))
+
     def test_a_trace_that_cannot_be_written(self):
         for out in self.folder, "/dev/full", self.folder / "none" / "trace":
             ran = program("run", *SALES_CALL, "--trace", out, "--paper", "/dev/null")
@@ -157,6 +226,23 @@ class Decks(ProgramTest):
         end = ending("LIMIT", 400, 0, shown="line 2, START SW 1,101", why=LIMIT)
         self.expect("a limit of no step", ran, 1, "", end)
 
+    def test_limits_next_to_the_halt_and_to_500_steps(self):
+        """After 500 steps at most cards are fed, and lines and punched cards are taken."""
+        self.source.write_text(LIST_AND_PUNCH)
+        for limit, given, status, end in [
+            (0, 3, 1, ending("LIMIT", 400, 0, shown="line 2, START SW 1,101", why=LIMIT)),
+            (21, 3, 1, ending("LIMIT", 433, 21, 3, 3, 3, DONE, LIMIT)),
+            (22, 3, 0, ending("HALT", 433, 22, 3, 3, 3, DONE)),
+            (500, 71, 0, ending("HALT", 433, 498, 71, 71, 71, DONE)),
+            (500, 72, 1, ending("LIMIT", 415, 500, 72, 71, 71, "line 5, MLC 4,104", LIMIT)),
+            (501, 72, 1, ending("LIMIT", 422, 501, 72, 71, 71, "line 6, W", LIMIT)),
+            (10, 0, 1, ending("READER", 407, 1, shown="line 3, NEXT R", why=NO_CARD)),
+        ]:
+            self.deck.write_text("".join(f"{number:04}\n" for number in range(given)))
+            call = ["run", self.source, "--cards", self.deck, "--paper", self.paper, "--switches", "A"]
+            ran = program(*call, "--limit", str(limit))
+            self.expect(f"{given} cards, {limit} steps at most", ran, status, "", end)
+
     def test_each_file_and_number_named(self):
         self.source.write_text(SWITCHED)
         self.deck.write_text("CARD\n")
@@ -200,7 +286,10 @@ class Decks(ProgramTest):
             ("\n" * 600 + "z", "\n" * 600 + "Z\n", small),
             ("A" * 80 + "\n" + "B" * 80, "AAAA\nBBBB\n", ""),
             ("A\r\nB\r\n", "A\nB\n", ""),
+            ("A\r\nB", "A\nB\n", ""),
             ("A", "A\n", ""),
+            ("a b\r\n\nLAST  ", "A B\n\nLAST\n", small),
+            ("\n\nz\n", "\n\nZ\n", small),
         ]:
             self.deck.write_text(text, newline="")
             name, count = f"{text[-20:]!r}", wanted.count("\n")
@@ -229,6 +318,32 @@ class Decks(ProgramTest):
 """)
         paper = "\n" * 3 + "1\n" + "\n" * 55 + "2\n" + "\f" + "\n" * 62 + "2\n2\n"
         end = ending("HALT", 426, 11, 0, 4, shown="line 12, DONE H *-3")
+        self.expect("the paper", program("run", self.source), 0, paper, end)
+
+    def test_lines_at_both_ends_of_a_form(self):
+        """To line 63, three down to 66 and one to the next form, twice: to line 1 of form 3. Then to its line 66."""
+        next_form = "               CC   @\n               CC   L\n               CC   J\n"
+        self.source.write_text(f"""\
+               ORG  201
+     NUMBER    DCW  @1@
+               ORG  400
+     START     CC   K
+               W
+               A    NUMBER
+               W
+{next_form * 2}\
+               A    NUMBER
+               W
+               CC   @
+               CC   L
+               A    NUMBER
+               W
+     DONE      H    *-3
+               NOP
+               END  START
+""")
+        paper = "\n\n1\n2\n" + "\f\f4\n" + "\n" * 64 + "8\n"
+        end = ending("HALT", 434, 17, 0, 4, shown="line 20, DONE H *-3")
         self.expect("the paper", program("run", self.source), 0, paper, end)
 
 

@@ -52,6 +52,3 @@ pub use stop_text::put_set;
 pub use stops::{NumberedStop, Said, Stops};
 pub use there::put_next;
 pub use typed::{put_typed_condition, put_typed_place, put_typed_range};
-
-#[cfg(test)]
-mod tests;

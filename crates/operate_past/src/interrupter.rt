@@ -11,17 +11,3 @@ pub trait Interrupter<C> {
         requires { is_sound self.old console.old ≡ true }
         ensures { is_sound self.new console.new ≡ true };
 }
-
-/// Nobody interrupts anything.
-#[derive(Clone, Copy, Debug)]
-pub struct Nobody;
-
-impl<C> Interrupter<C> for Nobody {
-    ghost use Rattle.std.specs.Prelude.{true};
-
-    ghost is_sound = { λ _ _. true };
-
-    fn interrupts(&mut self, _console: &mut C) -> bool {
-        false
-    }
-}

@@ -1,8 +1,9 @@
 //! Back in time: a room whose journal is shorter, and whose machine is an earlier one.
 //!
 //! ```text
-//! let earlier = carry_back(alloc, room, 4, &mut Nobody, &mut ())?;   // RUN 18, at the journal's end, is RUN 14 now
-//! earlier.machine()                                                  // the machine four instructions before
+//! // RUN 18, at the journal's end, is RUN 14 now
+//! let earlier = carry_back(alloc, room, 4, &mut listener, &mut console)?;
+//! earlier.machine()   // the machine four instructions before
 //! ```
 #![tactic(auto)]
 
@@ -15,4 +16,4 @@ pub mod back;
 
 pub use again::{BackFault, carry_entries};
 pub use back::{carry_back, instructions_of, whole_entries};
-pub use interrupter::{Interrupter, Nobody};
+pub use interrupter::Interrupter;

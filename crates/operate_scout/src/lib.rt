@@ -24,14 +24,11 @@ pub mod place_watch;
 // a room and its scout
 pub mod paired;
 
-pub use any_of::{AnyOf, begin_each, see_by_each};
+pub use any_of::{begin_each, see_by_each};
 pub use breaks::{Always, Break, Condition};
 pub use device_watch::{Device, DeviceWatch};
 pub use full_devices::{FullDevices, wants_hands};
-pub use one_of::{Never, OneOf};
+pub use one_of::OneOf;
 pub use paired::{Paired, RunEnd};
 pub use place_watch::PlaceWatch;
 pub use search::{Found, MOST_STEPS, SearchEnd, Test, run_limit, seek};
-
-#[cfg(test)]
-mod tests;

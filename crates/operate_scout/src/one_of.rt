@@ -1,27 +1,7 @@
-//! No test, and two tests at once.
+//! Two tests at once.
 
 use crate::search::Test;
 use cpu_1401::Machine;
-
-/// A test that no step meets.
-#[derive(Clone, Copy, Debug, PartialEq, Eq)]
-pub struct Never;
-
-impl Test for Never {
-    ghost use Rattle.std.specs.Prelude.{false};
-
-    ghost begun = { λ it _. it };
-
-    ghost seen = { λ it _. it };
-
-    ghost is_met = { λ _. false };
-
-    fn begin(&mut self, _machine: &Machine) {}
-
-    fn see(&mut self, _machine: &Machine) -> bool {
-        false
-    }
-}
 
 /// Two tests: a step that meets one of them, or both, meets this. Both see each step.
 #[derive(Clone, Copy, Debug, PartialEq, Eq)]

@@ -3,7 +3,7 @@ ghost use Rattle.std.specs.Prelude.{◌≡◌, false, IfOk};
 ghost use Rattle.std.specs.Io.KnownBytes.{Appends};
 ghost use Rattle.room_alone.specs.Kept.{kept_text};
 
-use room_alone::{Keeper, NoKeeper, Room, Unkept};
+use room_alone::{Keeper, Room, Unkept};
 
 /// Makes a keeper's text that of another journal, which is mostly a beginning of its own.
 pub trait Cutter<K: Keeper> {
@@ -17,14 +17,4 @@ pub trait Cutter<K: Keeper> {
         ensures good { IfOk result (λ cut. K.has_failed cut ≡ false) }
         ensures kept { IfOk result (λ cut.
             Appends K.first (K.kept cut) (kept_text K.form room.now.size room.now.journal)) };
-}
-
-/// For a room without a keeper: there is no text to cut.
-#[derive(Clone, Copy, Debug)]
-pub struct NothingKept;
-
-impl Cutter<NoKeeper> for NothingKept {
-    fn cut(&mut self, keeper: NoKeeper, _room: &Room) -> Result<NoKeeper, Unkept> {
-        Ok(keeper)
-    }
 }

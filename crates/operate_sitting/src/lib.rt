@@ -8,8 +8,8 @@
 //! sitting.tend()?;                                    // 500 of them are in the hopper
 //! sitting.begin_line()?;
 //! sitting.run_until(&mut test, MOST_STEPS)?;          // up to the step that reads the last of these, if not before
-//! let earlier = sitting.undone(alloc, 1, &mut Nobody, &mut ())?;   // the machine before that run
-//! let sitting = sitting.take_over(earlier, &mut NothingKept)?;
+//! let earlier = sitting.undone(alloc, 1, &mut listener, &mut console)?;   // the machine before that run
+//! let sitting = sitting.take_over(earlier, &mut cutter)?;
 //! ```
 #![tactic(auto)]
 
@@ -26,10 +26,7 @@ pub mod cutter;
 pub mod earlier;
 pub mod sitting;
 
-pub use cutter::{Cutter, NothingKept};
+pub use cutter::Cutter;
 pub use earlier::{Earlier, Origin, PastFault};
 pub use notes::Mark;
 pub use sitting::{Sitting, Tended};
-
-#[cfg(test)]
-mod tests;

@@ -1,6 +1,9 @@
 //! The texts of faults.
 
 use super::is_told;
+use console_1401::LineFault;
+use job_runner::DeckTextFault;
+use job_stops::Reason;
 use room_1401::{CloseFault, GlanceFault, RoomFault, StartFault};
 use std::fmt::Display;
 use std::process::Abort;
@@ -33,6 +36,20 @@ fn each_fault_of_a_room_has_its_text(rt: HostRuntime) {
 }
 
 #[test]
+fn each_fault_of_a_line_has_its_text(rt: HostRuntime) {
+    expect_told(
+        &rt,
+        &[
+            (LineFault::Word, "ERROR 1 WORD"),
+            (LineFault::Number, "ERROR 2 NUMBER"),
+            (LineFault::Graphic, "ERROR 3 GRAPHIC"),
+            (LineFault::Length, "ERROR 4 LENGTH"),
+            (LineFault::Extra, "ERROR 5 EXTRA"),
+        ],
+    );
+}
+
+#[test]
 fn each_fault_of_a_shared_room_has_its_text(rt: HostRuntime) {
     expect_told(
         &rt,
@@ -56,4 +73,17 @@ fn each_fault_of_a_shared_room_has_its_text(rt: HostRuntime) {
             ),
         ],
     );
+}
+
+#[test]
+fn each_text_that_no_run_shows(rt: HostRuntime) {
+    expect_told(
+        &rt,
+        &[
+            (Reason::Halt, "a halt"),
+            (Reason::PaperFull, "500 printed lines wait to be taken"),
+            (Reason::StackerFull, "500 punched cards wait to be taken"),
+        ],
+    );
+    expect_told(&rt, &[(DeckTextFault::Memory, "memory refused")]);
 }
