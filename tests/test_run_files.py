@@ -196,6 +196,12 @@ class Streams(ProgramTest):
         self.expect("a file that isn't there", ran, 1, "", f"ibm1401: cannot write {none}\n")
         self.check("it isn't made", "" if not old.exists() else "it is there")
 
+    def test_a_reel_that_is_not_written_is_reported_next_to_the_paper(self):
+        reel = self.folder / "none" / "reel"
+        ran = shell(f"{self.call} --paper /dev/full --tape 1={reel}:new")
+        error = f"ibm1401: cannot write {reel}\nibm1401: cannot write /dev/full\n"
+        self.expect("it", ran, 1, "", error)
+
     def test_cards_that_a_full_disk_does_not_take(self):
         copy = EXAMPLES / "deck_copy"
         ran = program("run", f"{copy}.source", "--cards", f"{copy}.cards", "--punch", "/dev/full", "--switches", "A")

@@ -288,12 +288,12 @@ class ReasonTest(ProgramTest):
 class ProgressTest(SourceTest):
     """How far a run is, where standard error is a terminal."""
 
-    def on_a_terminal(self, *words):
-        """What a run shows on the terminal that standard error is, to its end."""
+    def on_a_terminal(self, *words, has_paper=False):
+        """What a run shows on the terminal that standard error is, to its end; and its paper, if that is there too."""
         ours, theirs = pty.openpty()
         ran = subprocess.Popen(
             [PROGRAM, "run", self.source, *words],
-            stdin=subprocess.DEVNULL, stdout=subprocess.DEVNULL, stderr=theirs,
+            stdin=subprocess.DEVNULL, stdout=theirs if has_paper else subprocess.DEVNULL, stderr=theirs,
         )
         os.close(theirs)
         shown, late = b"", time.monotonic() + SECONDS
@@ -333,6 +333,25 @@ class ProgressTest(SourceTest):
         # The line goes before the last one comes, and stays away.
         progress = shown[: -len(end)]
         self.assertTrue(progress.endswith(b"\x1b[K\r\x1b[K"), progress[-60:])
+
+    def test_the_progress_line_gives_way_to_the_paper(self):
+        # It counts for more than a second without a line, 300,000,000 steps, and then prints one.
+        self.source.write_text("""\
+               ORG  400
+     START     A    ONE,COUNT
+               C    COUNT,LAST
+               B    START,/
+               MCW  @HELLO@,205
+               W
+               H
+     COUNT     DCW  @00000000@
+     LAST      DCW  @99999999@
+     ONE       DCW  @1@
+               END  START
+""")
+        status, shown = self.on_a_terminal("--limit", "4294967295", has_paper=True)
+        self.assertEqual(status, 0)
+        self.assertRegex(shown, rb"\A(\r\d+ steps, 0 cards left, 0 lines\x1b\[K)+\r\x1b\[KHELLO")
 
     def test_a_short_run_shows_no_progress(self):
         self.source.write_text(LOOP)
