@@ -10,3 +10,5 @@ CHAINS = {"ours": OURS, "simh": BUSINESS, "fortran": FORMULAS}
 DOUBTFUL = "= ( + are other characters on a chain for formulas; --graphics fortran or ours says which chain"
 SIMH = "some bytes are graphics of another chain: --graphics simh reads those of SIMH"
 FORTRAN = "some bytes are graphics of another chain: --graphics fortran reads those for formulas"
+# The same of a source, if a chain was asked for.
+SOURCE_SIMH, SOURCE_FORTRAN = (each.replace("--graphics", "--source-graphics") for each in (SIMH, FORTRAN))

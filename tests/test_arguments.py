@@ -16,7 +16,7 @@ import unittest
 from pathlib import Path
 
 sys.dont_write_bytecode = True
-from tests.chains import DOUBTFUL, SIMH
+from tests.chains import DOUBTFUL, SIMH, SOURCE_SIMH
 from tests.support import PORTS_TRIED, SECONDS, at_a_port, free_ports
 
 TOP = Path(__file__).resolve().parent.parent
@@ -171,7 +171,9 @@ ROWS = [
     ("assemble wide", "", 1, "", "ibm1401: line 1: 3 GRAPHIC\n", {}),
     ("assemble --language ibm wide", "", 0, IMAGE, "", {}),
     ("assemble simhs", "", 1, "", "ibm1401: line 3: 3 GRAPHIC\n", {}),
-    ("assemble --graphics ours simhs", "", 1, "", f"ibm1401: simhs: {SIMH}\nibm1401: line 3: 3 GRAPHIC\n", {}),
+    ("assemble --graphics ours simhs", "", 1, "", f"ibm1401: simhs: {SOURCE_SIMH}\nibm1401: line 3: 3 GRAPHIC\n", {}),
+    ("assemble --all simhs", "", 1, "", f"ibm1401: simhs: {SIMH}\nsimhs:3:22: GRAPHIC: the byte }} isn't allowed "
+     "in this column\n", {}),
     ("assemble --graphics simh simhs", "", 0, MARKED_IMAGE, "", {}),
     ("assemble --source-graphics simh simhs", "", 0, MARKED_IMAGE, "", {}),
     ("assemble --deck new marked", "", 0, "", "", {"new": OWN_DECK}),

@@ -10,6 +10,8 @@ from tests.support import EXAMPLES, MOST_BYTES, NO_FILE, TOP, ProgramTest, misus
 FAULTS = [
     (" " * 81, "line 1: 2 LONG LINE"),
     ("               a", "line 1: 3 GRAPHIC"),
+    ("     *\r\r\n", "line 1: 3 GRAPHIC"),
+    ("     *\r", "line 1: 3 GRAPHIC"),
     ("     X1        DCW  #1", "line 1: 4 LABEL"),
     ("     A         DCW  #1\n     A         DCW  #1", "line 2: 5 DOUBLE LABEL"),
     ("               ZZZ\n" + " " * 81, "line 1: 6 OPERATION"),
@@ -84,6 +86,24 @@ class Assembling(ProgramTest):
         areas = "               ORG  500\n     REC       DA   2X4\n     KEY            3,4\n               END  KEY\n"
         image = "IMAGE2 04000\n00500 08 ~  ~  ~  ~  \nEND 00503\n"
         self.expect("the image", self.assemble(areas), 0, image)
+
+    def test_a_listing_has_the_source_next_to_its_addresses(self):
+        """It has neither a carriage return nor blanks at the end of a line, and it goes on after END."""
+        source = (
+            "               ORG  400\r\n     START     ZA   +5,TOTAL\n     TOTAL     DCW  #3\n"
+            "     NAME      DCW  @TEN LETTERS@\n     * ONE LITERAL\n               END  START\n     * AFTER END  "
+        )
+        listing = """\
+0001 00400                         ORG  400
+0002 00400 ?421409       START     ZA   +5,TOTAL
+0003 00407               TOTAL     DCW  #3
+0004 00410 TEN LETT      NAME      DCW  @TEN LETTERS@
+0005                     * ONE LITERAL
+     00421 E        +5
+0006 00400                         END  START
+0007                     * AFTER END
+"""
+        self.expect("the listing", self.assemble(source, "--list"), 0, listing)
 
     def test_each_size_of_core_storage(self):
         outside = "ibm1401: line 1: 9 OUT OF CORE\n"

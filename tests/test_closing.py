@@ -1,4 +1,5 @@
 """How a room is closed by its input, which stays open."""
+import socket
 import unittest
 
 from tests.support import SECONDS, ProgramTest
@@ -22,9 +23,23 @@ class Closing(ProgramTest):
     def test_other_lines_close_nothing(self):
         room = self.room("serve", "--keep-seats", seats=1)
         with room.console() as console:
-            room.type(b"quit\nQUIT \n QUIT\nQUIT\r\r\nQUITQUIT\n\n\r\nQUI\nT\nQ\rUIT\n")
+            room.type(b"quit\nQUIT \n QUIT\nQUIT NOW\nQUIT\r\r\nQUIT\rA\n\rQUIT\nQUITQUIT\n\n\r\nQUI\nT\nQ\rUIT\n")
             self.same("a console", console.say(b"EXAMINE 0\n"), b" \n")
         self.ended(room, "the room", 1)
+
+    def test_an_input_that_breaks_in_a_line(self):
+        """One end of a pair is closed with a byte unread: a read of the other fails once it has had what came."""
+        ours, theirs = socket.socketpair()
+        with theirs:
+            room = self.room("serve", "--keep-seats", seats=1, stdin=theirs)
+            with room.console() as console:
+                self.same("a console", console.say(b"EXAMINE 0\n"), b" \n")
+                theirs.send(b"x")
+                ours.send(b"\nQUI")
+                ours.close()
+                self.same("its end", console.hear(), b"")
+            output, error = room.process.communicate(timeout=SECONDS)
+        self.same("the room", (room.process.returncode, output, error), (1, b"JOURNAL 1\n", b"ibm1401: input failed\n"))
 
     def test_a_run_in_progress_has_its_reply(self):
         """Each command that is in the journal has its reply, also the run that goes on while the room is closed."""

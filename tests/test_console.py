@@ -10,6 +10,8 @@ import tempfile
 import unittest
 
 from tests.limits import bounds_memory, within
+from tests.preloaded import needs_compiler, preloading
+from tests.session_texts import GRAPHICS
 from tests.support import (EXAMPLES, LONE, MOST_BYTES, MOST_ENTRIES, PROGRAM, REPLY_SECONDS, TESTS, ProgramTest, misuse,
                            program, run, shell)
 
@@ -106,10 +108,35 @@ class Lines(ProgramTest):
             ("a tab before a word", b"\tREGS", "ERROR 1 WORD\n"),
             ("200 blanks", b" " * 200, ""),
             ("201 blanks", b" " * 201, "ERROR 4 LENGTH\n"),
+            ("a line after 201 bytes", b"EXAMINE 0" + b" " * 192 + b"\nEXAMINE 0", "ERROR 4 LENGTH\n \n"),
+            ("a carriage return after each line", b"DEPOSIT 0500 K\r\n\r\nEXAMINE 500\r\nQUIT\r", "OK\nK\nBYE\n"),
             ("a byte in a card's last column, before a column too many", b"FEED " + nines + b"\xb99",
              "ERROR 3 GRAPHIC\n"),
         ]:
             self.expect(name, program("console", lines=line + b"\n"), 0, reply)
+
+
+    def test_a_carriage_return_is_a_byte_of_its_line_where_no_line_feed_follows(self):
+        line = b"EXAMINE 0" + b" " * 191
+        for name, lines, reply in [
+            ("QUIT", b"QUIT\r", "ERROR 1 WORD\n"),
+            ("200 bytes, and both", line + b"\r\n", " \n"),
+            ("200 bytes, and a carriage return", line + b"\r", "ERROR 4 LENGTH\n"),
+        ]:
+            self.expect(name, program("console", lines=lines), 0, reply)
+
+    def test_each_byte_is_read(self):
+        """256 deposits: each of a graphic is made, and no other byte is one. A line feed ends its line, as a carriage
+        return before one does; a line without a text is too short."""
+        graphics = GRAPHICS.encode()
+        lines = b"".join(b"DEPOSIT 0500 %c\nEXAMINE 0500\n" % byte for byte in range(256))
+        replies, shown = b"", b" "
+        for byte in range(256):
+            is_graphic = byte in graphics
+            shown = b"%c" % byte if is_graphic else shown
+            fault = b"ERROR 4 LENGTH" if byte in b"\r\n" else b"ERROR 3 GRAPHIC"
+            replies += b"%b\n%b\n" % (b"OK" if is_graphic else fault, shown)
+        self.expect("the session", program("console", lines=lines), 0, replies)
 
 
 class Sizes(ProgramTest):
@@ -158,6 +185,48 @@ class Broken(ProgramTest):
         self.expect("the session", program("console", stdin=reads), 1, " \n", READ)
         os.write(writes, b"NE 0\nQUIT\n")
         self.same("nothing is read after it", os.read(reads, 100), b"NE 0\nQUIT\n")
+
+    def test_a_read_that_fails_in_the_first_line(self):
+        """Nothing is answered, and nothing recorded."""
+        journal = self.folder / "unfinished.journal"
+        reads, writes = os.pipe()
+        self.addCleanup(os.close, reads)
+        self.addCleanup(os.close, writes)
+        os.set_blocking(reads, False)
+        for words in [], ["--journal", journal]:
+            os.write(writes, b"EXAMINE 0")
+            self.expect(f"a session, {len(words)} words", program("console", *words, stdin=reads), 1, "", READ)
+        self.holds("the journal has no command", journal, b"JOURNAL1 4000\n")
+
+    @needs_compiler
+    def test_writes_that_take_a_part(self):
+        """The reply that isn't taken whole is the last, its command is the last in the journal, and no later line is
+        read."""
+        lines = b"DEPOSIT 0500 ~K\nEXAMINE 0500\nQUIT\n"
+        head, entries = b"JOURNAL1 4000\n", [b"1\t0\tDEPOSIT 0500 ~K\tOK\n", b"2\t0\tEXAMINE 0500 1\t~K\n"]
+        whole = b"OK\n~K\nBYE\n"
+        for width, limit, kept, status, error, unread in [
+            (1, 99, 2, 0, "", b""),
+            (2, 99, 2, 0, "", b""),
+            (3, 99, 2, 0, "", b""),
+            (9, 0, 1, 1, WRITE, b"EXAMINE 0500\nQUIT\n"),
+            (9, 1, 1, 1, WRITE, b"EXAMINE 0500\nQUIT\n"),
+            (2, 2, 1, 1, WRITE, b"EXAMINE 0500\nQUIT\n"),
+            (9, 3, 2, 1, WRITE, b"QUIT\n"),
+            (1, 5, 2, 1, WRITE, b"QUIT\n"),
+        ]:
+            for takes_none, keeps in (0, False), (1, False), (0, True), (1, True):
+                name = f"{width} bytes with each write, {limit} in all, {takes_none}, {keeps}"
+                how = preloading("narrow_writes", WRITE_WIDTH=width, WRITE_LIMIT=limit, WRITE_TAKES_NONE=takes_none)
+                journal = self.folder / f"{width}-{limit}-{takes_none}.journal"
+                with tempfile.TemporaryFile() as typed:
+                    typed.write(lines)
+                    typed.seek(0)
+                    ran = program("console", *(["--journal", journal] if keeps else []), stdin=typed, **how)
+                    self.expect(name, ran, status, whole[:limit], error)
+                    self.same(f"{name}: what isn't read", typed.read(), unread)
+                if keeps:
+                    self.holds(f"{name}: the journal", journal, head + b"".join(entries[:kept]))
 
     def test_a_second_reply_that_is_not_taken(self):
         def for_one_reply():
@@ -216,6 +285,8 @@ class Bounds(ProgramTest):
     def test_the_bytes_of_a_session(self):
         ran = program("console", lines=b"\n" * (MOST_BYTES + 1))
         self.expect("as many as there may be", ran, 1, "", "ibm1401: session ended: BOUND\n")
+        ran = program("console", lines=b" " * (MOST_BYTES + 1))
+        self.expect("as many, all of one line", ran, 1, "", "ibm1401: session ended: BOUND\n")
         ran = program("console", lines=b"\n" * (MOST_BYTES - 5) + b"QUIT\n")
         self.expect("QUIT with the last of them", ran, 0, "BYE\n")
 

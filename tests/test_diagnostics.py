@@ -116,6 +116,74 @@ WARNED = [
     ("     A         B    A\n               END  A\n", []),
     ("     A         H    A\r\n     *\r\n               DCW  #1\r\n               END  A\r\n", []),
 ]
+# Instructions and chains: each machine carries out lines 7, 9 and 12, and none carries out lines 16 and 18.
+FITTED = """\
+     ENTRY     M    A,B
+               D    A,B
+               MCM  A,B
+               MA   A
+               BBE  ENTRY,A,1
+               BBE
+               BCE  ENTRY,A,X
+               CHAIN2
+               BW   ENTRY,A
+               CHAIN1
+               SBR  A,B
+               SAR  A
+               CHAIN1
+               H    0,7
+               SRF
+               SPF  ENTRY
+               SPF
+               MIZ  A,B
+               RT   1,A
+               RWD  1
+     A         DCW  #3
+     B         DCW  #3
+               END  ENTRY
+"""
+NOT_FITTED = "WARNING: this machine has no instruction of this operation and length"
+# The lines of it that a machine with each of these features doesn't carry out.
+UNFITTED = [
+    ("", [1, 2, 3, 4, 5, 6, 8, 10, 11, 13, 14, 15, 16, 17, 18, 19, 20]),
+    ("multiply", [3, 4, 5, 6, 8, 10, 11, 13, 14, 15, 16, 17, 18, 19, 20]),
+    ("move-record", [1, 2, 4, 5, 6, 8, 10, 11, 13, 14, 15, 16, 17, 18, 19, 20]),
+    ("modify-address", [1, 2, 3, 5, 6, 8, 10, 11, 13, 14, 15, 16, 17, 18, 19, 20]),
+    ("bit-test", [1, 2, 3, 4, 6, 8, 10, 11, 13, 14, 15, 16, 17, 18, 19, 20]),
+    ("lengths", [1, 2, 3, 4, 5, 6, 15, 16, 17, 18, 19, 20]),
+    ("read-punch-release", [1, 2, 3, 4, 5, 6, 8, 10, 11, 13, 14, 16, 18, 19, 20]),
+    ("tapes", [1, 2, 3, 4, 5, 6, 8, 10, 11, 13, 14, 15, 16, 17, 18]),
+    ("bit-test,lengths", [1, 2, 3, 4, 15, 16, 17, 18, 19, 20]),
+    ("all", [16, 18]),
+]
+# A division sets the overflow if it is fitted, and a multiplication sets no indicator.
+DIVISION = """\
+     ENTRY     D    A,B
+               BAV  ENTRY
+               H    ENTRY
+     A         DCW  #3
+     B         DCW  #7
+               END  ENTRY
+"""
+# An address is stored with its zone if that is fitted.
+STORED = """\
+     ENTRY     SBR  COUNT,ENTRY
+               C    +005,COUNT
+               BE   ENTRY
+               H    ENTRY
+     COUNT     DCW  000
+               END  ENTRY
+"""
+UNLIKE_SIGNS = "2:21: WARNING: a signed literal never equals a number without a sign"
+# Sources for machines with features, and their warnings.
+WARNED_FITTED = [
+    *((FITTED, features, [f"{line}:16: {NOT_FITTED}" for line in lines]) for features, lines in UNFITTED),
+    *((DIVISION, features, [f"1:16: {NOT_FITTED}", f"2:16: {NEVER_SET}"]) for features in ("", "lengths")),
+    (DIVISION, "multiply", []),
+    (DIVISION.replace(" D ", " M "), "all", [f"2:16: {NEVER_SET}"]),
+    *((STORED, features, [f"1:16: {NOT_FITTED}", UNLIKE_SIGNS]) for features in ("", "multiply")),
+    (STORED, "lengths", []),
+]
 
 
 class Faults(ProgramTest):
@@ -184,6 +252,14 @@ class Warnings(ProgramTest):
             for error in "2>/dev/full", "2>&-":
                 ran = shell(f'"$0" assemble --all "$1" {error}', self.source)
                 self.expect(f"{error}: the image of {text!r}", ran, 0, image)
+
+    def test_for_a_machine_with_features(self):
+        for text, features, reported in WARNED_FITTED:
+            self.source.write_text(text)
+            words = ["--all", *(["--fit", features] if features else [])]
+            ran = program("assemble", "--language", "ibm", *words, self.source)
+            lines = "".join(f"{self.source}:{line}\n" for line in reported)
+            self.expect(f"{text.split()[1]}, fitted with {features or 'none'}", ran, 0, "IMAGE2 04000\n...", lines)
 
     def test_a_source_with_faults_has_no_warning(self):
         self.source.write_text(FAULTY.replace("QQ   1", "BE   A"))

@@ -1,7 +1,7 @@
 """`--graphics`: decks and sources in the graphics of this machine's chain, of SIMH's, and of one for formulas."""
 import unittest
 
-from tests.chains import CHAINS, DOUBTFUL, FORTRAN, OURS, SIMH
+from tests.chains import CHAINS, DOUBTFUL, FORTRAN, OURS, SIMH, SOURCE_FORTRAN, SOURCE_SIMH
 from tests.jobs import COPY, ending
 from tests.support import EXAMPLES, ProgramTest, misuse, program
 
@@ -108,21 +108,38 @@ class Graphics(ProgramTest):
         self.same("the cells", image.decode().splitlines()[1], "00500 20 ~A518519~.~N~A'B\"C&D%E~A~B")
 
     def test_sources_that_are_for_another_chain(self):
-        """If a byte isn't allowed in a source, the chain that has it is named; but `assemble` alone names the fault."""
+        """If a byte isn't allowed in a source, the chain that has it is named; but `assemble` alone names the fault. If
+        the call names a chain, the option is the one for sources, which leaves the decks."""
         for words, text, said in [
-            ([], "     A         DCW  @}@\n               END  0\n", SIMH),
-            (["--graphics", "simh"], "     A         DCW  +1\n               END  0\n", FORTRAN),
-            (["--graphics", "fortran"], "     A         DCW  @A@\n               END  0\n", SIMH),
+            ([], "@}@", SIMH),
+            (["--graphics", "simh"], "+1", SOURCE_FORTRAN),
+            (["--graphics", "fortran"], "@A@", SOURCE_SIMH),
+            (["--source-graphics", "ours"], "@}@", SOURCE_SIMH),
+            (["--source-graphics", "simh"], "+1", SOURCE_FORTRAN),
+            (["--source-graphics", "fortran"], "@A@", SOURCE_SIMH),
+            (["--source-graphics", "ours", "--graphics", "simh"], "@}@", SOURCE_SIMH),
+            (["--source-graphics", "simh", "--graphics", "simh"], "+1", SOURCE_FORTRAN),
         ]:
-            self.source.write_text(text)
+            self.source.write_text(f"     A         DCW  {text}\n               END  0\n")
             said = f"ibm1401: {self.source}: {said}\n"
             ran = program("assemble", *words, self.source)
             first = said if words else ""
             self.expect(f"assemble {words}", ran, 1, "", f"{first}ibm1401: line 1: 3 GRAPHIC\n")
             ran = program("assemble", "--all", *words, self.source)
             self.check(f"assemble --all {words}", "" if ran.stderr.startswith(said.encode()) else ran.stderr)
-            ran = program("run", *words, self.source)
-            self.check(f"run {words}", "" if ran.stderr.startswith(said.encode()) else ran.stderr)
+            for more in [], ["--cards", self.deck]:
+                ran = program("run", *words, *more, self.source)
+                self.check(f"run {words} {more[:1]}", "" if ran.stderr.startswith(said.encode()) else ran.stderr)
+                self.same(f"run {words} {more[:1]}: once", ran.stderr.count(b"another chain"), 1)
+
+    def test_the_option_that_is_named_reads_the_source(self):
+        """The decks are read as before."""
+        self.deck.write_text("A(B\n")
+        self.source.write_text(COPY.replace("END", "DCW  @A@\n               END"))
+        words = ["--graphics", "fortran"]
+        self.same("it is refused", self.copied(*words).returncode, 1)
+        ran = self.copied(*words, "--source-graphics", "simh")
+        self.same("it is read", (ran.returncode, ran.stdout), (0, b"A%B\n"))
 
     def test_decks_that_are_made(self):
         """A deck in another chain's graphics loads what the source says, and is listed so."""

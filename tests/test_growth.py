@@ -188,6 +188,31 @@ class Growth(ProgramTest):
             self.each(job, "memory refused")
             self.same("nothing is left", sorted(each.name for each in self.folder.iterdir() if "part" in each.name), [])
 
+    def test_a_run_that_writes_files(self):
+        """Memory that is refused is reported as that, and as no fault of a file, whichever file is looked at or made."""
+        sales = EXAMPLES / "sales.source"
+        names = {word: self.folder / word for word in ("paper", "punch", "trace")}
+        options = [each for word, name in names.items() for each in (f"--{word}", name)]
+        words = ["run", sales, "--cards", sales.with_suffix(".cards"), "--switches", "A", *options]
+        whole = program(*words)
+        plain = re.sub(rb" \(line [^)]*\)", b"", whole.stderr)
+        texts = [name.read_bytes() for name in names.values()]
+        self.same("files that are written", [bool(text) for text in texts], [True, False, True])
+
+        def job(how):
+            for name in names.values():
+                name.unlink(missing_ok=True)
+            ran = program(*words, **how)
+            if ran.returncode == 1 and not ran.stdout and ran.stderr in (MEMORY, NO_LINES):
+                return ran.stderr.decode().split(": ", 1)[1].strip(), ""
+            if (ran.returncode, ran.stdout, ran.stderr) == (0, b"", plain):
+                return "without the instruction", ""
+            is_whole = (ran.returncode, ran.stdout, ran.stderr) == (0, b"", whole.stderr)
+            is_written = [name.read_bytes() for name in names.values()] == texts
+            return "without an effect", "" if is_whole and is_written else f"{ran}"
+
+        self.each(job, "memory refused", "line 0: 1 MEMORY", "without the instruction")
+
     def test_a_persons_console(self):
         """What is shown is a beginning of what is shown with ample memory, up to a fault of a line, or to the end."""
         sales = EXAMPLES / "sales.source"

@@ -10,6 +10,29 @@ VERSION_1 = EXAMPLES / "five_and_five_version_1.image"
 def segments(count):
     """The text of an image of this number of segments of one cell."""
     return b"IMAGE1 1400\n" + b"0000 01 A\n" * count + b"END 0000\n"
+# Texts that are no images, by why they are refused: the first wrong line decides.
+NO_IMAGES = {
+    "2 HEADER": [
+        "image1 4000\nEND 0000\n", "IMAGE1  4000\nEND 0000\n", "IMAGE1 4000 \nEND 0000\n",
+        "IMAGE1 4000\r\nEND 0000\n", "IMAGE1 08000\n", "IMAGE2 04001\n", "IMAGE2 65536\n", "IMAGE2 70000\n",
+        "IMAGE3 04000\nEND 00000\n", "\nIMAGE1 4000\nEND 0000\n",
+    ],
+    "3 RECORD": [
+        "IMAGE1 4000\n\n", "IMAGE1 4000\nEND 0000\r\n", "IMAGE1 4000\nEND 000\n", "IMAGE1 4000\nEND 00000\n",
+        "IMAGE2 04000\nEND 0000\n", "IMAGE1 4000\nEND 0000\nEND 0000\n", "IMAGE1 4000\nEND 0000\n ",
+        "IMAGE1 1400\n1400 01 a\nEND 0000\n", "IMAGE1 4000\n400 01 A\nEND 0000\n",
+        "IMAGE1 4000\n00400 01 A\nEND 0000\n", "IMAGE1 4000\n0400 1 A\nEND 0000\n",
+        "IMAGE1 4000\n0400 01  A\nEND 0000\n", "IMAGE1 4000\n0400 01 A \nEND 0000\n",
+        "IMAGE1 4000\n0400 01 ~\nEND 0000\n", "IMAGE1 4000\n0400 01 ~~A\nEND 0000\n",
+        "IMAGE1 4000\n0400 00 \nEND 0000\n", "IMAGE1 4000\n0400 00 \n", "IMAGE1 4000\n0400 01 A\nX\n",
+        "IMAGE1 4000\nEND 0400\nX\n", f"IMAGE1 4000\n0400 41 {'A' * 41}\nEND 0000\n",
+    ],
+    "4 RANGE": [
+        "IMAGE2 08000\n99999 01 A\nX\n", "IMAGE2 16000\nEND 16000\n", "IMAGE1 4000\nEND 4000\n",
+        "IMAGE1 4000\nEND 4000\nEND 0000\n", "IMAGE1 1400\n9999 01 A\nX\n",
+    ],
+    "5 TRUNCATED": ["IMAGE1 4001", "IMAGE1 4000\n", "IMAGE1 4000\nEND 0000"],
+}
 
 
 class Loaded(ProgramTest):
@@ -40,6 +63,14 @@ class Loaded(ProgramTest):
         content, lines = b"IMAGE2 16000\n15999 01 ~N\nEND 15999\n", b"EXAMINE 15999\nEXAMINE 15999 2\nRUN 1\n"
         replies = "~N\nREFUSED 1 ADDRESS\nSTOP 01 LIMIT STEPS 1 I 00000\n"
         self.expect("the session", self.load(content, lines), 0, replies)
+
+    def test_forty_cells_up_to_the_last_place(self):
+        text = "ABCDEFGHIJ" * 3 + "ABCDEFGHI~ "
+        for size in 1400, 16_000:
+            content = f"IMAGE2 {size:05}\n{size - 40:05} 40 {text}\n00000 01 K\nEND {size - 1:05}\n"
+            lines = f"EXAMINE {size - 40} 40\nEXAMINE 0\nRUN 1\n"
+            replies = f"{text}\nK\nSTOP 07 OPCODE STEPS 0 I {size - 1:05}\n"
+            self.expect(f"{size} places", self.load(content.encode(), lines.encode()), 0, replies)
 
     def test_its_commands_are_in_the_journal(self):
         """They are followed by those of the session."""
@@ -90,6 +121,24 @@ class Refused(ProgramTest):
         ]:
             image.write_bytes(content)
             self.expect(name, program("load", image, lines=b"QUIT\n"), 1, "", f"ibm1401: {error}\n")
+
+    def test_texts_that_are_no_images(self):
+        image = self.folder / "an image"
+        for fault, texts in NO_IMAGES.items():
+            for text in texts:
+                image.write_bytes(text.encode())
+                ran = program("load", image, lines=b"QUIT\n")
+                self.expect(repr(text), ran, 1, "", f"ibm1401: image refused: {fault}\n")
+
+    def test_each_front_of_an_image_is_truncated(self):
+        image = self.folder / "an image"
+        for example in FIVE, VERSION_1:
+            text = example.read_bytes()
+            for end in range(len(text)):
+                image.write_bytes(text[:end])
+                ran = program("load", image, lines=b"QUIT\n")
+                name = f"{end} bytes of {example.name}"
+                self.expect(name, ran, 1, "", "ibm1401: image refused: 5 TRUNCATED\n")
 
     def test_files_that_cannot_be_read(self):
         for name in self.folder / "none", self.folder, "-", "":

@@ -8,6 +8,7 @@ import subprocess
 import time
 import unittest
 
+from tests.chains import SOURCE_FORTRAN, SOURCE_SIMH
 from tests.support import EXAMPLES, PROGRAM, SECONDS, TOP, ProgramTest, program, run, shell
 
 PAGE = TOP / "docs/OPERATE.md"
@@ -211,10 +212,13 @@ class Names(Operated):
             self.check(name, "" if f", {places}: " in shown[0] or f", {places}:" in shown[0] else shown)
 
     def test_what_is_put(self):
-        shown = self.totals(["deposit 600 = A 6,TOTAL", "deposit 446 ~00000000", "set TOTAL = -500", "set TOTAL = @HI@",
+        shown = self.totals(["deposit 600 = A 6,TOTAL", "deposit 446 ~00000000", "set TOTAL = -500", "set TOTAL = +7",
+                             "set TOTAL = -0", "set TOTAL = +0", "set TOTAL = 7", "set TOTAL = @HI@",
                              "unmark TOTAL-7", "mark TOTAL-7", "list :5/7", "deposit 409 ~A006452", "list 409/7"])
         self.same("each answer", shown, [
             "00600  ~A006453", "00446  ~00000000", "TOTAL  00446-00453  0000050!  = -500",
+            "TOTAL  00446-00453  00000007  = 7", "TOTAL  00446-00453  0000000!  = -0",
+            "TOTAL  00446-00453  00000000  = 0", "TOTAL  00446-00453  00000007  = 7",
             "TOTAL  00446-00453  HI      ", "00446  H", "00446  ~H",
             " 00409 A006453          A    6,TOTAL              line 5", "00409  ~A006452",
             " 00409 A006452          A    006,452"])
@@ -471,6 +475,14 @@ class CommandLine(Operated):
             self.check(" ".join(words), "" if ran.stdout.endswith(b"A  00500-00503  X#%Y\n") else ran)
         words = ["--graphics", "fortran", "--source-graphics", "ours"]
         self.same(" ".join(words), self.operate("operate", "formula", *words).returncode, 1)
+        for words, said in [
+            (["--graphics", "fortran"], SOURCE_SIMH),
+            (["--source-graphics", "simh"], SOURCE_FORTRAN),
+        ]:
+            (self.desk / "another").write_text("     A         DCW  @A+@\n               END  0\n")
+            ran = self.operate("operate", "another", *words)
+            said = f"ibm1401: another: {said}\n".encode()
+            self.check(f"{words}: the option", "" if ran.stderr.startswith(said) else ran.stderr)
 
     def test_fit(self):
         """The machine is fitted before all else, and its journal says so."""
@@ -596,6 +608,27 @@ class Kept(Operated):
         ran = self.operate("operate", source.name, "--resume", "kept", lines="print TOTAL\n")
         self.same("its end", (ran.returncode, ran.stderr), (0, b""))
         self.check("the label", "" if b"TOTAL" in ran.stdout else ran.stdout)
+
+    def test_a_journal_stays_as_it_is_if_the_source_next_to_it_is_refused(self):
+        """Its unfinished last line too, which is cut off once the source is read."""
+        whole = "JOURNAL1 4000\n1\t0\tDEPOSIT 0700 ~A\tOK\n"
+        kept, faulty = self.desk / "kept", self.desk / "faulty"
+        faulty.write_text("               BOO\n               END  333\n")
+        for end in "2\t0\tDEPOSIT 0701 ~B\tO", "":
+            kept.write_text(whole + end)
+            for source, error in [
+                ("nosuch", "nosuch: no such file\n"),
+                ("five_and_five.image", "five_and_five.image: an image has no labels\n"),
+                ("faulty", "line 1: 6 OPERATION\n"),
+            ]:
+                said = "faulty:1:16: OPERATION: BOO isn't an operation\n" if source == "faulty" else ""
+                ran = self.operate("operate", source, "--resume", "kept")
+                self.expect(f"{source}, {end}", ran, 1, "", f"{said}ibm1401: {error}")
+                self.holds(f"{source}, {end}: the journal", kept, whole + end)
+            ran = self.operate("operate", "sales.source", "--resume", "kept", lines="deposit 702 ~C\n")
+            cut = "ibm1401: line 3 was unfinished and was discarded\n" if end else ""
+            self.same(f"{end}: it goes on", (ran.returncode, ran.stderr), (0, cut.encode()))
+            self.holds(f"{end}: its next line", kept, f"{whole}2\t0\tDEPOSIT 0702 ~C\tOK\n")
 
     def test_a_journal_for_which_the_disk_has_no_room(self):
         """A beginning of it stays, whose last line `resume` discards."""

@@ -319,6 +319,9 @@ class Terminal(ProgramTest):
         seat.type(b"continue\nevaluate 402\n\nevaluate 403\n")
         shown = b"".join(seat.until(each) or b"(nothing)" for each in (b"402, spelled 402", b"403, spelled 403"))
         self.check("an empty line among them stops it", "" if INTERRUPTED.search(shown) else shown)
+        seat.until(PROMPT)
+        seat.type(b"continue\n" + b"evaluate 402\n" * 30 + b"\n")
+        self.same("at the first look, whatever is before it", self.steps_of(seat.until(b" steps")), 1_000_000)
 
     def test_without_the_launcher_ctrl_c_ends_it(self):
         seat = self.seat("--journal", "kept")

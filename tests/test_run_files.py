@@ -132,6 +132,7 @@ class Refused(ProgramTest):
             ([self.source, "--paper", out], f"cannot write {out}"),
             ([self.source, "--punch", out], f"cannot write {out}"),
             ([self.source, "--trace", out], f"cannot write {out}"),
+            ([self.source, "--tape", f"1={out}:new"], f"cannot write {out}"),
         ]:
             shown = " ".join(str(word).removeprefix(f"{self.folder}/") for word in words)
             self.expect(f"run {shown}", program("run", *words, **how), 1, "", f"ibm1401: {fault}\n")
@@ -191,16 +192,23 @@ class Streams(ProgramTest):
                 ran = program("run", "--load", deck, "--switches", "A", option, name, *others)
                 self.expect(f"{option} {name} {others[0]}", ran, 1, "", f"ibm1401: cannot write {name}\n")
                 self.holds("it stays", old, "old")
+        for option in "--paper", "--punch", "--trace", "--image":
+            old.write_text("old")
+            ran = program("run", "--load", deck, "--switches", "A", "--tape", f"1={none}:new", option, old)
+            self.expect(f"a reel, {option}", ran, 1, "", f"ibm1401: cannot write {none}\n")
+            self.holds("it stays", old, "old")
         old.unlink()
         ran = program("run", "--load", deck, "--switches", "A", "--trace", none, "--paper", old)
         self.expect("a file that isn't there", ran, 1, "", f"ibm1401: cannot write {none}\n")
         self.check("it isn't made", "" if not old.exists() else "it is there")
 
     def test_a_reel_that_is_not_written_is_reported_next_to_the_paper(self):
-        reel = self.folder / "none" / "reel"
-        ran = shell(f"{self.call} --paper /dev/full --tape 1={reel}:new")
+        reel, text = self.folder / "reel", b"\3\0\0\0" b"123\0" b"\3\0\0\0"
+        reel.write_bytes(text)
+        ran = shell(f"ulimit -f 0; {self.call} --paper /dev/full --tape 1={reel}:ring")
         error = f"ibm1401: cannot write {reel}\nibm1401: cannot write /dev/full\n"
         self.expect("it", ran, 1, "", error)
+        self.holds("the reel", reel, text)
 
     def test_cards_that_a_full_disk_does_not_take(self):
         copy = EXAMPLES / "deck_copy"

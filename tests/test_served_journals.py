@@ -97,6 +97,29 @@ class Resumed(ProgramTest):
         self.ended(room, "in a new file seat 1 gives them", 3)
         self.holds("each with its answer", taken, self.text + b"3\t1\tEXAMINE 0700 1\t~1\n")
 
+    def test_each_command_is_given_again_by_its_seat(self):
+        """Those of a console are given by seat 1; what fits the machine is given too."""
+        entries = [(1, "FIT LENGTHS"), (2, "START 0702"), (0, "START 0700"), (2, "FIT NONE"), (2, "START 0703")]
+        lines = ["JOURNAL1 4000\n", *(f"{k}\t{seat}\t{command}\tOK\n" for k, (seat, command) in enumerate(entries, 1))]
+        self.path.write_text("".join(lines))
+        new = self.folder / "again.journal"
+        self.ended(self.room("resume", self.path, "--journal", new, seats=2), "the room", 5)
+        self.holds("the new journal", new, "".join(lines).replace("3\t0\t", "3\t1\t").encode())
+
+    def test_a_command_that_is_not_kept_again(self):
+        """No operator comes, and the new journal isn't left."""
+
+        def limited():
+            signal.signal(signal.SIGXFSZ, signal.SIG_IGN)
+            resource.setrlimit(resource.RLIMIT_FSIZE, (50, 50))
+
+        new = self.folder / "short.journal"
+        call = ["resume", self.path, "--journal", new, "--seats", "2"]
+        ran = at_a_port(lambda port: program(*call, "--port", str(port), preexec_fn=limited))
+        self.expect("the program", ran, 1, "", "ibm1401: session ended: UNKEPT\n")
+        self.check("the new journal", "it is left" if new.exists() else "")
+        self.holds("the old one stays", self.path, self.text)
+
     def test_refused(self):
         self.path.with_name("taken.journal").write_bytes(b"")
         taken, call = self.folder / "taken.journal", ["resume", self.path, "--port", "1", "--seats", "2"]

@@ -12,7 +12,10 @@ import unittest
 
 from tests.limits import bounds_memory, within
 from tests.support import (EXAMPLES, MOST_ENTRIES, REPLY_SECONDS, SECONDS, TOP, ProgramTest, at_a_port, at_most,
-                           difference, misuse, program, shell)
+                           difference, misuse, program, shell, wait_until)
+
+# How many commands each of eight operators gives who meddle with one machine.
+MEDDLINGS = 600
 
 
 class Served(ProgramTest):
@@ -77,6 +80,38 @@ class Served(ProgramTest):
             self.same("the runs, each to its end", ended + one.hear(), stopped + b"BYE\n")
             two.sendall(b"QUIT\n")
         self.ended(room, "its journal", 2 + runs)
+
+    def test_long_runs_are_shown_to_both_seats(self):
+        """A program without an end, at 500, adds 1 to the digits at 607 to 610 in every second instruction. After a
+        long run each seat is shown what it did, and after a short command too."""
+        room = self.plain_room(2)
+        with room.console() as one, room.console() as two:
+            self.same("the program", one.say(b"DEPOSIT 0500 ~A600610~B500~.\nDEPOSIT 0600 ~1\n"), b"OK\nOK\n")
+            self.same("its digits", one.say(b"DEPOSIT 0607 ~0000\nSTART 0500\n"), b"OK\nOK\n")
+            self.steps(one, 10_000)
+            self.shows("a seat that gave no command", two, 5, b"5000")
+            self.same("a short command of its own", two.say(b"DEPOSIT 0700 ~K\n"), b"OK\n")
+            self.shows("that seat", two, 6, b"5000")
+            self.steps(one, 4_096)
+            self.steps(two, 4_096)
+            self.shows("the second to run", two, 8, b"9096")
+            self.steps(two, 4)
+            self.shows("after a short run", two, 9, b"9098")
+            self.shows("the first to run", one, 9, b"9098")
+            self.same("the other's character", one.say(b"GLANCE 0700\n"), b"AFTER 9 ~K\n")
+        self.ended(room, "its journal", 9)
+
+    def steps(self, console, many):
+        """A subtest: a run of the loop makes this many steps and is back at its beginning."""
+        stopped = b"STOP 01 LIMIT STEPS %d I 00500\n" % many
+        self.same(f"{many} steps", console.say(b"RUN %d\n" % many), stopped)
+
+    def shows(self, name, console, after, digits):
+        """A subtest: a console is shown these digits as soon as it is shown this many commands."""
+        wait_until(lambda: console.say(b"GLANCE 0000\n") == b"AFTER %d  \n" % after)
+        replies = b"".join(b"AFTER %d %b%c\n" % (after, b"" if at else b"~", digit) for at, digit in enumerate(digits))
+        found = console.say(b"GLANCE 607\nGLANCE 608\nGLANCE 609\nGLANCE 610\n")
+        self.same(f"{name}, after {after} commands", found, replies)
 
     def test_the_example_of_operators_who_share_a_machine(self):
         example = (EXAMPLES / "two_operators.consoles").read_text()
@@ -168,6 +203,36 @@ class EightConsoles(ProgramTest):
         replies = "OK\n" * len(places) + "".join(f"{reply}\n" for _, reply in given)
         self.same("one console's replies", replayed.stdout, replies)
         self.ended(room, "the journal", len(places) + 8 * 999)
+
+
+    def test_their_journal_is_one(self):
+        """Each command is in it once, in its operator's order, with the answer that the operator heard, and a machine
+        alone gives each answer again. The glances between them show more and more commands."""
+        path, heard = self.folder / "eight.journal", {}
+        room = self.room("serve", "--journal", path, seats=8)
+        consoles = [room.console() for _ in range(8)]
+        self.in_threads(meddle, *((console, operator, heard) for operator, console in enumerate(consoles)))
+        self.ended(room, "the room", 8 * MEDDLINGS)
+        entries = [line.split("\t") for line in path.read_text().splitlines()[1:]]
+        answers = [[answer for _, by, _, answer in entries if by == str(seat)] for seat in range(1, 9)]
+        glances = [[int(line.split()[1]) for line in lines if line.startswith("AFTER")] for lines in heard.values()]
+        commands = [[line for line in lines if not line.startswith("AFTER")] for lines in heard.values()]
+        self.same("each operator's answers are a seat's", sorted(commands), sorted(answers))
+        self.same("each has as many", [len(each) for each in answers], [MEDDLINGS] * 8)
+        wrong = [seen for seen in glances if len(seen) != MEDDLINGS or seen != sorted(set(seen))]
+        self.check("each glance shows more commands than the one before", ["one doesn't"] if wrong else "")
+        checked = program("journal", "--check", path)
+        self.expect("a machine alone", checked, 0, f"{8 * MEDDLINGS} entries\n")
+
+
+def meddle(console, operator, heard):
+    """Gives deposits, starts, runs and questions in turn, where all operators do, with a glance after each, and notes
+    what is answered."""
+    commands = "DEPOSIT {0} ~.", "DEPOSIT {0} ~{1}", "START {0}", "RUN 3", "EXAMINE {0} 10", "REGS"
+    given = [(commands[k % 6], 500 + k % 40) for k in range(MEDDLINGS)]
+    lines = "".join(f"{command}\nGLANCE {{0}}\n".format(at, operator) for command, at in given).encode()
+    with console:
+        heard[operator] = console.say(lines).decode().splitlines()
 
 
 def send_unread(console):

@@ -80,6 +80,25 @@ class Refused(TapesTest):
         ]:
             self.expect_refused(value, self.run_with(value), 1, f"ibm1401: {why}\n")
 
+    def test_a_new_reel_that_cannot_be_made(self):
+        """It is refused before the job, whatever else is mounted. The longest names have no room for that of a part."""
+        self.before = self.names()
+        mounted, new = f"1={self.reel}", f"{self.new}:new"
+        for name in self.folder / "none" / "new.tap", self.reel / "new.tap", self.folder / ("n" * 250):
+            for reels in [f"1={name}:new"], [mounted, f"2={name}:new"], [mounted, f"2={new}", f"3={name}:new"]:
+                ran = self.run_with(*reels)
+                self.expect_refused(f"{name.name} {len(reels)}", ran, 1, f"ibm1401: cannot write {name}\n")
+        first, second = self.folder / "none" / "a", self.folder / "none" / "b"
+        ran = self.run_with(f"3={first}:new", mounted, f"2={second}:new")
+        self.expect_refused("the first of two", ran, 1, f"ibm1401: cannot write {first}\n")
+        ran = program("run", self.program, "--tape", f"1={first}:new", "--paper", second)
+        self.expect_refused("after the paper", ran, 1, f"ibm1401: cannot write {second}\n")
+        deck = self.folder / "deck"
+        deck.write_text("A\n")
+        self.before = self.names()
+        ran = program("run", "--load", deck, "--image", self.other, "--tape", f"1={new}")
+        self.expect_refused("no file is left of one", ran, 1, "ibm1401: the deck isn't loaded: ...")
+
     def test_two_names_of_one_file(self):
         self.before = self.names()
         ring, same, new = f"{self.reel}:ring", f"{self.folder}/./a.tap", f"{self.new}:new"
@@ -164,14 +183,23 @@ class Stops(TapesTest):
             (WRITE, '~"', [ring], "ADDRESS", "MCW %U1,201,W", "the record to write from 201 is empty"),
             ("~M%U1I99R", AREA, [reel], "ADDRESS", "MCW %U1,3999,R", "the record to read to 3999 doesn't fit in core"),
             ("~L%B1201X", AREA, [reel], "DCHAR", "LCA %B1,201,X", "the d-character X means nothing to the operation L"),
-            # What names no unit is an address, and so is what a machine without tape units is given.
+            # What names no unit is an address. A machine without tape units shows what the instruction asks for.
             ("~M%U9201R", AREA, [reel], "NOTFITTED", "MCW 1449+X1,201,R", "no tape unit has this name"),
-            (READ, AREA, [], "NOTFITTED", "MCW 1441+X1,201,R", "the operation M isn't fitted with 8 characters"),
+            (READ, AREA, [], "NOTFITTED", "MCW %U1,201,R", "the operation M isn't fitted with 8 characters"),
         ]:
             self.put(done, area)
             ran = self.run_with(*reels)
             found = re.fullmatch(rb"ibm1401: (\w+) at \d{4} \((.*)\): (.*) after \d+ steps?; .*\n", ran.stderr)
             self.same(why, found and [each.decode() for each in found.groups()], [stop, text, why])
+
+    def test_a_trace_has_the_units_name(self):
+        self.put(f"{READ}{REWIND}~L%B2201R")
+        trace = self.folder / "trace"
+        ran = program("run", self.program, "--tape", f"1={self.reel}", "--tape", "2=:scratch", "--trace", trace)
+        self.expect("the run", ran, 1, "", "ibm1401: TAPE at ...")
+        shown = [line.split("\t")[2] for line in trace.read_text().splitlines()]
+        wanted = ["MCW  %U1,201,R", "CU   %U1,R", "LCA  %B2,201,R"]
+        self.same("the instructions", shown, [f"{each:20}" for each in wanted])
 
     def test_nothing_is_loaded(self):
         empty = self.folder / "empty.tap"

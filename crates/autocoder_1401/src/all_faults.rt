@@ -59,7 +59,6 @@ fn add_outside(
 /// # Errors
 ///
 /// `Memory` if memory is refused or the source is too long.
-#[tactic(auto, using(crate::proofs::LanguagesLemmas::agrees_with_plain))]
 pub fn faults(
     alloc: Global,
     language: Language,

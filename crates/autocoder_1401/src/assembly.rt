@@ -29,7 +29,7 @@ use machine_image::Image;
 use std::alloc::Global;
 
 /// The image and the listing of a source.
-#[derive(Debug, Drop)]
+#[derive(Drop)]
 pub struct Assembly {
     /// The core image.
     pub image: Image,
@@ -122,7 +122,6 @@ pub fn assemble(alloc: Global, source: &[u8], size: u16) -> Result<Assembly, Asm
 /// `Memory` if memory is refused or the source is too long. Otherwise the lowest fault of the first line that
 /// has one of kinds 2 to 8, 10 and 11; if no line has one, `OutOfCore` for the first line of which something isn't in
 /// core.
-#[tactic(auto, using(crate::proofs::AssemblyLemmas::placed_in_turn, crate::proofs::LanguagesLemmas::agrees_with_plain))]
 pub fn assemble_in(
     alloc: Global,
     language: Language,
@@ -157,8 +156,7 @@ pub fn assemble_in(
 {
     let read = FaultlessLines::read(alloc, language, source)?;
     let lines = read.lines.lend();
-    let assembly = faultless_assembly(alloc, read.hashing, &read.chains, source, &lines, size)?;
-    Ok(assembly)
+    faultless_assembly(alloc, read.hashing, &read.chains, source, &lines, size)
 }
 
 /// The image of lines without a fault.
@@ -186,7 +184,6 @@ fn faultless_image(
 /// # Errors
 ///
 /// As `assemble_in`.
-#[tactic(auto, using(crate::proofs::AssemblyLemmas::placed_in_turn, crate::proofs::LanguagesLemmas::agrees_with_plain))]
 pub fn assemble_image(
     alloc: Global,
     language: Language,
@@ -219,6 +216,5 @@ pub fn assemble_image(
 {
     let read = FaultlessLines::read(alloc, language, source)?;
     let lines = read.lines.lend();
-    let image = faultless_image(alloc, read.hashing, &read.chains, &lines, size)?;
-    Ok(image)
+    faultless_image(alloc, read.hashing, &read.chains, &lines, size)
 }

@@ -50,7 +50,6 @@ fn add_outside_explained(
 /// # Errors
 ///
 /// `Memory` if memory is refused or the source is too long.
-#[tactic(auto, using(crate::proofs::LanguagesLemmas::agrees_with_plain))]
 pub fn explained_faults(
     alloc: Global,
     language: Language,

@@ -74,7 +74,6 @@ fn faultless_listing(
 /// # Errors
 ///
 /// As `assemble_in`.
-#[tactic(auto, using(crate::proofs::LanguagesLemmas::agrees_with_plain))]
 pub fn assemble_listing(
     alloc: Global,
     language: Language,
@@ -95,6 +94,5 @@ pub fn assemble_listing(
 {
     let read = FaultlessLines::read(alloc, language, source)?;
     let lines = read.lines.lend();
-    let ready = faultless_listing(alloc, read.hashing, &read.chains, source, &lines, size)?;
-    Ok(ready)
+    faultless_listing(alloc, read.hashing, &read.chains, source, &lines, size)
 }

@@ -225,7 +225,36 @@ fn operands_outside(
     }
 }
 
-/// What isn't in core of the first of these lines that has such a part: its operands, or else its places.
+/// What isn't in core of the first of these lines that has such a part: its operands, or else its places. None of them
+/// is placed so far.
+fn outside_among<'a>(
+    all: &Placing<'a>,
+    so_far: &mut Placing<'a>,
+    lines: &Lines<'_>,
+    size: u16,
+) -> Result<Option<Outside>, AsmFault>
+    ensures place { IfOk result (λ found. IfSome found (λ o. is_in_core size o.place ≡ false)) }
+    ensures err { IfErr result IsMemory }
+{
+    for i in 0..lines.len() {
+        let line = lines.line(i);
+        let Some(statement) = &line.statement else {
+            continue;
+        };
+        let row = statement.body.describe();
+        if so_far.is_row_outside(size, all, &row)? {
+            let operands = operands_outside(all, so_far, size, &row)?;
+            if operands.is_some() {
+                return Ok(operands);
+            }
+            return places_outside(so_far, size, &row);
+        }
+        so_far.place_row(statement, &row)?;
+    }
+    Ok(None)
+}
+
+/// What isn't in core of these lines, which have no fault.
 fn outside_in(
     alloc: Global,
     hashing: SourceHashing,
@@ -239,22 +268,7 @@ fn outside_in(
 {
     let all = place_all(alloc, hashing, chains, lines)?;
     let mut so_far = all.again(alloc);
-    for i in 0..lines.len() {
-        let line = lines.line(i);
-        let Some(statement) = &line.statement else {
-            continue;
-        };
-        let row = statement.body.describe();
-        if so_far.is_row_outside(size, &all, &row)? {
-            let operands = operands_outside(&all, &so_far, size, &row)?;
-            if operands.is_some() {
-                return Ok(operands);
-            }
-            return places_outside(&so_far, size, &row);
-        }
-        so_far.place_row(statement, &row)?;
-    }
-    Ok(None)
+    outside_among(&all, &mut so_far, lines, size)
 }
 
 /// What isn't in core of this size in a source without another fault, of the first line that has such a part; nothing
@@ -273,6 +287,5 @@ pub(crate) fn outside_of(
 {
     let read = FaultlessLines::read(alloc, language, source)?;
     let lines = read.lines.lend();
-    let found = outside_in(alloc, read.hashing, &read.chains, &lines, size)?;
-    Ok(found)
+    outside_in(alloc, read.hashing, &read.chains, &lines, size)
 }

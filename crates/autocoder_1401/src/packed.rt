@@ -47,7 +47,6 @@ fn faultless_packed(
 /// # Errors
 ///
 /// As `assemble_in`.
-#[tactic(auto, using(crate::proofs::LanguagesLemmas::agrees_with_plain))]
 pub fn assemble_packed(
     alloc: Global,
     language: Language,
@@ -68,6 +67,5 @@ pub fn assemble_packed(
 {
     let read = FaultlessLines::read(alloc, language, source)?;
     let lines = read.lines.lend();
-    let image = faultless_packed(alloc, read.hashing, &read.chains, &lines, size)?;
-    Ok(image)
+    faultless_packed(alloc, read.hashing, &read.chains, &lines, size)
 }

@@ -27,7 +27,7 @@ use autocoder_symbols::{AsmFault, Chains, Lines, SourceHashing};
 use std::alloc::Global;
 
 /// The image of a source, the rows of its listing that have an address, and its symbols.
-#[derive(Debug, Drop)]
+#[derive(Drop)]
 pub struct AssemblyProgram {
     /// The core image, in few bytes for each of the source's, however many cells its lines place.
     pub image: PackedImage,
@@ -90,7 +90,6 @@ fn faultless_program(
 /// # Errors
 ///
 /// As `assemble_in`.
-#[tactic(auto, using(crate::proofs::LanguagesLemmas::agrees_with_plain))]
 pub fn assemble_program(
     alloc: Global,
     language: Language,
@@ -115,6 +114,5 @@ pub fn assemble_program(
 {
     let read = FaultlessLines::read(alloc, language, source)?;
     let lines = read.lines.lend();
-    let made = faultless_program(alloc, read.hashing, &read.chains, &lines, size)?;
-    Ok(made)
+    faultless_program(alloc, read.hashing, &read.chains, &lines, size)
 }

@@ -29,7 +29,7 @@ use machine_image::Image;
 use std::alloc::Global;
 
 /// The image of a source, with its listing, its symbol table and its cross-reference.
-#[derive(Debug, Drop)]
+#[derive(Drop)]
 pub struct AssemblyTables {
     /// The core image.
     pub image: Image,
@@ -111,7 +111,6 @@ fn faultless_tables(
 /// # Errors
 ///
 /// `Memory` if memory is refused or the source is too long; otherwise the fault that `assemble_in` tells.
-#[tactic(auto, using(crate::proofs::LanguagesLemmas::agrees_with_plain))]
 pub fn assemble_with_tables(
     alloc: Global,
     language: Language,
@@ -136,6 +135,5 @@ pub fn assemble_with_tables(
 {
     let read = FaultlessLines::read(alloc, language, source)?;
     let lines = read.lines.lend();
-    let tables = faultless_tables(alloc, read.hashing, &read.chains, source, &lines, size)?;
-    Ok(tables)
+    faultless_tables(alloc, read.hashing, &read.chains, source, &lines, size)
 }

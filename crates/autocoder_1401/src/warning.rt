@@ -20,7 +20,6 @@ use std::alloc::Global;
 /// # Errors
 ///
 /// `Memory` if memory is refused or the source is too long.
-#[tactic(auto, using(crate::proofs::LanguagesLemmas::agrees_with_plain))]
 pub fn warnings(
     alloc: Global,
     language: Language,

@@ -19,7 +19,7 @@ pub const LOADING_STEPS: u32 = 1_000_000;
 pub type CarriedOut = [bool; CARD_PLACES];
 
 /// Why a deck isn't loaded.
-#[derive(Clone, Copy, Debug, PartialEq, Eq, Error)]
+#[derive(Clone, Copy, Debug, Error)]
 pub enum LoadFault {
     /// The machine stopped with this at this place, and its program hadn't begun; `LIMIT` if it was still loading after
     /// as many instructions as a deck may take.

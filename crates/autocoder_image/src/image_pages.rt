@@ -14,7 +14,7 @@ use std::alloc::{AllocError, Global};
 
 /// Room in which the text of an image is made and written, a page after the other, in version 2. Its lines are put in
 /// their order: the header, the segments, and the end. No memory is asked for.
-#[derive(Debug, Drop)]
+#[derive(Drop)]
 pub(crate) struct ImagePages {
     /// What isn't written yet.
     page: Vec<u8>,

@@ -13,7 +13,7 @@ use core_1401::ADDRESSES;
 use std::alloc::Global;
 
 /// Equal cells, one after the other.
-#[derive(Clone, Copy, Debug)]
+#[derive(Clone, Copy)]
 pub(crate) struct Part {
     /// The cell.
     pub cell: Cell,
@@ -22,7 +22,7 @@ pub(crate) struct Part {
 }
 
 /// Cells from an address on.
-#[derive(Clone, Copy, Debug)]
+#[derive(Clone, Copy)]
 pub(crate) struct Block {
     /// The place of the first.
     pub address: u16,
@@ -33,7 +33,7 @@ pub(crate) struct Block {
 }
 
 /// Cells in the order of placing.
-#[derive(Debug, Drop)]
+#[derive(Drop)]
 pub(crate) struct PackedCells {
     /// The blocks.
     pub blocks: Vec<Block>,

@@ -19,7 +19,7 @@ use std::alloc::Global;
 use std::marker::Model;
 
 /// A core image in few bytes for each line that it is made of, however many cells that places. Contracts see the image.
-#[derive(Debug, Drop)]
+#[derive(Drop)]
 pub struct PackedImage {
     size: u16,
     cells: PackedCells,

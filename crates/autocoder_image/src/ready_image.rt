@@ -14,7 +14,7 @@ use bytes_streams::{Failed, Sink};
 use std::alloc::{AllocError, Global};
 
 /// A packed image whose text is ready to be written: it needs no more memory.
-#[derive(Debug, Drop)]
+#[derive(Drop)]
 pub struct ReadyImage {
     /// The image.
     image: PackedImage,

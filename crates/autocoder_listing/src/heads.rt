@@ -20,7 +20,7 @@ use std::alloc::Global;
 const SHORTEST_STATEMENT: usize = 17;
 
 /// What the line of a statement has besides the line of the source.
-#[derive(Clone, Copy, Debug, PartialEq, Eq)]
+#[derive(Clone, Copy)]
 pub(crate) struct Head {
     /// The row of the statement.
     pub row: Row,
@@ -29,7 +29,7 @@ pub(crate) struct Head {
 }
 
 /// The heads of all statements, but for headings, and the lines of the literals, each with its line feed.
-#[derive(Debug, Drop)]
+#[derive(Drop)]
 pub(crate) struct Heads {
     /// The heads, in the order of the lines.
     pub heads: Vec<Head>,

@@ -23,7 +23,7 @@ use std::alloc::Global;
 use std::marker::Model;
 
 /// A line of a listing. Contracts see the list of its bytes.
-#[derive(Debug, Drop)]
+#[derive(Drop)]
 pub struct ListingLine {
     text: Vec<u8>,
 }
@@ -46,7 +46,7 @@ impl ListingLine {
 }
 
 /// The lines of a listing, in their order. Contracts see the list of them.
-#[derive(Debug, Drop)]
+#[derive(Drop)]
 pub struct Listing {
     /// The lines.
     pub(crate) lines: Vec<ListingLine>,
@@ -70,7 +70,7 @@ impl Listing {
 }
 
 /// A line of the source as it is written.
-#[derive(Clone, Copy, Debug)]
+#[derive(Clone, Copy)]
 pub(crate) struct WrittenLine<'s> {
     /// Its number, counted from 1.
     pub number: u64,

@@ -29,7 +29,7 @@ pub struct Row {
 }
 
 /// The rows of a listing that have an address, in the order of the lines of the source. Contracts see the list of them.
-#[derive(Debug, Drop)]
+#[derive(Drop)]
 pub struct Rows {
     rows: Vec<Row>,
 }

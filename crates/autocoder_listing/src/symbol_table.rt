@@ -25,7 +25,7 @@ const LENGTH_DIGITS: u8 = 5;
 pub(crate) const LINE_DIGITS: u8 = 4;
 
 /// A label that a line declares.
-#[derive(Clone, Copy, Debug, PartialEq, Eq)]
+#[derive(Clone, Copy)]
 pub struct Symbol {
     /// The label.
     pub label: Label,

@@ -14,7 +14,7 @@ use autocoder_symbols::{AsmFault, Lines, SourceHashing};
 use std::alloc::Global;
 
 /// The tables that a listing may end with, as texts.
-#[derive(Debug, Drop)]
+#[derive(Drop)]
 pub struct Tables {
     /// The symbol table: a line for each label.
     pub symbols: Vec<u8>,

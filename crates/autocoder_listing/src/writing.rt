@@ -28,7 +28,7 @@ use std::alloc::Global;
 const MOST_IN_FRONT: usize = 64;
 
 /// The listing of a source, ready to be written: it needs no more memory.
-#[derive(Debug, Drop)]
+#[derive(Drop)]
 pub struct ReadyListing {
     /// What its lines have besides the source.
     heads: Heads,

@@ -13,7 +13,7 @@ const PLUS: u8 = 3;
 const MINUS: u8 = 2;
 
 /// The characters of a constant, at most 50.
-#[derive(Clone, Copy, Debug, PartialEq, Eq, Hash)]
+#[derive(Clone, Copy, PartialEq, Eq, Hash)]
 pub struct Characters {
     /// Their codes, followed by blanks.
     pub codes: [u8; 50],

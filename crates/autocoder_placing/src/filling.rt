@@ -14,7 +14,7 @@ use bcd_1401::Cell;
 use std::alloc::Global;
 
 /// The places to which the cells of a line go: this many from the first on, whether they are in core or not.
-#[derive(Clone, Copy, Debug, PartialEq, Eq)]
+#[derive(Clone, Copy)]
 pub struct FilledPlaces {
     /// The first.
     pub first: u16,

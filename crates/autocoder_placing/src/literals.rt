@@ -6,7 +6,7 @@ use crate::characters::Characters;
 use autocoder_statements::{AddressLiteral, AreaLiteral, Literal};
 
 /// What makes literals one: those with the same key are.
-#[derive(Clone, Copy, Debug, PartialEq, Eq, Hash)]
+#[derive(Clone, Copy, PartialEq, Eq, Hash)]
 pub enum LiteralKey {
     /// The characters of a constant.
     Characters(Characters),

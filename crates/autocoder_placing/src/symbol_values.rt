@@ -16,7 +16,7 @@ use autocoder_statements::{
 use autocoder_symbols::{AsmFault, Link, checked_sum};
 
 /// What a symbol stands for.
-#[derive(Clone, Copy, Debug, PartialEq, Eq)]
+#[derive(Clone, Copy, PartialEq, Eq)]
 pub struct SymbolValue {
     /// Its value.
     pub value: i64,

@@ -14,7 +14,7 @@ use crate::language::Language;
 use crate::numbers::short_number;
 
 /// What an address is counted from.
-#[derive(Clone, Copy, Debug, PartialEq, Eq, Hash)]
+#[derive(Clone, Copy, PartialEq, Eq, Hash)]
 pub enum Base {
     /// A number, of at most five digits.
     Number(u32),
@@ -30,7 +30,7 @@ pub enum Base {
 }
 
 /// An address as the source writes it.
-#[derive(Clone, Copy, Debug, PartialEq, Eq, Hash)]
+#[derive(Clone, Copy, PartialEq, Eq, Hash)]
 pub struct Address {
     /// What it is counted from.
     pub base: Base,

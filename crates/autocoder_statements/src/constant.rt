@@ -18,7 +18,7 @@ pub const TEXT_LENGTH: usize = 50;
 const NUMBER_LENGTH: usize = 20;
 
 /// The text of a constant, of at most 50 graphics.
-#[derive(Clone, Copy, Debug, PartialEq, Eq, Hash)]
+#[derive(Clone, Copy, PartialEq, Eq, Hash)]
 pub struct Text {
     /// The graphics, filled up with blanks.
     pub bytes: [u8; 50],
@@ -47,7 +47,7 @@ impl Text {
 }
 
 /// What a constant holds.
-#[derive(Clone, Copy, Debug, PartialEq, Eq)]
+#[derive(Clone, Copy)]
 pub enum Constant {
     /// These graphics, which stand between two at signs.
     Text(Text),

@@ -39,7 +39,7 @@ use crate::statement::{Body, Chain, Line, SizeField, Statement, SuffixField};
 use crate::symbols::{Registers, SymbolRule};
 
 /// What the lines above say of a line.
-#[derive(Clone, Copy, Debug, PartialEq, Eq)]
+#[derive(Clone, Copy, PartialEq, Eq)]
 pub struct Context {
     /// The suffix of its symbols, a letter or a digit, if they get one.
     pub suffix: Option<u8>,

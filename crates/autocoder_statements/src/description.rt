@@ -19,7 +19,7 @@ use crate::statement::{
 use crate::symbols::SymbolRule;
 
 /// Whether a statement has a label.
-#[derive(Clone, Copy, Debug, PartialEq, Eq)]
+#[derive(Clone, Copy)]
 pub enum LabelRule {
     /// It may have one.
     Optional,
@@ -32,7 +32,7 @@ pub enum LabelRule {
 }
 
 /// A place or a value that a statement has.
-#[derive(Clone, Copy, Debug, PartialEq, Eq)]
+#[derive(Clone, Copy)]
 pub enum Point {
     /// Its first place: the next one, if it takes none.
     First,
@@ -47,7 +47,7 @@ pub enum Point {
 }
 
 /// The operands in which a label may stand, and which labels that may be.
-#[derive(Clone, Copy, Debug, PartialEq, Eq)]
+#[derive(Clone, Copy)]
 pub enum Addressing {
     /// There are none.
     Nothing,
@@ -64,7 +64,7 @@ pub enum Addressing {
 }
 
 /// What becomes of the next place.
-#[derive(Clone, Copy, Debug, PartialEq, Eq)]
+#[derive(Clone, Copy)]
 pub enum Next {
     /// It is the one after the statement's places.
     Beyond,
@@ -79,7 +79,7 @@ pub enum Next {
 }
 
 /// What a statement is to areas (DA).
-#[derive(Clone, Copy, Debug, PartialEq, Eq)]
+#[derive(Clone, Copy)]
 pub enum AreaRole {
     /// Below it there are no fields of areas.
     Ends,
@@ -92,7 +92,7 @@ pub enum AreaRole {
 }
 
 /// What fills a statement's places.
-#[derive(Clone, Copy, Debug, PartialEq, Eq)]
+#[derive(Clone, Copy)]
 pub enum Contents {
     /// It has no places.
     Nothing,
@@ -113,7 +113,7 @@ pub enum Contents {
 }
 
 /// What a statement has to do with the lines around it.
-#[derive(Clone, Copy, Debug, PartialEq, Eq)]
+#[derive(Clone, Copy)]
 pub enum Relation {
     /// Nothing: a chain doesn't go on below it.
     Apart,
@@ -130,7 +130,7 @@ pub enum Relation {
 }
 
 /// What the assembler asks of a statement: a row of the table.
-#[derive(Clone, Copy, Debug, PartialEq, Eq)]
+#[derive(Clone, Copy)]
 pub struct Description {
     /// Whether the operation is known.
     pub is_known: bool,

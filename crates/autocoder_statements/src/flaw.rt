@@ -14,7 +14,7 @@ use crate::nearness::{nearest_mnemonic, word_in};
 use crate::operands::operand_len;
 
 /// Columns of a line next to each other.
-#[derive(Clone, Copy, Debug, PartialEq, Eq)]
+#[derive(Clone, Copy)]
 pub struct Stretch {
     /// The first, counted from 1.
     pub column: u8,
@@ -23,7 +23,7 @@ pub struct Stretch {
 }
 
 /// What is wrong with operands.
-#[derive(Clone, Copy, Debug, PartialEq, Eq)]
+#[derive(Clone, Copy)]
 pub enum OperandFlaw {
     /// Neither an address nor a literal.
     NoAddress,
@@ -63,7 +63,7 @@ pub enum OperandFlaw {
 }
 
 /// What is wrong with columns for an operation that hold none.
-#[derive(Clone, Copy, Debug, PartialEq, Eq)]
+#[derive(Clone, Copy)]
 pub enum OperationFlaw {
     /// They hold one that begins too far right.
     Displaced,
@@ -72,7 +72,7 @@ pub enum OperationFlaw {
 }
 
 /// What is wrong with operands, and in which columns.
-#[derive(Clone, Copy, Debug, PartialEq, Eq)]
+#[derive(Clone, Copy)]
 pub struct Flaw {
     /// The columns.
     pub columns: Stretch,

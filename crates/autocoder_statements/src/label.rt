@@ -14,14 +14,14 @@ use crate::numbers::short_number;
 pub const LABEL_LENGTH: usize = 6;
 
 /// A label: a letter and up to five letters or digits; in the plain language not the name of an index register.
-#[derive(Clone, Copy, Debug, PartialEq, Eq, Hash)]
+#[derive(Clone, Copy, PartialEq, Eq, Hash)]
 pub struct Label {
     /// The letters and digits, filled up with blanks.
     pub text: [u8; 6],
 }
 
 /// What columns 6 to 15 of a line say.
-#[derive(Clone, Copy, Debug, PartialEq, Eq)]
+#[derive(Clone, Copy)]
 pub enum LabelField {
     /// They are blank.
     Absent,

@@ -9,7 +9,7 @@ use crate::wide_columns::{is_constant_operation, plus_signs, put_capitals};
 use crate::wide_constant::has_cut_text;
 
 /// The language of a source.
-#[derive(Clone, Copy, Debug, PartialEq, Eq)]
+#[derive(Clone, Copy)]
 pub enum Language {
     /// The plain language: capitals alone, and one form for each mnemonic.
     Plain,

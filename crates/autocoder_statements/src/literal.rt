@@ -13,7 +13,7 @@ use crate::language::Language;
 use crate::numbers::number_between;
 
 /// The address of a symbol as a literal, in the wider language.
-#[derive(Clone, Copy, Debug, PartialEq, Eq, Hash)]
+#[derive(Clone, Copy, PartialEq, Eq, Hash)]
 pub struct AddressLiteral {
     /// Whether the address has a minus sign in front.
     pub is_negative: bool,
@@ -22,7 +22,7 @@ pub struct AddressLiteral {
 }
 
 /// Blanks as a literal, which declares the symbol of their units place, in the wider language.
-#[derive(Clone, Copy, Debug, PartialEq, Eq, Hash)]
+#[derive(Clone, Copy, PartialEq, Eq, Hash)]
 pub struct AreaLiteral {
     /// The symbol.
     pub label: Label,
@@ -31,7 +31,7 @@ pub struct AreaLiteral {
 }
 
 /// A literal.
-#[derive(Clone, Copy, Debug, PartialEq, Eq)]
+#[derive(Clone, Copy)]
 pub enum Literal {
     /// A constant.
     Constant(Constant),

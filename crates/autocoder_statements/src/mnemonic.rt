@@ -16,7 +16,7 @@ use machine_operations::mnemonics::{
 };
 
 /// Whether an instruction has a d-character, and which.
-#[derive(Clone, Copy, Debug, PartialEq, Eq)]
+#[derive(Clone, Copy)]
 pub enum DCharacter {
     /// It has none.
     Never,
@@ -29,7 +29,7 @@ pub enum DCharacter {
 }
 
 /// The form of an instruction's operands.
-#[derive(Clone, Copy, Debug, PartialEq, Eq)]
+#[derive(Clone, Copy)]
 pub struct Form {
     /// How many addresses the source writes at the least.
     pub least: u8,
@@ -40,7 +40,7 @@ pub struct Form {
 }
 
 /// An instruction of the machine as the source names it.
-#[derive(Clone, Copy, Debug, PartialEq, Eq)]
+#[derive(Clone, Copy)]
 pub struct Instruction {
     /// The graphic of the operation character.
     pub operation: u8,
@@ -49,7 +49,7 @@ pub struct Instruction {
 }
 
 /// What columns 16 to 20 of a line ask for.
-#[derive(Clone, Copy, Debug, PartialEq, Eq)]
+#[derive(Clone, Copy)]
 pub enum Operation {
     /// An instruction.
     Instruction(Instruction),

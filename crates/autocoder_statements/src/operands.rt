@@ -17,14 +17,14 @@ use crate::literal::Literal;
 use crate::mnemonic::{DCharacter, Form};
 
 /// An input-output unit, as it stands in an instruction: a percent sign, a letter and a digit.
-#[derive(Clone, Copy, Debug, PartialEq, Eq)]
+#[derive(Clone, Copy, PartialEq, Eq)]
 pub struct Unit {
     /// The three graphics.
     pub graphics: [u8; 3],
 }
 
 /// An operand that gives an address.
-#[derive(Clone, Copy, Debug, PartialEq, Eq)]
+#[derive(Clone, Copy)]
 pub enum Operand {
     /// An address.
     Address(Address),
@@ -35,7 +35,7 @@ pub enum Operand {
 }
 
 /// The place of an operand in an instruction, and what is there.
-#[derive(Clone, Copy, Debug, PartialEq, Eq)]
+#[derive(Clone, Copy)]
 pub enum OperandField {
     /// Nothing.
     Absent,
@@ -46,7 +46,7 @@ pub enum OperandField {
 }
 
 /// The operands of an instruction.
-#[derive(Clone, Copy, Debug, PartialEq, Eq)]
+#[derive(Clone, Copy)]
 pub struct Operands {
     /// The first address.
     pub a: OperandField,

@@ -21,7 +21,7 @@ use crate::numbers::number_between;
 use crate::operands::{Operands, lone_operand, two_operands};
 
 /// Areas of blanks: DA.
-#[derive(Clone, Copy, Debug, PartialEq, Eq)]
+#[derive(Clone, Copy)]
 pub struct Areas {
     /// How many there are, 1 to 99.
     pub count: u8,
@@ -38,7 +38,7 @@ pub struct Areas {
 }
 
 /// The places of a field in each area.
-#[derive(Clone, Copy, Debug, PartialEq, Eq)]
+#[derive(Clone, Copy)]
 pub struct Span {
     /// The first, counted from 1.
     pub first: u16,
@@ -49,7 +49,7 @@ pub struct Span {
 }
 
 /// DSA, or DCW or DC of an address, in the wider language: a constant of three places.
-#[derive(Clone, Copy, Debug, PartialEq, Eq)]
+#[derive(Clone, Copy)]
 pub struct AddressConstant {
     /// Whether there is a word mark at its high place.
     pub is_marked: bool,
@@ -60,7 +60,7 @@ pub struct AddressConstant {
 }
 
 /// DCW or DC with a place in the columns for a label, in the wider language.
-#[derive(Clone, Copy, Debug, PartialEq, Eq)]
+#[derive(Clone, Copy)]
 pub struct PlacedConstant {
     /// The last of its places, in core or not.
     pub last: u32,
@@ -71,7 +71,7 @@ pub struct PlacedConstant {
 }
 
 /// What CTL says of the machine that a program is for.
-#[derive(Clone, Copy, Debug, PartialEq, Eq)]
+#[derive(Clone, Copy)]
 pub enum SizeField {
     /// Nothing.
     Absent,
@@ -82,7 +82,7 @@ pub enum SizeField {
 }
 
 /// What SFX makes of the symbols below it.
-#[derive(Clone, Copy, Debug, PartialEq, Eq)]
+#[derive(Clone, Copy)]
 pub enum SuffixField {
     /// They have no suffix.
     Absent,
@@ -93,7 +93,7 @@ pub enum SuffixField {
 }
 
 /// CHAIN: an operation, time and again.
-#[derive(Clone, Copy, Debug, PartialEq, Eq)]
+#[derive(Clone, Copy)]
 pub struct Chain {
     /// The graphic of the operation character of the instruction above it, if there is one.
     pub operation: Option<u8>,
@@ -102,7 +102,7 @@ pub struct Chain {
 }
 
 /// What a line asks for; without a value if its operands don't say one.
-#[derive(Clone, Copy, Debug, PartialEq, Eq)]
+#[derive(Clone, Copy)]
 pub enum Body {
     /// An operation that isn't known.
     Unknown,
@@ -161,7 +161,7 @@ pub enum Body {
 }
 
 /// A label, and what a line asks for.
-#[derive(Clone, Copy, Debug, PartialEq, Eq)]
+#[derive(Clone, Copy)]
 pub struct Statement {
     /// What columns 6 to 15 say.
     pub label: LabelField,
@@ -170,7 +170,7 @@ pub struct Statement {
 }
 
 /// Whether a line's bytes can be those of a line.
-#[derive(Clone, Copy, Debug, PartialEq, Eq)]
+#[derive(Clone, Copy)]
 pub enum LineCheck {
     /// They can.
     Good,
@@ -181,7 +181,7 @@ pub enum LineCheck {
 }
 
 /// What a line says by itself.
-#[derive(Clone, Copy, Debug, PartialEq, Eq)]
+#[derive(Clone, Copy)]
 pub struct Line {
     /// Whether its bytes can be those of a line.
     pub bytes: LineCheck,

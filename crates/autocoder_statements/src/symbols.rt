@@ -14,7 +14,7 @@ use crate::operands::{Operand, OperandField, Operands};
 use crate::statement::{Line, Statement};
 
 /// Which of X1 to X3 some line has as its label.
-#[derive(Clone, Copy, Debug, PartialEq, Eq)]
+#[derive(Clone, Copy)]
 pub struct Registers {
     /// Whether X1 is one.
     pub one: bool,
@@ -25,7 +25,7 @@ pub struct Registers {
 }
 
 /// How symbols are read.
-#[derive(Clone, Copy, Debug, PartialEq, Eq)]
+#[derive(Clone, Copy)]
 pub struct SymbolRule {
     /// The sixth character of those that have fewer than six: a letter or a digit, if they get one.
     pub suffix: Option<u8>,

@@ -10,7 +10,7 @@ use crate::mnemonic::{DCharacter, Form};
 use crate::operands::{Operand, OperandField, Operands, Unit, is_ended, split_operand};
 
 /// What the first operand of an instruction is.
-#[derive(Clone, Copy, Debug, PartialEq, Eq)]
+#[derive(Clone, Copy)]
 pub enum FirstOperand {
     /// An address.
     Address,

@@ -11,7 +11,7 @@ use crate::operands::{is_ended, lone_operand, split_operand};
 use crate::statement::{AREA_LENGTH, Areas, Span, areas_of, span_of};
 
 /// The options of DA.
-#[derive(Clone, Copy, Debug, PartialEq, Eq)]
+#[derive(Clone, Copy)]
 pub struct AreaOptions {
     /// G: a group mark follows the last area.
     pub has_group_mark: bool,

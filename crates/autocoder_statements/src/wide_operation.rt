@@ -18,7 +18,7 @@ use crate::operands_at_fault::{address_flaw, flaw_after, lone_flaw, origin_flaw,
 use crate::statement::{AddressConstant, Body, Chain, SizeField, SuffixField};
 
 /// What columns 16 to 20 of a line ask for of the assembler itself, beside what they ask for in the plain language.
-#[derive(Clone, Copy, Debug, PartialEq, Eq)]
+#[derive(Clone, Copy)]
 pub enum WideOperation {
     /// JOB: a heading.
     Heading,

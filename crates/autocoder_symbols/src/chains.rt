@@ -23,7 +23,7 @@ use std::alloc::Global;
 
 /// What the label of an EQU stands for that names a symbol without a value so far: the value of a symbol, with
 /// something added.
-#[derive(Clone, Copy, Debug, PartialEq, Eq)]
+#[derive(Clone, Copy)]
 pub struct Link {
     /// The symbol.
     pub to: Label,

@@ -18,7 +18,7 @@ use autocoder_statements::{Label, Language};
 use std::alloc::Global;
 
 /// From where on the value of a symbol is known.
-#[derive(Clone, Copy, Debug, PartialEq, Eq)]
+#[derive(Clone, Copy)]
 pub enum Known {
     /// From this line on.
     From(u64),

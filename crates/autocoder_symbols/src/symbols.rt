@@ -18,7 +18,7 @@ use indexmap::IndexMap;
 use std::alloc::Global;
 
 /// Where a symbol is declared.
-#[derive(Clone, Copy, Debug, PartialEq, Eq)]
+#[derive(Clone, Copy)]
 pub struct Declaration {
     /// The line's number.
     pub line: u32,

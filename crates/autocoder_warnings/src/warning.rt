@@ -498,7 +498,7 @@ fn warn_of_loss(warnings: &mut Vec<Warning>, loss: Option<Loss>, line: u64) -> R
 }
 
 /// What is known of a line by where it is and by its columns.
-#[derive(Clone, Copy, Debug, PartialEq, Eq)]
+#[derive(Clone, Copy)]
 pub struct LineFacts {
     /// The address at which it begins.
     pub address: u16,

@@ -1,5 +1,6 @@
 //! Why a file can't be read or written.
 
+use std::io::ErrorKind;
 use thiserror::Error;
 
 /// Why a file can't be read.
@@ -48,4 +49,12 @@ pub enum WriteFault {
     /// The memory for a file's name was refused.
     #[error("memory refused")]
     Memory,
+}
+
+/// Why a file isn't written, by what the system says.
+pub(crate) fn write_fault(kind: ErrorKind) -> WriteFault {
+    match kind {
+        ErrorKind::OutOfMemory => WriteFault::Memory,
+        _ => WriteFault::Unwritten,
+    }
 }

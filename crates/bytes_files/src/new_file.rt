@@ -1,6 +1,6 @@
 //! A new file that is written whole or not at all, and takes no other file's place.
 
-use crate::fault::NewFault;
+use crate::fault::{NewFault, WriteFault, write_fault};
 use crate::names::is_there;
 use crate::writing::{PartFile, begin_part, sync_folder};
 use bytes_streams::{ToWriter, put_all};
@@ -52,6 +52,25 @@ fn end_new<R: Files>(rt: &R, part: PartFile<R::File>, is_whole: bool) -> Result<
             Ok(())
         }
         Err(error) => Err(new_fault(error.kind())),
+    }
+}
+
+/// Looks whether `put_new` can be expected to make a file of this name, if nothing has it. A file next to it is made as
+/// `put_new` makes one, and taken away again.
+///
+/// # Errors
+///
+/// `Unwritten` if it can't be made; `Memory` if there is no room for a name.
+pub fn check_new<R: Files + AllocGlobal>(rt: &R, name: &str) -> Result<(), WriteFault> {
+    let Ok(owned) = String::from_str(rt.alloc(), name) else {
+        return Err(WriteFault::Memory);
+    };
+    match begin_part(rt, owned, None) {
+        Ok(part) => {
+            let _ = fs::remove_file(rt, part.beside.as_str());
+            Ok(())
+        }
+        Err(error) => Err(write_fault(error.kind())),
     }
 }
 

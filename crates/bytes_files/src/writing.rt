@@ -1,6 +1,6 @@
 //! A file that is written whole or not at all.
 
-use crate::fault::WriteFault;
+use crate::fault::{WriteFault, write_fault};
 use crate::limited::LimitedFile;
 use crate::names::{end_of_links, remove_own, split_name};
 use bytes_streams::{ToWriter, put_all};
@@ -164,8 +164,7 @@ pub fn begin_whole<'r, R: Files + Print + AllocGlobal>(
     }
     match place_of(rt, name) {
         Ok(place) => Ok(WholeFile { place }),
-        Err(error) if error.kind() == ErrorKind::OutOfMemory => Err(WriteFault::Memory),
-        Err(_) => Err(WriteFault::Unwritten),
+        Err(error) => Err(write_fault(error.kind())),
     }
 }
 
@@ -233,33 +232,42 @@ impl<F: Write, O: Write> Write for CreatedFile<F, O> {
     }
 }
 
-/// Whether a file of this name can be made, where there is none. It is made, and taken away again if the name is still
-/// its own.
-fn can_make<R: Files + AllocGlobal>(rt: &R, name: &str) -> bool {
-    let Ok(end) = end_of_links(rt, name) else {
-        return false;
-    };
-    match File::create_new(rt, end.as_str()) {
-        Ok(file) => {
-            remove_own(rt, end.as_str(), &file);
-            true
+/// Looks whether a file of this name can be made, where there is none. It is made, and taken away again if the name is
+/// still its own.
+fn check_make<R: Files + AllocGlobal>(rt: &R, name: &str) -> io::Result<()> {
+    let end = end_of_links(rt, name)?;
+    let file = File::create_new(rt, end.as_str())?;
+    remove_own(rt, end.as_str(), &file);
+    Ok(())
+}
+
+/// Looks whether a file of this name can be made, or written if it is there.
+fn check_place<R: Files + AllocGlobal>(rt: &R, name: &str) -> io::Result<()> {
+    match fs::metadata(rt, name) {
+        Ok(metadata) if metadata.is_dir() => Err(io::Error::from(ErrorKind::IsADirectory)),
+        Ok(metadata) if !metadata.is_file() => Ok(()),
+        Ok(_) => {
+            OpenOptions::new().write(true).open(rt, name)?;
+            Ok(())
         }
-        Err(_) => false,
+        Err(error) if error.kind() == ErrorKind::NotFound => check_make(rt, name),
+        Err(error) => Err(error),
     }
 }
 
-/// Whether `create` can be expected to make a file of this name. A file that is there stays as it is, and none is left
-/// where there was none. A device or a pipe isn't opened.
-pub fn can_create<R: Files + AllocGlobal>(rt: &R, name: &str) -> bool {
+/// Looks whether `create` can be expected to make a file of this name. A file that is there stays as it is, and none is
+/// left where there was none. A device or a pipe isn't opened.
+///
+/// # Errors
+///
+/// `Unwritten` if it can't be made; `Memory` if there is no room for a name.
+pub fn check_create<R: Files + AllocGlobal>(rt: &R, name: &str) -> Result<(), WriteFault> {
     if name == STANDARD_OUTPUT {
-        return true;
+        return Ok(());
     }
-    match fs::metadata(rt, name) {
-        Ok(metadata) if metadata.is_dir() => false,
-        Ok(metadata) if !metadata.is_file() => true,
-        Ok(_) => OpenOptions::new().write(true).open(rt, name).is_ok(),
-        Err(error) if error.kind() == ErrorKind::NotFound => can_make(rt, name),
-        Err(_) => false,
+    match check_place(rt, name) {
+        Ok(()) => Ok(()),
+        Err(error) => Err(write_fault(error.kind())),
     }
 }
 
@@ -268,7 +276,7 @@ pub fn can_create<R: Files + AllocGlobal>(rt: &R, name: &str) -> bool {
 ///
 /// # Errors
 ///
-/// If it can't be made.
+/// `Unwritten` if it can't be made; `Memory` if there is no room for its name.
 pub fn create<'r, R: Files + Print>(
     rt: &'r R,
     name: &str,
@@ -278,6 +286,6 @@ pub fn create<'r, R: Files + Print>(
     }
     match fs::create(rt, name) {
         Ok(file) => Ok(ToWriter::new(CreatedFile::File(LimitedFile::new(file)))),
-        Err(_) => Err(WriteFault::Unwritten),
+        Err(error) => Err(write_fault(error.kind())),
     }
 }

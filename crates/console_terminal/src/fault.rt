@@ -6,7 +6,7 @@ use console_lines::SessionEnd;
 use thiserror::Error;
 
 /// How a session ended, if neither by QUIT nor by the end of its input.
-#[derive(Clone, Copy, Debug, PartialEq, Eq, Error)]
+#[derive(Clone, Copy, Debug, Error)]
 pub enum SessionFault {
     /// A read failed.
     #[error("session ended: READ")]
@@ -26,7 +26,7 @@ pub enum SessionFault {
 }
 
 /// Why no session was held on a new machine, or how it ended.
-#[derive(Clone, Copy, Debug, PartialEq, Eq, Error)]
+#[derive(Clone, Copy, Debug, Error)]
 pub enum ConsoleFault {
     /// No core storage of the size named is made.
     #[error("size refused")]

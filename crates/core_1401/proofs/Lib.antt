@@ -2,6 +2,7 @@ mod AddressExamples
 pub mod AddressTableLemmas
 pub mod BitLemmas
 pub mod CellsLemmas
+pub mod ClearLemmas
 pub mod CompareLemmas
 pub mod EightCellsLemmas
 mod FieldExamples
@@ -13,3 +14,5 @@ pub mod MarkWordLemmas
 mod PlacesExamples
 pub mod PlacesLemmas
 pub mod PlaceSetLemmas
+pub mod ShortCopyLemmas
+pub mod SizeLemmas

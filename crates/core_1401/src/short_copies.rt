@@ -37,13 +37,26 @@ fn copy_long(chars: &mut [Char], from: usize, to: usize, n: usize)
 {
     if from + n <= to {
         let (low, high) = chars.split_at_mut(to);
-        high[..n].copy_from_slice(&low[from..from + n]);
+        copy_between(low, from, high, 0, n);
     } else if to + n <= from {
         let (low, high) = chars.split_at_mut(to + n);
-        low[to..].copy_from_slice(&high[from - to - n..from - to]);
+        copy_between(high, from - to - n, low, to, n);
     } else {
         copy_many(chars, from, to, n);
     }
+}
+
+/// Copies n characters from a place of one stretch to a place of another.
+#[inline(always)]
+fn copy_between(source: &[Char], from: usize, target: &mut [Char], to: usize, n: usize)
+    requires from_in { from + n ≤ length source.now }
+    requires to_in { to + n ≤ length target.old }
+    ensures count { length target.new ≡ length target.old }
+    ensures copied { (i : ℕ) → i < n → slice_index_or target.new (to + i) 0 ≡ slice_index_or source.now (from + i) 0 }
+    ensures below { (i : ℕ) → i < to → slice_index_or target.new i 0 ≡ slice_index_or target.old i 0 }
+    ensures above { (i : ℕ) → to + n ≤ i → slice_index_or target.new i 0 ≡ slice_index_or target.old i 0 }
+{
+    target[to..to + n].copy_from_slice(&source[from..from + n]);
 }
 
 /// Copies any number of characters.

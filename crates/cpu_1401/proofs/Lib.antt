@@ -8,6 +8,7 @@ pub mod DecodedFittedLemmas
 pub mod DecodedLemmas
 pub mod ExampleCells
 mod FetchedExamples
+pub mod FairLemmas
 pub mod FeatureLemmas
 pub mod FetchedLemmas
 pub mod FittedFrameLemmas

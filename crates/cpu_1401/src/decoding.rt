@@ -1,5 +1,5 @@
 //! An instruction decoded: the checks in their order, and what it says itself.
-ghost use Rattle.std.specs.Prelude.{◌≡◌, ◌≢◌, ◌+◌, ◌<◌, ◌≤◌, length, IfOk, IfErr, true};
+ghost use Rattle.std.specs.Prelude.{◌≡◌, ◌+◌, ◌<◌, ◌≤◌, length, IfOk, IfErr, true};
 ghost use Rattle.core_1401.specs.Storage.{cell_at};
 ghost use Rattle.cpu_1401.specs.Decoded.{IsAddress, Says};
 ghost use Rattle.cpu_1401.specs.Instruction.{begins_at, length_at, longest_at};
@@ -18,8 +18,6 @@ impl Machine {
     pub(crate) fn decode(&self) -> Result<Decoded, Stop>
         ensures ok { IfOk result (λ said. Says self.now.storage self.now.i said) }
         ensures err { IfErr result (λ stop. step self.now ≡ stopped stop self.now) }
-        ensures no_halt { IfErr result (λ stop. stop ≢ Stop.Halt) }
-        ensures no_limit { IfErr result (λ stop. stop ≢ Stop.Limit) }
     {
         if !self.begins() {
             return Err(Stop::NoMark);

@@ -35,8 +35,6 @@ impl Machine {
         requires own { said.now.fitted ≢ Fitted.OnCell }
         ensures stop { result ≡ (fitted_step self.old).stop }
         ensures state { self.new ≡ (fitted_step self.old).state }
-        ensures unchanged { IfSome result (λ why. why ≢ Stop.Halt → self.new ≡ self.old) }
-        ensures limit { result ≢ Some Stop.Limit }
         ensures size { length self.new.storage ≡ length self.old.storage }
     {
         let this = self.fitted_instruction(said);
@@ -190,8 +188,6 @@ impl Machine {
         requires next { this.next < addresses }
         ensures stop { result ≡ (perform_fitted fitted this self.old).stop }
         ensures state { self.new ≡ (perform_fitted fitted this self.old).state }
-        ensures unchanged { IfSome result (λ why. why ≢ Stop.Halt → self.new ≡ self.old) }
-        ensures limit { result ≢ Some Stop.Limit }
         ensures size { length self.new.storage ≡ length self.old.storage }
     {
         match fitted {
@@ -233,7 +229,6 @@ impl Machine {
         ensures stop { result ≡ (perform_fitted Fitted.ModifyAddress this self.old).stop }
         ensures state { self.new ≡ (perform_fitted Fitted.ModifyAddress this self.old).state }
         ensures unchanged { IfSome result (λ why. self.new ≡ self.old) }
-        ensures limit { result ≢ Some Stop.Limit }
         ensures size { length self.new.storage ≡ length self.old.storage }
     {
         let outcome = modify_address(&mut self.core, this.a, this.b);

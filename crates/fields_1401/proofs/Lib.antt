@@ -2,6 +2,7 @@ mod AcrossLemmas
 mod ArithmeticExamples
 mod ArithmeticLemmas
 mod ColumnLemmas
+mod ColumnSizeLemmas
 mod CompareExamples
 pub mod CompareLemmas
 mod EditExamples

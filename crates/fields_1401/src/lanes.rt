@@ -1,5 +1,5 @@
 //! Sixteen characters at once.
-ghost use Rattle.std.specs.Prelude.{◌≡◌, ◌==◌, ◌+◌, ◌-◌, ◌<◌, ◌≤◌, length, map, not};
+ghost use Rattle.std.specs.Prelude.{◌≡◌, ◌==◌, ◌+◌, ◌-◌, ◌<◌, ◌≤◌, length, map, not, slice_index_or};
 ghost use Rattle.std.specs.Simd.Lanes.{Each1, chunk, mask_l, zip2};
 
 use bcd_1401::Char;
@@ -25,23 +25,33 @@ pub(crate) fn codes_up(chars: &[Char], low: usize) -> u8x16
     ensures range { Each1 (λ code. code < 64) result }
 {
     u8x16::from_array([
-        chars[low].code(),
-        chars[low + 1].code(),
-        chars[low + 2].code(),
-        chars[low + 3].code(),
-        chars[low + 4].code(),
-        chars[low + 5].code(),
-        chars[low + 6].code(),
-        chars[low + 7].code(),
-        chars[low + 8].code(),
-        chars[low + 9].code(),
-        chars[low + 10].code(),
-        chars[low + 11].code(),
-        chars[low + 12].code(),
-        chars[low + 13].code(),
-        chars[low + 14].code(),
-        chars[low + 15].code(),
+        code_at(chars, low),
+        code_at(chars, low + 1),
+        code_at(chars, low + 2),
+        code_at(chars, low + 3),
+        code_at(chars, low + 4),
+        code_at(chars, low + 5),
+        code_at(chars, low + 6),
+        code_at(chars, low + 7),
+        code_at(chars, low + 8),
+        code_at(chars, low + 9),
+        code_at(chars, low + 10),
+        code_at(chars, low + 11),
+        code_at(chars, low + 12),
+        code_at(chars, low + 13),
+        code_at(chars, low + 14),
+        code_at(chars, low + 15),
     ])
+}
+
+/// The code of the character at a place.
+#[inline(always)]
+fn code_at(chars: &[Char], at: usize) -> u8
+    requires { at < length chars.now }
+    ensures value { result ≡ slice_index_or chars.now at 0 }
+    ensures range { result < 64 }
+{
+    chars[at].code()
 }
 
 /// The lanes that hold a code, a bit each: the first has the lowest.

@@ -10,7 +10,7 @@ use std::marker::Model;
 
 /// The cards of a deck, first to last. A card takes as many bytes as its line has, and one more. Contracts see the list
 /// of them.
-#[derive(Debug, Drop)]
+#[derive(Drop)]
 pub struct CardList {
     /// How many characters each card's line has.
     pub(crate) lens: Vec<u8>,

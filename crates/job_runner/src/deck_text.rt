@@ -14,7 +14,7 @@ use std::alloc::{AllocError, Global};
 use thiserror::Error;
 
 /// Why a text isn't a deck.
-#[derive(Clone, Copy, Debug, PartialEq, Eq, Error)]
+#[derive(Clone, Copy, Debug, Error)]
 pub enum DeckTextFault {
     /// The memory for the cards was refused.
     #[error("memory refused")]
@@ -36,7 +36,7 @@ pub enum DeckTextFault {
 }
 
 /// A deck that was read from a text.
-#[derive(Debug, Drop)]
+#[derive(Drop)]
 pub struct ReadDeck {
     /// Its cards, first to last.
     pub cards: CardList,

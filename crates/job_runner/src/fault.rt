@@ -3,7 +3,7 @@
 use thiserror::Error;
 
 /// Why a job breaks off.
-#[derive(Clone, Copy, Debug, PartialEq, Eq, Error)]
+#[derive(Clone, Copy, Debug, Error)]
 pub enum JobFault {
     /// A read of the deck failed.
     #[error("a card can't be read")]

@@ -16,7 +16,7 @@ use machine_tapes::{TapedMachine, taped_step_law};
 pub const STRETCH: u32 = MOST_HELD as u32;
 
 /// How a job ended.
-#[derive(Clone, Copy, Debug, PartialEq, Eq)]
+#[derive(Clone, Copy)]
 pub struct JobEnd {
     /// How many instructions were carried out, a halt included.
     pub steps: u32,

@@ -11,7 +11,7 @@ use std::alloc::AllocError;
 const FORMS: u32 = 10_000;
 
 /// The place at which the next line of a text is.
-#[derive(Clone, Copy, Debug, PartialEq, Eq)]
+#[derive(Clone, Copy)]
 pub struct PaperPlace {
     /// The form.
     pub form: u16,

@@ -6,7 +6,7 @@ use fields_1401::FieldStop;
 use std::fmt;
 
 /// One of the two operands of an instruction.
-#[derive(Clone, Copy, Debug, PartialEq, Eq)]
+#[derive(Clone, Copy, Debug)]
 pub enum Operand {
     /// The A operand.
     A,
@@ -24,7 +24,7 @@ pub struct Span {
 }
 
 /// Why an operation on fields can't be carried out.
-#[derive(Clone, Copy, Debug, PartialEq, Eq)]
+#[derive(Clone, Copy, Debug)]
 pub enum FieldReason {
     /// An operand's address isn't in core.
     NotInCore { which: Operand, at: u16 },

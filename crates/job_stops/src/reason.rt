@@ -9,7 +9,7 @@ use devices_1401::MOST_HELD;
 use std::fmt;
 
 /// Why the next step stops the machine.
-#[derive(Clone, Copy, Debug, PartialEq, Eq)]
+#[derive(Clone, Copy, Debug)]
 pub enum Reason {
     /// The instruction is a halt.
     Halt,

@@ -9,7 +9,7 @@ use Rattle.cpu_1401.specs.State.{State}
 use Rattle.machine_panel.specs.Stop.{stop_name}
 use Rattle.devices_1401.specs.Carriage.{form_of as form_at, line_of as line_at}
 use Rattle.devices_1401.specs.Control.{Control, Space, Skip}
-use Rattle.machine_mnemonics.specs.InstructionText.{instruction_text}
+use Rattle.machine_mnemonics.specs.ShownText.{shown_text}
 use Rattle.machine_notation.specs.Cells.{cells_text}
 use Rattle.machine_notation.specs.Digits.{digits_in}
 use Rattle.job_trace.specs.declared.work.TapeMark.{TapeMark}
@@ -40,7 +40,7 @@ padded width text = text ++ replicate (width - length text) 32
 
 -- an instruction by its cells, and as Autocoder writes it
 unfoldable pub instruction_columns : List Cell → List ℕ
-instruction_columns cells = padded 9 (cells_text cells) ++ codes "\t" ++ padded 20 (instruction_text cells)
+instruction_columns cells = padded 9 (cells_text cells) ++ codes "\t" ++ padded 20 (shown_text cells)
 
 -- the instruction: where it is, and what it is
 unfoldable pub fetched_text : Storage → ℕ → List ℕ

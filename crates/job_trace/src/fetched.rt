@@ -1,13 +1,13 @@
 //! The instruction of a step, as it is in core.
 ghost use Rattle.std.specs.Prelude.{◌≡◌, ◌-◌, ◌≤◌, ◌++◌, length, replicate, OnOk};
-ghost use Rattle.machine_mnemonics.specs.InstructionText.{instruction_text};
+ghost use Rattle.machine_mnemonics.specs.ShownText.{shown_text};
 ghost use Rattle.machine_notation.specs.Cells.{cells_text};
 ghost use Rattle.job_trace.specs.TraceLine.{fetched_text, instruction_columns, padded};
 
 use bcd_1401::Cell;
 use core_1401::Core;
 use cpu_1401::instruction_cells;
-use machine_mnemonics::put_instruction;
+use machine_mnemonics::put_shown;
 use machine_notation::{put_cell, put_digits};
 use std::alloc::AllocError;
 
@@ -53,10 +53,10 @@ fn put_cell_columns(text: &mut Vec<u8>, cells: &[Cell]) -> Result<(), AllocError
 /// Adds an instruction as Autocoder writes it, with blanks after it.
 fn put_text_columns(text: &mut Vec<u8>, cells: &[Cell]) -> Result<(), AllocError>
     requires { length cells.now ≤ 8 }
-    ensures { OnOk result (text.new.items ≡ text.old.items ++ padded 20 (instruction_text cells.now)) }
+    ensures { OnOk result (text.new.items ≡ text.old.items ++ padded 20 (shown_text cells.now)) }
 {
     let from = text.len();
-    put_instruction(text, cells)?;
+    put_shown(text, cells)?;
     Ok(put_blanks(text, from, TEXT_COLUMNS)?)
 }
 

@@ -1,7 +1,7 @@
 //! What a step did at the devices and the tape units.
 
 /// A tape unit, and how far its reel is.
-#[derive(Clone, Copy, Debug, PartialEq, Eq)]
+#[derive(Clone, Copy)]
 pub struct TapeMark {
     /// The number of the unit, 1 to 6.
     pub unit: u8,
@@ -10,7 +10,7 @@ pub struct TapeMark {
 }
 
 /// What a step did at the devices and the tape units.
-#[derive(Clone, Copy, Debug, PartialEq, Eq)]
+#[derive(Clone, Copy)]
 pub struct Work {
     /// Whether a line was printed.
     pub printed: bool,

@@ -1,5 +1,5 @@
 -- What the bytes of a text show of the chain that it was made for (own).
-use Rattle.std.specs.Prelude.{ℕ, ◌==◌, Bool, ◌&&◌, not, is_some, if◌then◌else◌, List, codes, Option, None, Some}
+use Rattle.std.specs.Prelude.{ℕ, ◌==◌, Bool, ◌&&◌, not, is_some, if◌then◌else◌, List, codes, Option, None, Some, option_map}
 use Rattle.std.specs.List.{list_any}
 use Rattle.machine_graphics.specs.Graphics.{chain_of}
 use Rattle.machine_graphics.specs.declared.graphics.Graphics.{Graphics}
@@ -34,3 +34,16 @@ abbrev pub suggestion_of : Option Graphics → List ℕ → Option Suggestion
 suggestion_of asked text =
     if not (is_some asked) && has_any (codes "=(+") text then Some suggestions.Doubtful
     else suggestion_on (chain_of asked) text
+
+-- the same of a source alone
+abbrev pub of_source : Suggestion → Suggestion
+of_source suggestions.Simh = suggestions.SourceSimh
+of_source suggestions.Fortran = suggestions.SourceFortran
+of_source suggestions.Doubtful = suggestions.Doubtful
+of_source suggestions.SourceSimh = suggestions.SourceSimh
+of_source suggestions.SourceFortran = suggestions.SourceFortran
+
+-- what is said of a source for which this chain was asked for, or none
+abbrev pub suggestion_for_source : Option Graphics → List ℕ → Option Suggestion
+suggestion_for_source None text = suggestion_on (chain_of None) text
+suggestion_for_source (Some graphics) text = option_map of_source (suggestion_on (chain_of (Some graphics)) text)

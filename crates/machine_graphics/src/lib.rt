@@ -15,5 +15,5 @@ pub mod suggestion;
 pub mod texts;
 
 pub use graphics::Graphics;
-pub use suggestion::{Suggestion, suggest, suggest_foreign};
+pub use suggestion::{Suggestion, suggest, suggest_for_source};
 pub use texts::{in_ours, in_theirs};

@@ -2,7 +2,7 @@
 ghost use Rattle.std.specs.Prelude.{◌≡◌, ◌==◌};
 ghost use Rattle.std.specs.List.{list_any};
 ghost use Rattle.machine_graphics.specs.Suggestion.{foreign_bytes, has_any, is_one_of, shown_on, suggestion_of};
-ghost use Rattle.machine_graphics.specs.Suggestion.{suggestion_on};
+ghost use Rattle.machine_graphics.specs.Suggestion.{of_source, suggestion_for_source, suggestion_on};
 ghost use Rattle.machine_graphics.specs.Graphics.{chain_of};
 
 use crate::graphics::Graphics;
@@ -22,6 +22,13 @@ const SIMH: &str = "some bytes are graphics of another chain: --graphics simh re
 const FORTRAN: &str =
     "some bytes are graphics of another chain: --graphics fortran reads those for formulas";
 
+/// The same of a source, if a chain was asked for: `--graphics` may be right for the decks.
+const SOURCE_SIMH: &str =
+    "some bytes are graphics of another chain: --source-graphics simh reads those of SIMH";
+
+const SOURCE_FORTRAN: &str =
+    "some bytes are graphics of another chain: --source-graphics fortran reads those for formulas";
+
 /// What may be said of a text's graphics.
 #[derive(Clone, Copy, Debug, PartialEq, Eq)]
 pub enum Suggestion {
@@ -31,6 +38,10 @@ pub enum Suggestion {
     Fortran,
     /// No chain was asked for, and some bytes are other characters on a chain for formulas.
     Doubtful,
+    /// A chain was asked for a source, some of whose bytes are graphics of SIMH's chain alone.
+    SourceSimh,
+    /// A chain was asked for a source, some of whose bytes are graphics of a chain for formulas alone.
+    SourceFortran,
 }
 
 /// Whether a byte is one of these.
@@ -71,7 +82,7 @@ impl Graphics {
 }
 
 /// What is said of bytes of a text that are graphics of another chain, and of no character of the chain asked for.
-pub fn suggest_foreign(asked: Option<Graphics>, text: &[u8]) -> Option<Suggestion>
+fn suggest_foreign(asked: Option<Graphics>, text: &[u8]) -> Option<Suggestion>
     ensures { result ≡ suggestion_on (chain_of asked) text.now }
 {
     let graphics = asked.unwrap_or(Graphics::Ours);
@@ -93,12 +104,42 @@ pub fn suggest(asked: Option<Graphics>, text: &[u8]) -> Option<Suggestion>
     }
 }
 
+impl Suggestion {
+    /// The same of a source alone.
+    fn of_source(self) -> Suggestion
+        ensures { result ≡ of_source self }
+    {
+        match self {
+            Suggestion::Simh | Suggestion::SourceSimh => Suggestion::SourceSimh,
+            Suggestion::Fortran | Suggestion::SourceFortran => Suggestion::SourceFortran,
+            Suggestion::Doubtful => Suggestion::Doubtful,
+        }
+    }
+}
+
+/// What is said of the graphics of a source, of its foreign bytes alone. If a chain was asked for, the option is named
+/// that is for the source alone.
+pub fn suggest_for_source(asked: Option<Graphics>, text: &[u8]) -> Option<Suggestion>
+    ensures { result ≡ suggestion_for_source asked text.now }
+{
+    let suggested = suggest_foreign(asked, text);
+    match asked {
+        None => suggested,
+        Some(_) => match suggested {
+            Some(found) => Some(found.of_source()),
+            None => None,
+        },
+    }
+}
+
 impl fmt::Display for Suggestion {
     fn fmt<W: fmt::Write>(&self, f: &mut fmt::Formatter<W>) -> fmt::Result {
         f.write_str(match self {
             Suggestion::Simh => SIMH,
             Suggestion::Fortran => FORTRAN,
             Suggestion::Doubtful => DOUBTFUL,
+            Suggestion::SourceSimh => SOURCE_SIMH,
+            Suggestion::SourceFortran => SOURCE_FORTRAN,
         })
     }
 }

@@ -1,3 +1,4 @@
 pub mod Address
 pub mod InstructionText
 pub mod Mnemonic
+pub mod ShownText

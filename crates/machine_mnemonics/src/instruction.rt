@@ -60,7 +60,7 @@ fn put_address(text: &mut Vec<u8>, h: Char, t: Char, u: Char) -> Result<(), Allo
 
 /// Adds addresses and the characters after them, with commas.
 #[tactic(auto, unfolding(crate::specs::InstructionText::operands_text))]
-fn put_operands(text: &mut Vec<u8>, cells: &[Cell]) -> Result<(), AllocError>
+pub(crate) fn put_operands(text: &mut Vec<u8>, cells: &[Cell]) -> Result<(), AllocError>
     ensures text { OnOk result (text.new.items ≡ text.old.items ++ operands_text cells.now) }
     ensures few { OnOk result (length text.new.items ≤ length text.old.items + 3 * length cells.now) }
     ensures full { OnErr result (vec_capacity text.old < length text.old.items + 3 * length cells.now) }

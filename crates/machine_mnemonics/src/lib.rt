@@ -2,6 +2,7 @@
 //!
 //! ```text
 //! put_instruction(&mut text, &cells)?     // of M510509: MCW  510,509
+//! put_shown(&mut text, &cells)?           // of M%U1500R: MCW  %U1,500,R
 //! put_number(&mut text, 3, 87)?           // 087
 //! ```
 //!
@@ -14,5 +15,9 @@ pub mod mnemonic;
 // addresses in decimal, and the whole instruction
 pub mod instruction;
 
+// the same as a person is shown it
+pub mod shown;
+
 pub use instruction::{put_instruction, put_number};
 pub use mnemonic::Mnemonic;
+pub use shown::put_shown;

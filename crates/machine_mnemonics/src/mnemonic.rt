@@ -54,7 +54,7 @@ fn row_with_d(rows: &[RowWithD], operation: u8, addresses: u8, d: u8) -> Option<
 
 /// The mnemonic of an operation; a character that is none is its own.
 #[tactic(auto, unfolding(crate::specs::Mnemonic::columns_of))]
-fn columns_of(operation: u8) -> [u8; 5]
+pub(crate) fn columns_of(operation: u8) -> [u8; 5]
     ensures { result ≡ columns_of operation }
 {
     match mnemonic_at(operation) {

@@ -3,7 +3,7 @@ ghost use Rattle.std.specs.Prelude.{◌≡◌, ◌≢◌, ◌<◌, [], IfErr, If
 ghost use Rattle.core_1401.specs.Address.{addresses};
 ghost use Rattle.cpu_1401.specs.Run.{carried_out_by};
 ghost use Rattle.machine_tapes.specs.TapeText.{cells_read, has_marks};
-ghost use Rattle.machine_tapes.specs.Transfer.{copied, drive_after, machine_after, read_into, read_next, read_to};
+ghost use Rattle.machine_tapes.specs.Transfer.{copied, drive_after, machine_after, read_next, read_to};
 ghost use Rattle.machine_tapes.specs.Transfer.{stop_after, with_read};
 
 use crate::drive::Drive;
@@ -186,20 +186,9 @@ fn put_cell(machine: &mut Machine, at: u16, mode: TapeMode, cell: Cell)
     ensures value { machine.new ≡ record machine.old { storage = with_read mode machine.old.storage at cell } }
     ensures size { length machine.new.storage ≡ length machine.old.storage }
 {
-    let there = machine.core().get(at);
-    machine.put(at, read_into(mode, there, cell));
-}
-
-/// A cell of a record put where another is.
-fn read_into(mode: TapeMode, there: Cell, cell: Cell) -> Cell
-    ensures { result ≡ read_into mode there cell }
-{
     match mode {
-        TapeMode::Move => Cell {
-            char: cell.char,
-            mark: there.mark,
-        },
-        TapeMode::Load => cell,
+        TapeMode::Move => machine.put_char(at, cell.char),
+        TapeMode::Load => machine.put(at, cell),
     }
 }
 

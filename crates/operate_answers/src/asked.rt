@@ -10,7 +10,7 @@ use operate_program::Comparison;
 use operate_scout::Condition;
 
 /// What must hold where a break is come to, or after a step that uses a device.
-#[derive(Clone, Copy, Debug, PartialEq, Eq)]
+#[derive(Clone, Copy)]
 pub enum Asked {
     /// Nothing.
     Anything,

@@ -10,7 +10,7 @@ use operate_program::Program;
 use std::alloc::{AllocError, Global};
 
 /// How a run ended.
-#[derive(Clone, Copy, Debug, PartialEq, Eq)]
+#[derive(Clone, Copy)]
 pub enum Ended {
     /// The machine stopped.
     Stopped(Stop),

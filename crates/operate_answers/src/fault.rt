@@ -6,7 +6,7 @@ use operate_views::FieldFault;
 use std::alloc::{AllocError, Global};
 
 /// Why nothing can be shown, and why a break or a watch can't be set or taken away.
-#[derive(Clone, Copy, Debug, PartialEq, Eq)]
+#[derive(Clone, Copy)]
 pub enum LookFault {
     /// A place or a range isn't there.
     Place(PlaceFault),

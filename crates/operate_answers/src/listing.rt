@@ -46,7 +46,7 @@ fn put_place(
 }
 
 /// What a listing covers.
-#[derive(Clone, Copy, Debug, PartialEq, Eq)]
+#[derive(Clone, Copy)]
 struct Extract {
     /// The address of the first line.
     first: u16,

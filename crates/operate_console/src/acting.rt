@@ -91,7 +91,7 @@ fn put_carried(
 }
 
 /// Why an act is cut off.
-#[derive(Clone, Copy, Debug, PartialEq, Eq)]
+#[derive(Clone, Copy)]
 pub(crate) enum Cut {
     /// There is a fault, which is in the answer.
     Faulted,

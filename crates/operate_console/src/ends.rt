@@ -5,7 +5,7 @@ use room_alone::Keeper;
 use std::alloc::AllocError;
 
 /// Why no other line is done.
-#[derive(Clone, Copy, Debug, PartialEq, Eq)]
+#[derive(Clone, Copy)]
 pub enum OperateEnd {
     /// The line `quit`.
     Quit,

@@ -8,7 +8,7 @@ use crate::setting::Setting;
 use operate_answers::Ended;
 
 /// How far a run goes, if nothing ends it before.
-#[derive(Clone, Copy, Debug, PartialEq, Eq)]
+#[derive(Clone, Copy)]
 pub struct Reach {
     /// How many instructions are carried out at most, if there is a bound.
     pub most: Option<u32>,
@@ -17,7 +17,7 @@ pub struct Reach {
 }
 
 /// A run as it is asked for.
-#[derive(Clone, Copy, Debug, PartialEq, Eq)]
+#[derive(Clone, Copy)]
 pub(crate) struct Extent {
     /// How far it goes.
     pub(crate) reach: Reach,

@@ -26,7 +26,7 @@ use std::mem::replace;
 pub(crate) type After<K> = (Sitting<K>, Option<OperateEnd>);
 
 /// Why a line goes nowhere.
-#[derive(Clone, Copy, Debug, PartialEq, Eq)]
+#[derive(Clone, Copy)]
 enum NoPast {
     /// The sitting can't go back.
     Past(PastFault),
@@ -110,7 +110,7 @@ fn put_file(text: &mut Vec<u8>, file: &[u8]) -> Result<(), AllocError> {
 }
 
 /// What is gone after a line that went back.
-#[derive(Clone, Copy, Debug, PartialEq, Eq)]
+#[derive(Clone, Copy)]
 struct Gone {
     /// How many commands.
     commands: u64,

@@ -10,8 +10,12 @@ use bytes_streams::Source;
 use operate_past::Interrupter;
 use std::alloc::{AllocError, Global};
 
-/// Whether a line was typed that interrupts a run: it is empty, or Ctrl-C ended it. Any other waits for its turn.
-/// At the end of the input a run is interrupted too. Nothing is read where nobody is at a terminal.
+/// How many lines are read at a time.
+const MOST_LINES: u32 = 1_000;
+
+/// Whether a line was typed that interrupts a run: it is empty, or Ctrl-C ended it. Lines that were typed are read until
+/// there is such a line, and the others wait for their turn. At the end of the input a run is interrupted too. Nothing
+/// is read where nobody is at a terminal.
 ///
 /// # Errors
 ///
@@ -26,15 +30,30 @@ pub(crate) fn is_interrupted<R: Source + Terminal>(
     ensures attended { result ≡ Ok true → manner.now.limit ≡ None }
     ensures good { OnOk result (R.has_failed reader.new ≡ false) }
 {
-    if manner.limit.is_some() || !reader.is_ready() {
-        return Ok(false);
+    for _line in 0..MOST_LINES {
+        if manner.limit.is_some() || !reader.is_ready() {
+            return Ok(false);
+        }
+        if is_interrupted_by_next(alloc, reader, waiting)? {
+            return Ok(true);
+        }
     }
-    match read_line(alloc, reader) {
-        Ok(typed) => match interrupts(typed, waiting) {
-            Ok(is_so) => Ok(is_so),
-            Err(_) => Err(OperateEnd::Memory),
-        },
-        Err(end) => Err(end),
+    Ok(false)
+}
+
+/// Whether the next line interrupts a run.
+fn is_interrupted_by_next<R: Source>(
+    alloc: Global,
+    reader: &mut R,
+    waiting: &mut Waiting,
+) -> Result<bool, OperateEnd>
+    requires { R.has_failed reader.old ≡ false }
+    ensures good { OnOk result (R.has_failed reader.new ≡ false) }
+{
+    let typed = read_line(alloc, reader)?;
+    match interrupts(typed, waiting) {
+        Ok(is_so) => Ok(is_so),
+        Err(_) => Err(OperateEnd::Memory),
     }
 }
 

@@ -1,7 +1,7 @@
 //! How a person is spoken to.
 
 /// How a person is spoken to.
-#[derive(Clone, Copy, Debug, PartialEq, Eq)]
+#[derive(Clone, Copy)]
 pub struct Manner {
     /// Whether there is a prompt before each line is read: at a terminal.
     pub prompts: bool,

@@ -15,7 +15,7 @@ const BOLD: &[u8] = b"\x1b[1m";
 const PLAIN: &[u8] = b"\x1b[0m";
 
 /// In which way a part of an answer is written.
-#[derive(Clone, Copy, Debug, PartialEq, Eq)]
+#[derive(Clone, Copy)]
 pub(crate) enum Paint {
     /// As the line of a stop is.
     Bold,

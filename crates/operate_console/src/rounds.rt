@@ -56,7 +56,7 @@ fn end_of(found: SearchEnd, is_met: bool) -> Option<Ended>
 }
 
 /// How far a run has come.
-#[derive(Clone, Copy, Debug, PartialEq, Eq)]
+#[derive(Clone, Copy)]
 pub enum Progress {
     /// It goes on, after so many instructions.
     On(u64),
@@ -170,7 +170,7 @@ fn machine_ahead(
 }
 
 /// Why a run is cut off.
-#[derive(Clone, Copy, Debug, PartialEq, Eq)]
+#[derive(Clone, Copy)]
 pub(crate) enum RunFault {
     /// The room takes no command.
     Refused(RoomFault),

@@ -53,7 +53,7 @@ fn show_and_listen<D: Desk, R: Source + Terminal, W: Sink>(
 }
 
 /// How a run ended.
-#[derive(Clone, Copy, Debug, PartialEq, Eq)]
+#[derive(Clone, Copy)]
 pub enum Ran {
     /// So, after so many instructions.
     Ended(Ended, u64),

@@ -1,7 +1,7 @@
 //! The lines of a file.
 
 /// The lines of a file that are done one after the other, up to the first fault.
-#[derive(Debug, Drop, PartialEq, Eq)]
+#[derive(Drop)]
 pub struct Script {
     /// The name of the file, as it is typed.
     pub name: Vec<u8>,

@@ -10,7 +10,7 @@ use std::alloc::AllocError;
 use thiserror::Error;
 
 /// Why a line says nothing: its first fault from left to right. Each text is as it is typed.
-#[derive(Clone, Copy, Debug, PartialEq, Eq, Error)]
+#[derive(Clone, Copy, Debug, Error)]
 pub enum OrderFault {
     /// The line has more than 200 bytes.
     #[error("a line has at most 200 bytes")]

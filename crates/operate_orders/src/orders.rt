@@ -12,7 +12,7 @@ use machine_panel::SwitchName;
 pub const MOST_LISTED: usize = 8;
 
 /// What a line says. Only what acts, and what goes back, changes the machine.
-#[derive(Clone, Copy, Debug, PartialEq, Eq)]
+#[derive(Clone, Copy)]
 pub enum Order {
     /// The line is empty, or a remark.
     Nothing,
@@ -29,7 +29,7 @@ pub enum Order {
 }
 
 /// What is shown.
-#[derive(Clone, Copy, Debug, PartialEq, Eq)]
+#[derive(Clone, Copy)]
 pub enum Look {
     /// `examine RANGE`: core as text.
     Examine(Range),
@@ -58,7 +58,7 @@ pub enum Look {
 }
 
 /// What is done.
-#[derive(Clone, Copy, Debug, PartialEq, Eq)]
+#[derive(Clone, Copy)]
 pub enum Act {
     /// `deposit ADDRESS TEXT`, `deposit ADDRESS = STATEMENT`: at an address and above it.
     Deposit {
@@ -104,7 +104,7 @@ pub enum Act {
 }
 
 /// What is deposited.
-#[derive(Clone, Copy, Debug, PartialEq, Eq)]
+#[derive(Clone, Copy)]
 pub enum Deposited {
     /// Cells with their word marks, in capitals.
     Cells(Cells),
@@ -113,7 +113,7 @@ pub enum Deposited {
 }
 
 /// What is taken back.
-#[derive(Clone, Copy, Debug, PartialEq, Eq)]
+#[derive(Clone, Copy)]
 pub enum Past {
     /// `undo [N]`: so many lines that recorded something, 1 if no number says how many.
     Undo(u32),
@@ -126,7 +126,7 @@ pub enum Past {
 }
 
 /// What is noted.
-#[derive(Clone, Copy, Debug, PartialEq, Eq)]
+#[derive(Clone, Copy)]
 pub enum Note {
     /// `break ADDRESS [after N] [if CONDITION]`.
     Break {
@@ -154,7 +154,7 @@ pub enum Note {
 }
 
 /// What is watched.
-#[derive(Clone, Copy, Debug, PartialEq, Eq)]
+#[derive(Clone, Copy)]
 pub enum Watched {
     /// The places of a range; a place alone is the units of a field.
     Places(Range),

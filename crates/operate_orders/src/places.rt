@@ -10,7 +10,7 @@ use crate::parts::{beyond_first, byte_at, is_digit, numeral, split_before};
 use crate::text::Text;
 
 /// An index register, or its name (A24-1403, "Indexing").
-#[derive(Clone, Copy, Debug, PartialEq, Eq)]
+#[derive(Clone, Copy)]
 pub enum IndexRegister {
     /// X1, whose units place is 89.
     X1,
@@ -21,7 +21,7 @@ pub enum IndexRegister {
 }
 
 /// A register that holds an address.
-#[derive(Clone, Copy, Debug, PartialEq, Eq)]
+#[derive(Clone, Copy)]
 pub enum Register {
     /// I, the address of the next instruction.
     I,
@@ -32,7 +32,7 @@ pub enum Register {
 }
 
 /// Where an address begins.
-#[derive(Clone, Copy, Debug, PartialEq, Eq)]
+#[derive(Clone, Copy)]
 pub enum Base {
     /// `400`: a number.
     Number(u32),
@@ -47,7 +47,7 @@ pub enum Base {
 }
 
 /// What is added to an address, or taken from it.
-#[derive(Clone, Copy, Debug, PartialEq, Eq)]
+#[derive(Clone, Copy)]
 pub enum Adjustment {
     /// `+10`.
     Plus(u32),
@@ -58,7 +58,7 @@ pub enum Adjustment {
 }
 
 /// An address, or a field by the address of its units: where it begins, and up to three adjustments.
-#[derive(Clone, Copy, Debug, PartialEq, Eq)]
+#[derive(Clone, Copy)]
 pub struct Place {
     /// Where it begins.
     pub base: Base,

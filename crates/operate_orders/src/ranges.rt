@@ -7,7 +7,7 @@ use crate::parts::{beyond_first, byte_at, numeral, split_before};
 use crate::places::{Base, Place, read_place};
 
 /// The areas of the card reader, the card punch and the printer (A24-1403, "Storage Areas").
-#[derive(Clone, Copy, Debug, PartialEq, Eq)]
+#[derive(Clone, Copy)]
 pub enum Area {
     /// `read`: places 1 to 80.
     Read,
@@ -18,7 +18,7 @@ pub enum Area {
 }
 
 /// A range of places.
-#[derive(Clone, Copy, Debug, PartialEq, Eq)]
+#[derive(Clone, Copy)]
 pub enum Range {
     /// `read`, `punch` or `print`.
     Area(Area),

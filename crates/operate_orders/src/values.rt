@@ -16,7 +16,7 @@ use crate::text::Text;
 use crate::words::Keyword;
 
 /// A value, as it is written.
-#[derive(Clone, Copy, Debug, PartialEq, Eq)]
+#[derive(Clone, Copy)]
 pub enum Value {
     /// `-500`.
     Number {
@@ -30,7 +30,7 @@ pub enum Value {
 }
 
 /// How a field and a value are compared.
-#[derive(Clone, Copy, Debug, PartialEq, Eq)]
+#[derive(Clone, Copy)]
 pub enum Relation {
     /// `=`.
     Equal,
@@ -47,7 +47,7 @@ pub enum Relation {
 }
 
 /// A condition on a field.
-#[derive(Clone, Copy, Debug, PartialEq, Eq)]
+#[derive(Clone, Copy)]
 pub struct Condition {
     /// The field, by the place of its units.
     pub field: Place,

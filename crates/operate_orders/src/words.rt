@@ -6,7 +6,7 @@ ghost use Rattle.operate_orders.specs.Words.{row_of, accepts, keyword_of};
 use crate::text::Text;
 
 /// The words that a line may begin with.
-#[derive(Clone, Copy, Debug, PartialEq, Eq)]
+#[derive(Clone, Copy, Debug)]
 pub enum Keyword {
     /// Core as text.
     Examine,
@@ -87,7 +87,7 @@ pub enum Keyword {
 }
 
 /// A row of the table.
-#[derive(Clone, Copy)]
+#[derive(Clone, Copy, Debug, PartialEq, Eq)]
 pub struct Row {
     /// The word, in capitals.
     pub letters: &'static [u8],

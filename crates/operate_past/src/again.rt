@@ -8,7 +8,7 @@ use std::alloc::Global;
 use thiserror::Error;
 
 /// Why a room can't go back. The room is as it was.
-#[derive(Clone, Copy, Debug, PartialEq, Eq, Error)]
+#[derive(Clone, Copy, Debug, Error)]
 pub enum BackFault {
     /// The memory for another machine or for its journal was refused.
     #[error("there is no memory for the earlier machine")]

@@ -29,7 +29,7 @@ const MINUS_ZONE: u8 = 2;
 /// A condition on a field: it holds if there is such a field, and it compares so with the value. A number is compared
 /// with that of the field, and a field that is no number is in no relation to it. A text is compared with the characters
 /// of the field from the left, in the collating order, the shorter of both with blanks after it.
-#[derive(Clone, Copy, Debug, PartialEq, Eq)]
+#[derive(Clone, Copy)]
 pub struct Comparison {
     /// The field.
     pub field: Field,

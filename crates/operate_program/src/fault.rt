@@ -6,7 +6,7 @@ use std::alloc::AllocError;
 use thiserror::Error;
 
 /// Why a place means no address.
-#[derive(Clone, Copy, Debug, PartialEq, Eq, Error)]
+#[derive(Clone, Copy, Debug, Error)]
 pub enum PlaceFault {
     /// A word is the label of no line.
     #[error("no such label")]
@@ -39,7 +39,7 @@ pub enum PlaceFault {
 }
 
 /// Why an act stands for no commands.
-#[derive(Clone, Copy, Debug, PartialEq, Eq, Error)]
+#[derive(Clone, Copy, Debug, Error)]
 pub enum ActFault {
     /// Memory was refused.
     #[error("out of memory")]

@@ -17,7 +17,7 @@ use std::alloc::{AllocError, Global};
 const INDEX_PLACES: u16 = 3;
 
 /// A field of core storage.
-#[derive(Clone, Copy, Debug, PartialEq, Eq)]
+#[derive(Clone, Copy)]
 pub enum Field {
     /// The one with its units at this address: it goes down to its word mark.
     Marked(u16),

@@ -17,7 +17,7 @@ pub trait Condition {
 }
 
 /// Holds of each machine.
-#[derive(Clone, Copy, Debug, PartialEq, Eq)]
+#[derive(Clone, Copy)]
 pub struct Always;
 
 impl Condition for Always {
@@ -32,7 +32,7 @@ impl Condition for Always {
 
 /// A break before the instruction at an address: it is met by a step to that address, if the condition holds there. If
 /// it counts, it is met by one such step alone. The address at which a search begins doesn't count.
-#[derive(Clone, Copy, Debug, PartialEq, Eq)]
+#[derive(Clone, Copy)]
 pub struct Break<C: Condition> {
     /// The address of the instruction. If it isn't in core, the break is never met.
     pub address: u16,

@@ -8,7 +8,7 @@ use cpu_1401::Machine;
 use devices_1401::Devices;
 
 /// A device that a step may use.
-#[derive(Clone, Copy, Debug, PartialEq, Eq)]
+#[derive(Clone, Copy)]
 pub enum Device {
     /// The reader: a card leaves the hopper.
     Reader,
@@ -20,7 +20,7 @@ pub enum Device {
 
 /// A watch on a device: it is met by a step that reads a card, punches one or prints a line, if the condition holds
 /// after it.
-#[derive(Clone, Copy, Debug, PartialEq, Eq)]
+#[derive(Clone, Copy)]
 pub struct DeviceWatch<C: Condition> {
     /// Which device.
     pub device: Device,

@@ -9,7 +9,7 @@ use devices_1401::{Devices, MOST_HELD};
 /// Is met when an operator has to go to the devices before the next instruction: the paper or the stacker is full, or
 /// the hopper is empty while there are more cards of the deck. The next instruction could see it, a read or a branch on
 /// the last card.
-#[derive(Clone, Copy, Debug, PartialEq, Eq)]
+#[derive(Clone, Copy)]
 pub struct FullDevices {
     /// Whether there are more cards of the deck.
     pub has_more_cards: bool,

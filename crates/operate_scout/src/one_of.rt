@@ -4,7 +4,7 @@ use crate::search::Test;
 use cpu_1401::Machine;
 
 /// Two tests: a step that meets one of them, or both, meets this. Both see each step.
-#[derive(Clone, Copy, Debug, PartialEq, Eq)]
+#[derive(Clone, Copy)]
 pub struct OneOf<A: Test, B: Test> {
     /// One test.
     pub first: A,

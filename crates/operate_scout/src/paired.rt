@@ -33,7 +33,7 @@ impl<K: Keeper + Drop> Model for Paired<K> {
 }
 
 /// How a run ended, and whether the keeper has its entry. If not, nothing of the run may be shown.
-#[derive(Clone, Copy, Debug, PartialEq, Eq)]
+#[derive(Clone, Copy)]
 pub struct RunEnd {
     /// How far the machine went, and why no further.
     pub found: Found,

@@ -33,7 +33,7 @@ pub trait Test {
 }
 
 /// Why a search ends.
-#[derive(Clone, Copy, Debug, PartialEq, Eq)]
+#[derive(Clone, Copy)]
 pub enum SearchEnd {
     /// The machine stopped: a halt was carried out, or an instruction can't be.
     Stop(Stop),
@@ -44,7 +44,7 @@ pub enum SearchEnd {
 }
 
 /// How a search ended.
-#[derive(Clone, Copy, Debug, PartialEq, Eq)]
+#[derive(Clone, Copy)]
 pub struct Found {
     /// How many instructions were carried out, a halt included.
     pub steps: u32,

@@ -11,7 +11,7 @@ use std::marker::Model;
 use thiserror::Error;
 
 /// Why a sitting can't go back. It is as it was.
-#[derive(Clone, Copy, Debug, PartialEq, Eq, Error)]
+#[derive(Clone, Copy, Debug, Error)]
 pub enum PastFault {
     /// The memory for an earlier machine or for its journal was refused.
     #[error("there is no memory for the earlier machine")]
@@ -43,7 +43,7 @@ pub(crate) fn past_fault(fault: BackFault) -> PastFault
 }
 
 /// Where the journal of an earlier room comes from.
-#[derive(Clone, Copy, Debug, PartialEq, Eq)]
+#[derive(Clone, Copy)]
 pub enum Origin {
     /// It is what is left of the sitting's own.
     Own {

@@ -43,7 +43,7 @@ impl<K: Keeper + Drop> Model for Sitting<K> {
 }
 
 /// Whether the keeper has each entry of what was done at the devices. If not, nothing of it may be shown.
-#[derive(Clone, Copy, Debug, PartialEq, Eq)]
+#[derive(Clone, Copy)]
 pub struct Tended {
     /// Whether it has.
     pub kept: bool,

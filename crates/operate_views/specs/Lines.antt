@@ -7,7 +7,7 @@ use Rattle.bcd_1401.specs.declared.cell.Cell.{Cell}
 use Rattle.core_1401.specs.Field.{next_mark_from}
 use Rattle.core_1401.specs.Storage.{Storage, cell_at}
 use Rattle.cpu_1401.specs.Fetched.{instruction_at}
-use Rattle.machine_mnemonics.specs.InstructionText.{instruction_text}
+use Rattle.machine_mnemonics.specs.ShownText.{shown_text}
 use Rattle.machine_notation.specs.Characters.{graphics_of, trimmed}
 use Rattle.machine_notation.specs.Digits.{digits_in}
 use Rattle.operate_views.specs.Ruler.{chars_of}
@@ -43,7 +43,7 @@ source_line mark at cells statement =
 -- the line of a place where an instruction begins that no line of the source made
 unfoldable pub instruction_line : ℕ → ℕ → List Cell → List ℕ
 instruction_line mark at cells =
-    front_text mark at (shown_cells cells) ++ codes "       " ++ without_last_blanks (instruction_text cells)
+    front_text mark at (shown_cells cells) ++ codes "       " ++ without_last_blanks (shown_text cells)
     ++ codes "\n"
 
 -- the line of a place where none begins
@@ -78,7 +78,7 @@ statement_columns statement =
     padded 7 statement.label.now ++ padded 5 statement.operation.now ++ padded 19 statement.operands.now
 
 unfoldable pub instruction_columns : List Cell → List ℕ
-instruction_columns cells = codes "       " ++ padded 24 (instruction_text cells)
+instruction_columns cells = codes "       " ++ padded 24 (shown_text cells)
 
 abbrev pub stepped_columns : Option Statement → List Cell → List ℕ
 stepped_columns None cells = instruction_columns cells

@@ -4,7 +4,7 @@ use std::alloc::AllocError;
 use thiserror::Error;
 
 /// Why no field ends at an address.
-#[derive(Clone, Copy, Debug, PartialEq, Eq, Error)]
+#[derive(Clone, Copy, Debug, Error)]
 pub enum FieldFault {
     /// The address isn't that of a place.
     #[error("place {at} isn't in core, which has {size} places")]
@@ -37,7 +37,7 @@ impl From<AllocError> for FieldFault {
 }
 
 /// Why a value can't be put into a field.
-#[derive(Clone, Copy, Debug, PartialEq, Eq, Error)]
+#[derive(Clone, Copy, Debug, Error)]
 pub enum ValueFault {
     /// The number has more digits than the field has places.
     #[error("the field has {places} places, and the number {digits} digits")]

@@ -1,6 +1,6 @@
 //! The lines of `list` and of `step`.
 ghost use Rattle.std.specs.Prelude.{◌≡◌, ◌-◌, ◌<◌, ◌≤◌, ◌++◌, length, replicate, IfOk, OnOk};
-ghost use Rattle.machine_mnemonics.specs.InstructionText.{instruction_text};
+ghost use Rattle.machine_mnemonics.specs.ShownText.{shown_text};
 ghost use Rattle.operate_views.specs.Lines.{instruction_columns, statement_columns, step_front, step_line};
 ghost use Rattle.operate_views.specs.Lines.{stepped_columns};
 ghost use Rattle.operate_views.specs.Lines.{cells_line, cells_to_mark, listed_line, listed_places, unsourced_line};
@@ -11,7 +11,7 @@ use crate::ruler::chars_of;
 use bcd_1401::Cell;
 use core_1401::Core;
 use cpu_1401::instruction_cells;
-use machine_mnemonics::put_instruction;
+use machine_mnemonics::put_shown;
 use machine_notation::{put_characters, put_digits};
 use std::alloc::{AllocError, Global};
 
@@ -37,7 +37,7 @@ const MOST_SHOWN: u16 = 8;
 const MOST_PASSED: u16 = 64;
 
 /// What a line of a source says, without the blanks around its fields.
-#[derive(Clone, Copy, Debug)]
+#[derive(Clone, Copy)]
 pub struct Statement<'a> {
     /// The number of the line, from 1.
     pub line: u64,
@@ -134,10 +134,10 @@ fn without_last_blanks(text: &[u8]) -> &[u8]
 /// An instruction as Autocoder writes it.
 pub(crate) fn written(alloc: Global, cells: &[Cell]) -> Result<Vec<u8>, AllocError>
     requires { length cells.now ≤ 8 }
-    ensures { IfOk result (λ whole. whole.items ≡ instruction_text cells.now) }
+    ensures { IfOk result (λ whole. whole.items ≡ shown_text cells.now) }
 {
     let mut whole = Vec::new(alloc);
-    put_instruction(&mut whole, cells)?;
+    put_shown(&mut whole, cells)?;
     Ok(whole)
 }
 

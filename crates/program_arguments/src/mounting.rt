@@ -31,7 +31,7 @@ pub(crate) const LOAD_TAPE: Argument = Argument {
 };
 
 /// Why a value names no reel that can be mounted.
-#[derive(Clone, Copy, Debug)]
+#[derive(Clone, Copy)]
 enum MountFault {
     /// It doesn't begin with a unit.
     Unit,
@@ -64,7 +64,7 @@ impl fmt::Display for MountFault {
 }
 
 /// Why the reels can't be mounted that the options name.
-#[derive(Debug, Drop)]
+#[derive(Drop)]
 pub(crate) enum MountRefusal {
     /// Memory was refused.
     Memory,

@@ -13,7 +13,7 @@ use bytes_files::{
     FileFault, WriteFault, begin_whole, end_whole, is_one_file, put_whole, read_whole,
 };
 use bytes_streams::ToWriter;
-use machine_graphics::{Graphics, Suggestion, in_ours, in_theirs, suggest_foreign};
+use machine_graphics::{Graphics, Suggestion, in_ours, in_theirs, suggest_for_source};
 use machine_panel::Features;
 use program_call::{Assembling, Product, Reported, is_refused, size_for};
 use std::alloc::Global;
@@ -326,7 +326,7 @@ pub fn assemble_file<R: Files + Print + Eprint + AllocGlobal>(
     let text = read_source(rt, file)?;
     let suggested = match (source_graphics, told) {
         (None, Reported::First) => None,
-        _ => suggest_foreign(source_graphics, text.as_slice()),
+        _ => suggest_for_source(source_graphics, text.as_slice()),
     };
     let source = in_ours(source_graphics, text);
     let size = size_for(size, language, source.as_slice());

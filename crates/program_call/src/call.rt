@@ -10,7 +10,7 @@ use serving_http::Origin;
 pub const DEFAULT_SIZE: u16 = SIZES[2];
 
 /// What `assemble` writes.
-#[derive(Clone, Copy, Debug, PartialEq, Eq)]
+#[derive(Clone, Copy, PartialEq, Eq)]
 pub enum Product {
     /// The text of the core image.
     Image,
@@ -21,7 +21,7 @@ pub enum Product {
 }
 
 /// Which tables of a source are written, in this order.
-#[derive(Clone, Copy, Debug, PartialEq, Eq)]
+#[derive(Clone, Copy, PartialEq, Eq)]
 pub struct Tables {
     /// Whether the listing comes before them.
     pub listing: bool,
@@ -32,7 +32,7 @@ pub struct Tables {
 }
 
 /// A source that is assembled, and where its image goes.
-#[derive(Debug, Drop, PartialEq, Eq)]
+#[derive(Drop)]
 pub struct Assembling {
     /// The name of the source's file.
     pub file: String,
@@ -57,7 +57,7 @@ pub struct Assembling {
 }
 
 /// How many faults of a source are told.
-#[derive(Clone, Copy, Debug, PartialEq, Eq)]
+#[derive(Clone, Copy)]
 pub enum Reported {
     /// The first.
     First,
@@ -66,7 +66,7 @@ pub enum Reported {
 }
 
 /// How many places the machine has, how many operators share it, and the port at which they come.
-#[derive(Clone, Copy, Debug, PartialEq, Eq)]
+#[derive(Clone, Copy)]
 pub struct PlainService {
     /// How many places core storage has.
     pub size: u16,
@@ -77,7 +77,7 @@ pub struct PlainService {
 }
 
 /// How many operators share a room, and the ports on 127.0.0.1 at which they come: by consoles, by pages, or by both.
-#[derive(Clone, Copy, Debug, PartialEq, Eq)]
+#[derive(Clone, Copy)]
 pub struct Operators {
     /// How many seats there are, from 1 to 8.
     pub seats: u8,
@@ -89,7 +89,7 @@ pub struct Operators {
 }
 
 /// What a machine begins with.
-#[derive(Debug, Drop, PartialEq, Eq)]
+#[derive(Drop)]
 pub enum Opening {
     /// It is at power-on, with this many places of core storage, and is fitted with these features first of all.
     PowerOn(u16, Features),
@@ -100,7 +100,7 @@ pub enum Opening {
 }
 
 /// A session of standard input and output.
-#[derive(Debug, Drop, PartialEq, Eq)]
+#[derive(Drop)]
 pub struct Session {
     /// What the machine begins with.
     pub opening: Opening,
@@ -110,7 +110,7 @@ pub struct Session {
 }
 
 /// A room that operators share, and whose seats are taken again.
-#[derive(Debug, Drop, PartialEq, Eq)]
+#[derive(Drop)]
 pub struct Seating {
     /// What the first room begins with.
     pub opening: Opening,
@@ -130,7 +130,7 @@ pub struct Seating {
 }
 
 /// Which parity the characters of a tape have.
-#[derive(Clone, Copy, Debug, PartialEq, Eq)]
+#[derive(Clone, Copy)]
 pub enum Parity {
     /// Odd: each character is on tape as it is.
     Odd,
@@ -139,7 +139,7 @@ pub enum Parity {
 }
 
 /// What is done with a reel of tape.
-#[derive(Debug, Drop, PartialEq, Eq)]
+#[derive(Drop)]
 pub enum ReelTask {
     /// It is listed on standard output.
     List,
@@ -150,7 +150,7 @@ pub enum ReelTask {
 }
 
 /// A reel of tape that is listed, made a deck, or made of one.
-#[derive(Debug, Drop, PartialEq, Eq)]
+#[derive(Drop)]
 pub struct Reeling {
     /// The name of the file that is read: that of the reel, or of the deck that becomes a reel.
     pub file: String,
@@ -163,7 +163,7 @@ pub struct Reeling {
 }
 
 /// How a program is started.
-#[derive(Clone, Copy, Debug, PartialEq, Eq)]
+#[derive(Clone, Copy)]
 pub enum Start {
     /// The I register is set to the program's entry.
     Entry,
@@ -174,7 +174,7 @@ pub enum Start {
 }
 
 /// Which reel is mounted on a tape unit before a job, and which file it goes to afterwards.
-#[derive(Debug, Drop, PartialEq, Eq)]
+#[derive(Drop)]
 pub enum ReelSource {
     /// That of the file of this name. It has no ring, and the file is never written.
     File(String),
@@ -187,7 +187,7 @@ pub enum ReelSource {
 }
 
 /// A reel that is mounted on a tape unit before a job.
-#[derive(Debug, Drop, PartialEq, Eq)]
+#[derive(Drop)]
 pub struct MountedReel {
     /// The unit, 1 to 6.
     pub unit: u8,
@@ -196,7 +196,7 @@ pub struct MountedReel {
 }
 
 /// A job: a program, its deck, and where paper and punched cards go.
-#[derive(Debug, Drop, PartialEq, Eq)]
+#[derive(Drop)]
 pub struct Job {
     /// The name of the file of the source or the image; or of the deck for which the load key is pressed; or of the reel
     /// that is loaded from tape, which is one of `reels` too.
@@ -236,7 +236,7 @@ pub struct Job {
 }
 
 /// A person's console at a machine.
-#[derive(Debug, Drop, PartialEq, Eq)]
+#[derive(Drop)]
 pub struct Operating {
     /// The name of the file of the program: a source or an image, or the deck for which the load key is pressed. Without
     /// one nothing is loaded. If a journal is taken up it is a source, which is read for its labels.
@@ -270,7 +270,7 @@ pub struct Operating {
 }
 
 /// A journal that is shown, or looked over.
-#[derive(Debug, Drop, PartialEq, Eq)]
+#[derive(Drop)]
 pub struct Showing {
     /// The name of the journal's file.
     pub file: String,
@@ -283,7 +283,7 @@ pub struct Showing {
 }
 
 /// A new journal that is kept.
-#[derive(Debug, Drop, PartialEq, Eq)]
+#[derive(Drop)]
 pub struct NewJournal {
     /// The name of its file.
     pub file: String,
@@ -293,7 +293,7 @@ pub struct NewJournal {
 
 /// A journal that is taken up. If all of its commands are carried out again, and no new journal is kept, the file goes
 /// on.
-#[derive(Debug, Drop, PartialEq, Eq)]
+#[derive(Drop)]
 pub struct Resuming {
     /// The name of the journal's file.
     pub file: String,
@@ -306,7 +306,7 @@ pub struct Resuming {
 }
 
 /// What the command line asks for.
-#[derive(Debug, Drop, PartialEq, Eq)]
+#[derive(Drop)]
 pub enum Call {
     /// A session of standard input and output.
     Console(Session),

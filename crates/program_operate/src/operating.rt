@@ -19,8 +19,8 @@ use program_run::RunFault;
 use program_sessions::{HoldFault, durability_of, tell_cut};
 use room_alone::{Keeper, KeptRoom, NoKeeper};
 use room_files::{
-    Durability, JournalFile, KeepFault, MadeJournal, TakenUp, create_journal, keep_room,
-    take_up_journal, take_up_room,
+    Durability, JournalFile, KeepFault, MadeJournal, TakenUp, create_journal, find_journal,
+    keep_room, take_up_room,
 };
 use std::alloc::Global;
 use std::fs::File;
@@ -29,7 +29,7 @@ use std::marker::Brand;
 use std::rt::Files;
 
 /// What standard input and output are.
-#[derive(Clone, Copy, Debug, PartialEq, Eq)]
+#[derive(Clone, Copy)]
 pub struct Ends {
     /// Whether a person types at standard input.
     pub is_typed: bool,
@@ -238,17 +238,22 @@ fn go_on<R: Files<File = File> + Print + Eprint + AllocGlobal, I: Source + Termi
     let Ok(label) = file.clone() else {
         return Err(OperateFault::Run(RunFault::Memory));
     };
+    let found = match find_journal(rt, file, Durability::System) {
+        Ok(found) => found,
+        Err(fault) => return Err(OperateFault::Hold(HoldFault::Kept(fault))),
+    };
+    // If the source is refused, the file is as it was.
+    let around = around_again(rt, found.room(), label.as_str(), source, reading)?;
     let TakenUp {
         room,
         file,
         cut,
         ..
-    } = match take_up_journal(rt, file, Durability::System) {
+    } = match found.take_up() {
         Ok(taken) => taken,
         Err(fault) => return Err(OperateFault::Hold(HoldFault::Kept(fault))),
     };
     tell_cut(rt, cut);
-    let around = around_again(rt, &room, label.as_str(), source, reading)?;
     // What the file had before is unknown, and so is what it has.
     let kept = take_up_room::<Brand, JournalFile>(rt.alloc(), room, file);
     let mut desk = FileDesk::new(rt, console.graphics, label.as_str());

@@ -1,6 +1,6 @@
 -- What a run of files reports, by what it began with.
 use Rattle.std.proofs.Common.{◌≡◌, ℕ, ◌+◌, ◌<◌, ◌≤◌, Bool, false, List, length, drop, get_or, Option, option_map, ap}
-use Rattle.std.proofs.Common.{OnOk, IfErr, Result, Ok, Err, refl, string_bytes, subst, unwrap_or, inl, inr}
+use Rattle.std.proofs.Common.{OnOk, IfErr, Result, Ok, Err, refl, string_bytes, subst, sym, unwrap_or, inl, inr}
 use Rattle.std.proofs.lemmas.List.{drop_all, drop_more}
 use Rattle.std.specs.Prelude.{⊤}
 use Rattle.program_call.specs.declared.call.Job.{Job}
@@ -20,7 +20,7 @@ use Rattle.program_run.specs.RunFile.{InputNames, IsFaultOf, IsUnread, IsUnready
 use Rattle.program_run.specs.RunFile.{written_of}
 use Rattle.program_run.specs.RunJob.{HasHalted, IsBegun, IsReportOf, ReportsJob, ReportsStop, begun_with, report_on}
 use Rattle.program_run.specs.RunJob.{turned}
-use Rattle.program_run.specs.RunReels.{AreMounted}
+use Rattle.program_run.specs.RunReels.{AreMounted, IsNotPut, IsWrittenReel}
 use Rattle.machine_panel.specs.declared.features.Features.{Features}
 use Rattle.program_run.specs.RunJob.{IsLoadedText, set_up}
 use Rattle.program_run.specs.declared.fault.RunFault.{RunFault}
@@ -82,6 +82,14 @@ pub is_loaded_text : (size : Option ℕ) (features : Features) (switches : List 
 is_loaded_text size features switches cards machine loaded text same is text_is =
     let there = subst (λ (s : State). IsLoadedDeck (loaded_deck 1000000 (with_deck cards s)) loaded) same is in
     (loaded.image, (loaded, refl, there), text_is)
+
+-- a new reel whose file can't be made is one of the files that a run writes
+pub unmade_unwritten : (names : WrittenNames) (file : List ℕ) (why : RunFault) → IsWrittenReel names.reels file
+    → IsNotPut file why → IsUnwritten names why
+unmade_unwritten names file why there (inl e) = subst (λ (each : RunFault). IsUnwritten names each) (sym e) tt
+unmade_unwritten names file why there (inr is) =
+    let written = subst (λ (name : List ℕ). IsWrittenReel names.reels name) (sym is.2) there in
+    subst (λ (each : RunFault). IsUnwritten names each) (sym is.1) (inr (inr (inr (inr written))))
 
 -- nor is a file that can't be made, or an image that isn't stored
 pub unwritten_unready : (how : Start) (names : WrittenNames) (why : RunFault) → IsUnwritten names why

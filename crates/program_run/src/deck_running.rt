@@ -30,7 +30,7 @@ use std::alloc::Global;
 use thiserror::Error;
 
 /// Why a run broke off.
-#[derive(Clone, Copy, Debug, PartialEq, Eq, Error)]
+#[derive(Clone, Copy, Debug, Error)]
 pub enum Broken {
     /// Memory was refused.
     #[error("memory refused")]

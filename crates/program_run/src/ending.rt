@@ -33,7 +33,7 @@ pub struct Ending {
 }
 
 /// How far a reel is. Tape marks are counted as records.
-#[derive(Clone, Copy, Debug, PartialEq, Eq)]
+#[derive(Clone, Copy, Debug)]
 pub struct ReelPlace {
     /// How many records the head has passed.
     pub passed: usize,

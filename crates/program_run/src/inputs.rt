@@ -19,7 +19,7 @@ use bytes_files::{FileFault, read_whole, read_whole_reel};
 use core_1401::CoreFault;
 use cpu_1401::Machine;
 use job_runner::{CardList, DeckTextFault, ReadDeck, read_deck};
-use machine_graphics::{Graphics, Suggestion, in_ours, suggest, suggest_foreign};
+use machine_graphics::{Graphics, Suggestion, in_ours, suggest, suggest_for_source};
 use program_call::{DEFAULT_SIZE, Start, is_refused};
 use std::alloc::Global;
 use std::rt::Files;
@@ -260,7 +260,7 @@ pub fn read_program_text(
     ensures { IfErr result (IsUnreadFile (string_bytes file)) }
 {
     let read = read_file(rt, file)?;
-    let suggested = suggest_foreign(asked, read.as_slice());
+    let suggested = suggest_for_source(asked, read.as_slice());
     Ok((program_text(asked, read), suggested))
 }
 

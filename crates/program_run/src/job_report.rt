@@ -4,7 +4,7 @@ use cpu_1401::Stop;
 use std::fmt;
 
 /// How a job ended, and what it read and wrote.
-#[derive(Clone, Copy, Debug, PartialEq, Eq)]
+#[derive(Clone, Copy, Debug)]
 pub struct JobReport {
     /// Why the machine stopped.
     pub stop: Stop,

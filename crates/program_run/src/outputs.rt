@@ -1,16 +1,16 @@
 //! The files that a run writes: its paper, its punched cards, and its trace.
-ghost use Rattle.std.specs.Prelude.{Some, IfErr, option_map, string_bytes};
+ghost use Rattle.std.specs.Prelude.{Some, IfErr, IfSome, option_map, string_bytes};
 ghost use Rattle.program_run.specs.RunFile.{IsUnwritten, IsUnwrittenFile, written_names};
-ghost use Rattle.program_run.specs.RunReels.{IsNotPut};
+ghost use Rattle.program_run.specs.RunReels.{IsNotPut, IsWrittenReel, IsWrittenTo};
 
 use crate::deck_running::Broken;
 use crate::fault::RunFault;
 use crate::punch_file::PunchFile;
 use crate::tracing::Trace;
-use bytes_files::{CreatedFile, WriteFault, can_create, create};
+use bytes_files::{CreatedFile, WriteFault, check_create, check_new, create};
 use bytes_streams::ToWriter;
 use machine_graphics::Graphics;
-use program_call::MountedReel;
+use program_call::{MountedReel, ReelSource};
 use std::alloc::Global;
 use std::io::Printer;
 use std::rt::Files;
@@ -66,6 +66,17 @@ pub(crate) fn unwritten_file(alloc: Global, name: &str) -> RunFault
     match String::from_str(alloc, name) {
         Ok(name) => RunFault::Unwritten(name),
         Err(_) => RunFault::Memory,
+    }
+}
+
+/// The fault of a file of this name that can't be made.
+fn file_fault(alloc: Global, name: &str, fault: WriteFault) -> RunFault
+    ensures file { IsUnwrittenFile (Some name.now) result }
+    ensures named { IsNotPut name.now result }
+{
+    match fault {
+        WriteFault::Memory => RunFault::Memory,
+        WriteFault::Unwritten => unwritten_file(alloc, name),
     }
 }
 
@@ -126,13 +137,67 @@ fn check_if_named<R: Files + AllocGlobal>(rt: &R, name: &Option<String>) -> Resu
     ensures { IfErr result (IsUnwrittenFile (option_map string_bytes name.now)) }
 {
     match name {
-        Some(name) => {
-            if can_create(rt, name.as_str()) {
-                Ok(())
-            } else {
-                Err(unwritten_file(rt.alloc(), name.as_str()))
-            }
+        Some(name) => match check_create(rt, name.as_str()) {
+            Ok(()) => Ok(()),
+            Err(fault) => Err(file_fault(rt.alloc(), name.as_str(), fault)),
+        },
+        None => Ok(()),
+    }
+}
+
+/// A file of a new reel that can't be made.
+struct Unmade<'a> {
+    name: &'a str,
+    why: WriteFault,
+}
+
+/// The file of a new reel, if it can't be made.
+fn unmade_file<'a, R: Files + AllocGlobal>(rt: &R, reel: &'a ReelSource) -> Option<Unmade<'a>>
+    ensures { IfSome result (λ unmade. IsWrittenTo reel.now unmade.name.now) }
+{
+    match reel {
+        ReelSource::New(name) => match check_new(rt, name.as_str()) {
+            Ok(()) => None,
+            Err(why) => Some(Unmade {
+                name: name.as_str(),
+                why,
+            }),
+        },
+        ReelSource::File(_) | ReelSource::Ringed(_) | ReelSource::Scratch => None,
+    }
+}
+
+/// The first file of a new reel that can't be made, if there is one.
+fn unmade_reel<'a, R: Files + AllocGlobal>(rt: &R, names: &'a OutputNames) -> Option<Unmade<'a>>
+    ensures { IfSome result (λ unmade. IsWrittenReel names.now.reels.items unmade.name.now) }
+{
+    let mut rest = names.reels.as_slice();
+    while let [first, beyond @ ..] = rest {
+        match unmade_file(rt, &first.reel) {
+            Some(unmade) => return Some(unmade),
+            None => {}
         }
+        rest = beyond;
+    }
+    None
+}
+
+/// Looks at the file of each new reel, which is made when the job has ended: whether it can be made. None is left.
+///
+/// # Errors
+///
+/// `Unwritten` if one can't be made, or `Memory`.
+#[tactic(auto, using(crate::proofs::RunJobLemmas::unmade_unwritten))]
+pub(crate) fn check_new_reels<R: Files + AllocGlobal>(
+    rt: &R,
+    names: &OutputNames,
+) -> Result<(), RunFault>
+    ensures { IfErr result (IsUnwritten (written_names (option_map string_bytes names.now.paper)
+        (option_map string_bytes names.now.punch) (option_map string_bytes names.now.trace)
+        (option_map string_bytes names.now.image) names.now.reels.items)) }
+{
+    match unmade_reel(rt, names) {
+        Some(Unmade { name, why }) => Err(file_fault(rt.alloc(), name, why)),
         None => Ok(()),
     }
 }
@@ -197,7 +262,6 @@ fn create_named<'r, R: Files + Print + AllocGlobal>(
 {
     match create(rt, name) {
         Ok(file) => Ok(file),
-        Err(WriteFault::Memory) => Err(RunFault::Memory),
-        Err(WriteFault::Unwritten) => Err(unwritten_file(rt.alloc(), name)),
+        Err(fault) => Err(file_fault(rt.alloc(), name, fault)),
     }
 }

@@ -17,7 +17,9 @@ use crate::inputs::{InputGraphics, Inputs, read_inputs};
 use crate::job_report::JobReport;
 use crate::loaded_image::store_image;
 use crate::one_file::{Clash, check_names};
-use crate::outputs::{NamedOutputs, OutputNames, Outputs, check_outputs, create_outputs};
+use crate::outputs::{
+    NamedOutputs, OutputNames, Outputs, check_new_reels, check_outputs, create_outputs,
+};
 use crate::reel_files::{NamedFiles, ReelFiles};
 use crate::reels::{read_reels, write_reels};
 use crate::watching::{AboveLine, Shown, Unwatched};
@@ -33,7 +35,7 @@ use std::io;
 use std::rt::{Clock, Files};
 
 /// What standard error is.
-#[derive(Clone, Copy, Debug, PartialEq, Eq)]
+#[derive(Clone, Copy)]
 pub enum ErrorOutput {
     /// A terminal, on which it is shown how far a run is.
     Terminal,
@@ -193,7 +195,8 @@ pub fn run_file<R: Files + Print + Eprint + Clock + AllocGlobal>(
     run_job(rt, error_output, job, &mut NamedFiles::new(rt))
 }
 
-/// Looks at the files that are to be written, and writes the image of what the deck loads, if it is asked for.
+/// Looks at the files that are to be written, and those of new reels, and writes the image of what the deck loads, if it
+/// is asked for.
 ///
 /// # Errors
 ///
@@ -215,6 +218,10 @@ fn make_ready<R: Files + Print + AllocGlobal>(
         (option_map string_bytes names.now.image) names.now.reels.items)) }
 {
     match check_outputs(rt, names) {
+        Ok(()) => {}
+        Err(fault) => return Err(fault),
+    }
+    match check_new_reels(rt, names) {
         Ok(()) => {}
         Err(fault) => return Err(fault),
     }

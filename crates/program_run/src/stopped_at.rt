@@ -9,10 +9,8 @@ use bcd_1401::Cell;
 use core_1401::Core;
 use cpu_1401::Machine;
 use job_stops::instruction_len;
-use machine_mnemonics::put_instruction;
+use machine_mnemonics::put_shown;
 use machine_notation::put_named_digits;
-use machine_operations::{fitted_in, tape_unit_named};
-use machine_panel::Features;
 use std::alloc::{AllocError, Global};
 
 /// A source that was assembled.
@@ -63,7 +61,7 @@ pub fn instruction_text(
             return Ok(Some(text));
         }
     }
-    put_disassembled(alloc, &mut text, machine.features(), cells.as_slice())?;
+    put_disassembled(alloc, &mut text, cells.as_slice())?;
     Ok(Some(text))
 }
 
@@ -158,45 +156,14 @@ fn put_line(text: &mut Vec<u8>, number: u64, line: &[u8]) -> Result<(), AllocErr
     put_field(text, &operands[..operands_len(operands)])
 }
 
-/// The tape unit that an instruction of these cells names, if it is for one on a machine with these features.
-fn unit_named(features: Features, cells: &[Cell]) -> Option<[u8; 3]> {
-    let [operation, first, second, third, ..] = cells else {
-        return None;
-    };
-    let unit = [
-        first.char.graphic(),
-        second.char.graphic(),
-        third.char.graphic(),
-    ];
-    let len = cells.len().min(8) as u32;
-    match fitted_in(features, operation.char.graphic(), len) {
-        Some(fitted) if fitted.is_for_tape() => {
-            tape_unit_named(unit[0], unit[1], unit[2]).and(Some(unit))
-        }
-        Some(_) | None => None,
-    }
-}
-
-/// Adds an instruction as Autocoder writes it, with one blank between its mnemonic and its operands. On a machine with
-/// these features it may name a tape unit where another has an address.
-fn put_disassembled(
-    alloc: Global,
-    text: &mut Vec<u8>,
-    features: Features,
-    cells: &[Cell],
-) -> Result<(), AllocError> {
+/// Adds an instruction as a person is shown it, with one blank between its mnemonic and its operands.
+fn put_disassembled(alloc: Global, text: &mut Vec<u8>, cells: &[Cell]) -> Result<(), AllocError> {
     if cells.len() > 8 {
         return Ok(());
     }
     let mut whole = Vec::new(alloc);
-    put_instruction(&mut whole, cells)?;
+    put_shown(&mut whole, cells)?;
     let count = whole.iter().take_while(|byte| **byte != b' ').count();
     text.extend_from_slice(&whole[..count])?;
-    let operands = &whole[count..];
-    let Some(unit) = unit_named(features, cells) else {
-        return put_field(text, operands);
-    };
-    put_field(text, unit.as_slice())?;
-    let first = operands.iter().take_while(|byte| **byte != b',').count();
-    text.extend_from_slice(&operands[first..])
+    put_field(text, &whole[count..])
 }

@@ -9,7 +9,7 @@ use std::rt::Clock;
 use std::time::{Duration, Instant};
 
 /// How far a run is.
-#[derive(Clone, Copy, Debug, PartialEq, Eq)]
+#[derive(Clone, Copy)]
 pub struct HowFar {
     /// How many instructions were carried out.
     pub steps: u32,

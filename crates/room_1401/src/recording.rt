@@ -109,8 +109,6 @@ impl<J: RoomId, R: Wait + Drop, K: Keeper + Drop> Recorder<J, R, K> {
         // A refusal changes nothing.
         ensures good { OnOk result (self.old.failed ≡ false) }
         ensures failed { (result ≡ Err RoomFault.Unkept) ↔ (self.old.failed ≡ true) }
-        ensures full { self.old.failed ≡ false
-            → ((result ≡ Err RoomFault.JournalFull) ↔ (is_full self.old.room.journal ≡ true)) }
         ensures fault { IfErr result (λ fault. self.old.failed ≡ false → fault ≡ refusal_of self.old.room.journal) }
         ensures err { OnErr result ((self.new.room.journal ≡ self.old.room.journal)
             × (self.new.failed ≡ self.old.failed) × (self.new.kept ≡ self.old.kept)) }
@@ -170,7 +168,6 @@ fn reserve<J: RoomId>(
     ensures spare { OnOk result (0 < room.new.spare) }
     ensures not_full { OnOk result (is_full room.old.journal ≡ false) }
     ensures room { (room.new.journal ≡ room.old.journal) × (room.new.size ≡ room.old.size) }
-    ensures full { (result ≡ Err RoomFault.JournalFull) ↔ (is_full room.old.journal ≡ true) }
     ensures fault { IfErr result (λ fault. fault ≡ refusal_of room.old.journal) }
 {
     room.reserve()?;

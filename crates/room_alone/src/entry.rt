@@ -4,7 +4,7 @@ ghost use Rattle.std.specs.Prelude.{◌≡◌};
 use machine_execution::{Answer, Command};
 
 /// A command with the seat that gave it.
-#[derive(Clone, Copy, Debug, PartialEq, Eq)]
+#[derive(Clone, Copy)]
 pub struct SeatedCommand {
     /// The seat, numbered from 1; 0 is the console of a machine that isn't shared.
     pub seat: u8,

@@ -50,7 +50,7 @@ pub struct Carried {
 }
 
 /// Keeps nothing.
-#[derive(Clone, Copy, Debug)]
+#[derive(Clone, Copy)]
 pub struct NoKeeper;
 
 impl Keeper for NoKeeper {

@@ -5,7 +5,7 @@ use room_journal::{JournalFault, Wrong};
 use thiserror::Error;
 
 /// Why the file of a journal can't be had.
-#[derive(Clone, Copy, Debug, PartialEq, Eq, Error)]
+#[derive(Clone, Copy, Debug, Error)]
 pub enum JournalFileFault {
     /// There is a file of this name already, which a new journal would overwrite.
     #[error("already exists")]
@@ -40,7 +40,7 @@ pub enum JournalFileFault {
 }
 
 /// Why the text of a journal so far isn't written.
-#[derive(Clone, Copy, Debug, PartialEq, Eq, Error)]
+#[derive(Clone, Copy, Debug, Error)]
 pub enum TextFault {
     /// Memory was refused for the text.
     #[error("memory refused")]

@@ -192,6 +192,11 @@ impl FoundJournal {
         self.room.journal()
     }
 
+    /// The room that the journal explains.
+    pub fn room(&self) -> &Room {
+        &self.room
+    }
+
     /// Takes the journal up: an unfinished last line is cut off.
     ///
     /// # Errors

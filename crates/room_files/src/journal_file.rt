@@ -11,7 +11,7 @@ use std::io::{Seek, SeekFrom};
 use std::os::unix::fs::MetadataExt;
 
 /// What a line of a journal outlasts, once it counts as written.
-#[derive(Clone, Copy, Debug, PartialEq, Eq)]
+#[derive(Clone, Copy)]
 pub enum Durability {
     /// It outlasts the program: the system has it.
     System,

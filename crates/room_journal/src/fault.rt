@@ -3,7 +3,7 @@
 use thiserror::Error;
 
 /// What is wrong with a line of a text that is no journal's, by number.
-#[derive(Clone, Copy, Debug, PartialEq, Eq, Error)]
+#[derive(Clone, Copy, Debug, Error)]
 pub enum Wrong {
     /// 1: memory was refused. The line may be right, and those before it are.
     #[error("1 MEMORY")]
@@ -32,7 +32,7 @@ pub enum Wrong {
 }
 
 /// Why a text is no journal's: its first line that isn't one of a journal, and what is wrong with it.
-#[derive(Clone, Copy, Debug, PartialEq, Eq, Error)]
+#[derive(Clone, Copy, Debug, Error)]
 #[error("line {line}: {why}")]
 pub struct JournalFault {
     /// The line's number; the first line has 1, and entry N is line N + 1.

@@ -13,7 +13,7 @@ use std::alloc::{AllocError, Global};
 const COMMAND_COLUMNS: usize = 27;
 
 /// Which entries of a journal are listed.
-#[derive(Clone, Copy, Debug, PartialEq, Eq)]
+#[derive(Clone, Copy)]
 pub struct View {
     /// The seat whose entries are listed; without one those of each seat.
     pub seat: Option<u8>,

@@ -16,7 +16,7 @@ const MOST_NAME_BYTES: usize = 253;
 const MOST_LABEL_BYTES: usize = 63;
 
 /// By what a browser reaches a page.
-#[derive(Clone, Copy, Debug, PartialEq, Eq)]
+#[derive(Clone, Copy)]
 pub enum Scheme {
     /// Without TLS: `http:`
     Http,
@@ -25,7 +25,7 @@ pub enum Scheme {
 }
 
 /// Where a browser finds a page, as `https://1401.museum.example:8443`.
-#[derive(Debug, Drop, PartialEq, Eq)]
+#[derive(Drop)]
 pub struct Origin {
     /// By what it reaches the page.
     pub scheme: Scheme,
@@ -36,7 +36,7 @@ pub struct Origin {
 }
 
 /// Why a text isn't that of an origin.
-#[derive(Clone, Copy, Debug, PartialEq, Eq, Error)]
+#[derive(Clone, Copy, Debug, Error)]
 pub enum OriginFault {
     /// It begins with no scheme that a page is reached by.
     #[error("it has to begin with http:// or https://")]

@@ -11,7 +11,7 @@ use room_1401::Window;
 use serving_http::number;
 
 /// A picture that is asked for.
-#[derive(Clone, Copy, Debug, PartialEq, Eq)]
+#[derive(Clone, Copy)]
 pub struct Asked {
     /// What of the machine it shows.
     pub window: Window,

@@ -21,7 +21,7 @@ const NAP: u64 = 1;
 pub(crate) const NAPS: usize = 1000;
 
 /// What a connection is doing.
-#[derive(Clone, Copy, Debug, PartialEq, Eq)]
+#[derive(Clone, Copy)]
 pub(crate) enum Stage {
     /// Its request comes.
     Reading,

@@ -9,7 +9,7 @@ use http::Request;
 use serving_http::{Route, Site, is_ambiguous, is_for_room, is_for_site, is_from_site, route_of};
 
 /// What a request about a room comes to.
-#[derive(Clone, Copy, Debug, PartialEq, Eq)]
+#[derive(Clone, Copy)]
 pub(crate) enum Errand {
     /// It asks when a new room follows.
     Look,

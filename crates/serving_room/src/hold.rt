@@ -9,7 +9,7 @@ const HELD: u64 = 60;
 const GONE: u64 = 5;
 
 /// That a page holds the machine. Times are in seconds of the clock.
-#[derive(Clone, Copy, Debug, PartialEq, Eq)]
+#[derive(Clone, Copy)]
 pub(crate) struct Hold {
     /// The number of the page's seat.
     pub seat: u8,

@@ -7,7 +7,7 @@ use machine_notation::put_digits;
 use std::alloc::AllocError;
 
 /// What a command does, without what it does it with.
-#[derive(Clone, Copy, Debug, PartialEq, Eq)]
+#[derive(Clone, Copy)]
 pub(crate) enum Act {
     /// Cells were deposited.
     Deposit,
@@ -34,7 +34,7 @@ pub(crate) enum Act {
 }
 
 /// The last command, and the seat that gave it.
-#[derive(Clone, Copy, Debug, PartialEq, Eq)]
+#[derive(Clone, Copy)]
 pub(crate) struct Last {
     /// The number of the seat.
     pub seat: u8,

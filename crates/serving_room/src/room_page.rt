@@ -16,7 +16,7 @@ use serving_page::tell_address;
 use std::alloc::{AllocError, Global};
 
 /// What a page knows of its room, and changes in it.
-#[derive(Clone, Copy, Debug, PartialEq, Eq)]
+#[derive(Clone, Copy)]
 pub(crate) struct RoomState {
     /// The number of the page's seat.
     pub seat: u8,

@@ -13,7 +13,7 @@ const QUIT_RETURN: [u8; 5] = *b"QUIT\r";
 const QUIT_LEN: u8 = 4;
 
 /// How the input ended.
-#[derive(Clone, Copy, PartialEq, Eq)]
+#[derive(Clone, Copy)]
 pub enum InputEnd {
     /// A line said QUIT.
     Quit,

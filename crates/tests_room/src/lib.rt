@@ -1,6 +1,5 @@
-//! Tests of rooms and shared rooms, and of consoles: sources and sinks that fail, what is read and written in which
-//! order, hostile lines, consoles at the seats of a shared room. Nothing but public calls of `room_1401` and
-//! `console_1401`, so they stand apart, since a crate with tests is proved a second time with them.
+//! Tests of rooms, shared rooms, consoles at their seats, and doors: what neither a clause says nor a run of the
+//! program shows. They make public calls alone, and so have a crate of their own: one with tests is proved twice.
 #![tactic(auto)]
 
 #[cfg(test)]

@@ -1,20 +1,22 @@
-//! Rooms at their limits, shared rooms, and the names of their faults; and consoles.
+//! A full journal, shared rooms, their consoles and their doors, and the texts of their faults.
 
-mod consoles;
+mod attending;
 mod faults;
 mod rooms;
+mod serving;
 mod shared_rooms;
+mod taking_turns;
 
 use room_1401::Room;
 use std::fmt::{Debug, Display};
 use std::process::Abort;
 
-/// Compares what a row gives with what it should. If they differ, the row is told.
+/// Compares what a row gives with what it should. If they differ, the row is named.
 fn expect_same<T: PartialEq + Debug>(rt: &impl Abort, row: &impl Debug, found: &T, wanted: &T) {
     assert_eq!(rt; *found, *wanted, "{row:?}");
 }
 
-/// Compares the bytes that a row gives with those that it should. If they differ, the row is told.
+/// Compares the bytes that a row gives with those that it should. If they differ, the row is named.
 fn expect_bytes(rt: &impl Abort, row: &impl Debug, found: &[u8], wanted: &[u8]) {
     let is_same = found == wanted;
     assert!(rt;
@@ -25,10 +27,15 @@ fn expect_bytes(rt: &impl Abort, row: &impl Debug, found: &[u8], wanted: &[u8]) 
     );
 }
 
-/// Compares how something is shown with a text. If they differ, the row is told.
-fn is_told(rt: &(impl Abort + AllocGlobal), row: &impl Debug, shown: &impl Display, wanted: &str) {
-    let told = format!(in rt.alloc(); "{shown}").expect(rt, wanted);
-    expect_bytes(rt, row, told.as_bytes(), wanted.as_bytes());
+/// Compares how something is shown with a text. If they differ, the row is named.
+fn expect_shown_as(
+    rt: &(impl Abort + AllocGlobal),
+    row: &impl Debug,
+    shown: &impl Display,
+    wanted: &str,
+) {
+    let text = format!(in rt.alloc(); "{shown}").expect(rt, wanted);
+    expect_bytes(rt, row, text.as_bytes(), wanted.as_bytes());
 }
 
 /// A room with a machine of this size.

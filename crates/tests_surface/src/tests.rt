@@ -11,6 +11,7 @@ mod processor;
 mod products;
 mod rooms;
 mod storage;
+mod texts;
 
 use bcd_1401::{Cell, Char};
 use core_1401::Cells;

@@ -1,57 +1,23 @@
-//! The texts of faults.
+//! The texts of faults that no run shows.
 
-use super::is_told;
-use console_1401::LineFault;
+use super::expect_shown_as;
+use console_1401::{Failed, ServeFault};
 use job_runner::DeckTextFault;
 use job_stops::Reason;
-use room_1401::{CloseFault, GlanceFault, RoomFault, StartFault};
+use room_1401::{CloseFault, StartFault};
 use std::fmt::Display;
 use std::process::Abort;
 
 /// Compares the texts of faults.
-fn expect_told<T: Display>(rt: &(impl Abort + AllocGlobal), rows: &[(T, &str)]) {
+fn expect_texts<T: Display>(rt: &(impl Abort + AllocGlobal), rows: &[(T, &str)]) {
     for (fault, text) in rows {
-        is_told(rt, text, fault, text);
+        expect_shown_as(rt, text, fault, text);
     }
 }
 
 #[test]
-fn each_fault_of_a_room_has_its_text(rt: HostRuntime) {
-    expect_told(
-        &rt,
-        &[
-            (RoomFault::Memory, "FAULT 1 MEMORY"),
-            (RoomFault::JournalFull, "FAULT 2 JOURNAL FULL"),
-            (RoomFault::NoReading, "FAULT 3 NO READING"),
-            (RoomFault::Unkept, "FAULT 4 UNKEPT"),
-        ],
-    );
-    expect_told(
-        &rt,
-        &[
-            (GlanceFault::Range, "GLANCE FAULT 1 RANGE"),
-            (GlanceFault::Gone, "GLANCE FAULT 2 GONE"),
-        ],
-    );
-}
-
-#[test]
-fn each_fault_of_a_line_has_its_text(rt: HostRuntime) {
-    expect_told(
-        &rt,
-        &[
-            (LineFault::Word, "ERROR 1 WORD"),
-            (LineFault::Number, "ERROR 2 NUMBER"),
-            (LineFault::Graphic, "ERROR 3 GRAPHIC"),
-            (LineFault::Length, "ERROR 4 LENGTH"),
-            (LineFault::Extra, "ERROR 5 EXTRA"),
-        ],
-    );
-}
-
-#[test]
-fn each_fault_of_a_shared_room_has_its_text(rt: HostRuntime) {
-    expect_told(
+fn each_text_that_no_run_shows(rt: HostRuntime) {
+    expect_texts(
         &rt,
         &[
             (StartFault::Memory, "memory refused"),
@@ -60,7 +26,7 @@ fn each_fault_of_a_shared_room_has_its_text(rt: HostRuntime) {
             (StartFault::NoReader, "no reader"),
         ],
     );
-    expect_told(
+    expect_texts(
         &rt,
         &[
             (
@@ -73,11 +39,15 @@ fn each_fault_of_a_shared_room_has_its_text(rt: HostRuntime) {
             ),
         ],
     );
-}
-
-#[test]
-fn each_text_that_no_run_shows(rt: HostRuntime) {
-    expect_told(
+    expect_texts(
+        &rt,
+        &[
+            (ServeFault::Accept, "accept failed"),
+            (ServeFault::Thread, "thread refused"),
+        ],
+    );
+    expect_texts(&rt, &[(Failed, "a read or a write failed")]);
+    expect_texts(
         &rt,
         &[
             (Reason::Halt, "a halt"),
@@ -85,5 +55,5 @@ fn each_text_that_no_run_shows(rt: HostRuntime) {
             (Reason::StackerFull, "500 punched cards wait to be taken"),
         ],
     );
-    expect_told(&rt, &[(DeckTextFault::Memory, "memory refused")]);
+    expect_texts(&rt, &[(DeckTextFault::Memory, "memory refused")]);
 }

@@ -20,6 +20,7 @@ fn columns_and_orders(rt: HostRuntime) {
         (b'!', 1_536, 35),
         (b'\'', 642, 45),
         (b'0', 512, 54),
+        (b'^', 130, 19),
         (b'9', 1, 63),
     ] {
         expect_column_and_order(&rt, graphic, column, order);

@@ -4,7 +4,9 @@ use super::devices::card_of;
 use super::{cell_of, cells_of, char_of, expect_same};
 use bcd_1401::Cell;
 use core_1401::CoreFault;
-use cpu_1401::{InstructionCells, Machine, Ran, Regs, Stop, instruction_cells, step_law};
+use cpu_1401::{
+    Feature, Features, InstructionCells, Machine, Ran, Regs, Stop, instruction_cells, step_law,
+};
 use devices_1401::{Hole, Movement, PrintLine, ReaderEmpty};
 use std::process::Abort;
 
@@ -122,6 +124,25 @@ fn a_machine_is_copied(rt: HostRuntime) {
     expect_same(&rt, "copy_from", &copy.regs(), &machine.regs());
     expect_same(&rt, "read_area", &copy.read_area(), &card_of(&rt, b' '));
     expect_same(&rt, "devices", &copy.devices().line(), &1);
+}
+
+/// Whether threads may share what is lent, and hand it over: true, if this compiles.
+fn is_shared<T: Send + Sync>(_lent: &T) -> bool {
+    true
+}
+
+#[test]
+fn a_machine_may_be_handed_to_another_thread(rt: HostRuntime) {
+    assert!(rt; is_shared(&machine_with(&rt, 600, "~.")));
+}
+
+#[test]
+fn a_machine_is_fitted(rt: HostRuntime) {
+    let mut machine = machine_with(&rt, 600, "~. ~.");
+    let lengths = Features::NONE.with(Feature::Lengths);
+    machine.fit(lengths);
+    expect_same(&rt, "features", &machine.features(), &lengths);
+    expect_same(&rt, "step", &machine.step(), &Some(Stop::Halt));
 }
 
 #[test]

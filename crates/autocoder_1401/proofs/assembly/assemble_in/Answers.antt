@@ -1,17 +1,18 @@
 -- The answer is that of the passes; nothing of any line is outside core storage, so the image lies in it.
-use Rattle.std.proofs.Common.{List, ◌∙◌, sym, ap, subst}
-use Rattle.std.proofs.lemmas.Result.{err_from_is_err_and}
-use Rattle.machine_image.specs.Image.{IsInCore}
+use Rattle.std.proofs.Common.{◌≡◌, List, length, ◌∙◌, sym, ap}
+use Rattle.std.proofs.lemmas.Result.{err_from_is_err_and, IfOk-weaker}
 use Rattle.autocoder_statements.specs.declared.statement.Line.{Line}
 use Rattle.autocoder_symbols.specs.Chains.{chains_of}
+use Rattle.autocoder_symbols.specs.Reading.{lines_in}
 use Rattle.autocoder_symbols.specs.Symbols.{sites_of}
 use Rattle.autocoder_faults.specs.FirstFault.{first_fault}
-use Rattle.autocoder_placing.specs.PlacedImage.{placed_cells}
-use Rattle.autocoder_placing.specs.Laws.{IsCutOf}
-use Rattle.autocoder_placing.proofs.CoreLemmas.{image_inside}
-use Rattle.autocoder_placing.proofs.LawLemmas.{image_cut}
+use Rattle.autocoder_placing.specs.PlacedImage.{image_of}
+use Rattle.autocoder_placing.proofs.PlacementLawLemmas.{placed_in_turn}
+use Rattle.autocoder_1401.specs.Assembly.{assembly_with}
 use Rattle.autocoder_1401.specs.declared.assembly.Assembly.{Assembly}
-use Rattle.autocoder_1401.proofs.AssemblyLemmas.{assembled, not_assembled}
+use Rattle.autocoder_1401.proofs.AssemblyLemmas.{not_read, fault_of_read, made_in_core, made_cut, made_whole}
+use Rattle.autocoder_1401.proofs.AssemblyLemmas.{made_fault, on_made}
+use Rattle.autocoder_1401.proofs.LanguagesLemmas.{agrees_with_plain}
 use Rattle.autocoder_1401.proofs.assembly.assemble_in.Goals as goal
 
 pub faultless_assembly-requires-clause-chains : goal.faultless_assembly-requires-clause-chains
@@ -19,31 +20,68 @@ faultless_assembly-requires-clause-chains c =
     c.in_ok-read.ensures.chains
     ∙ ap (λ (lines : List Line). chains_of (sites_of lines) lines) (sym c.lend-lines.ensures)
 
-pub returns-in_err-assembly-clause-exact : goal.returns-in_err-assembly-clause-exact
-returns-in_err-assembly-clause-exact c =
-    let p =
-    err_from_is_err_and c.from_residual-in_err-assembly.result c.from_residual-in_err-assembly.ensures.1 in
-    rw (p.1, p.2) (not_assembled c.args.language c.args.size c.args.source.now c.lend-lines.result _
-    (c.lend-lines.ensures ∙ c.in_ok-read.ensures.lines)
-    (ap (first_fault c.args.language) c.lend-lines.ensures ∙ c.in_ok-read.ensures.none)
-    c.in_err-assembly.ensures.outside)
+pub faultless_assembly-requires-clause-as_many : goal.faultless_assembly-requires-clause-as_many
+faultless_assembly-requires-clause-as_many c = ap length c.lend-lines.ensures ∙ c.in_ok-read.ensures.as_many
+
+pub faultless_assembly-requires-clause-few : goal.faultless_assembly-requires-clause-few
+faultless_assembly-requires-clause-few c = rw c.lend-lines.ensures c.in_ok-read.ensures.few
+
+pub returns-in_err-read-clause-exact : goal.returns-in_err-read-clause-exact
+returns-in_err-read-clause-exact c =
+    let p = err_from_is_err_and c.from_residual.result c.from_residual.ensures.1 in
+    rw (p.1, p.2) (not_read c.args.language c.args.size c.args.source.now _ c.in_err-read.ensures.first)
+
+pub returns-in_err-read-clause-plain : goal.returns-in_err-read-clause-plain
+returns-in_err-read-clause-plain c = agrees_with_plain c.args.language c.args.size c.args.source.now
+
+pub returns-in_err-read-clause-first : goal.returns-in_err-read-clause-first
+returns-in_err-read-clause-first c =
+    let p = err_from_is_err_and c.from_residual.result c.from_residual.ensures.1 in
+    rw (p.1, p.2) (fault_of_read c.args.language c.args.size (lines_in c.args.language c.args.source.now) _
+    c.in_err-read.ensures.first)
+
+pub returns-clause-plain : goal.returns-clause-plain
+returns-clause-plain c = agrees_with_plain c.args.language c.args.size c.args.source.now
 
 pub returns-clause-exact : goal.returns-clause-exact
 returns-clause-exact c =
-    assembled c.args.language c.args.size c.args.source.now c.lend-lines.result c.in_ok-assembly.assembly
-    (c.lend-lines.ensures ∙ c.in_ok-read.ensures.lines)
+    made_whole c.args.language c.args.size c.args.source.now c.lend-lines.result
+    c.faultless_assembly.result (c.lend-lines.ensures ∙ c.in_ok-read.ensures.lines)
     (ap (first_fault c.args.language) c.lend-lines.ensures ∙ c.in_ok-read.ensures.none)
-    c.in_ok-assembly.ensures.inside c.in_ok-assembly.ensures.ok
+    c.faultless_assembly.ensures.ok c.faultless_assembly.ensures.inside c.faultless_assembly.ensures.outside
 
 pub returns-clause-in_core : goal.returns-clause-in_core
 returns-clause-in_core c size_is =
-    subst (λ (assembly : Assembly). IsInCore assembly.image) (sym c.in_ok-assembly.ensures.ok)
-    (image_inside c.args.size c.lend-lines.result size_is c.in_ok-assembly.ensures.inside)
+    made_in_core (λ (assembly : Assembly). assembly.image) c.args.size c.lend-lines.result
+    c.faultless_assembly.result size_is
+    (IfOk-weaker c.faultless_assembly.result
+    (λ (assembly : Assembly). assembly ≡ assembly_with c.args.size c.lend-lines.result c.args.source.now)
+    (λ (assembly : Assembly). assembly.image ≡ image_of c.args.size c.lend-lines.result)
+    (λ made is. ap (λ (assembly : Assembly). assembly.image) is) c.faultless_assembly.ensures.ok)
+    c.faultless_assembly.ensures.inside
 
 pub returns-clause-segments : goal.returns-clause-segments
 returns-clause-segments c size_is =
-    subst (λ (lines : List Line). IsCutOf (placed_cells lines) c.in_ok-assembly.assembly.image.segments)
-    (c.lend-lines.ensures ∙ c.in_ok-read.ensures.lines)
-    (subst (λ (assembly : Assembly). IsCutOf (placed_cells c.lend-lines.result) assembly.image.segments)
-    (sym c.in_ok-assembly.ensures.ok)
-    (image_cut c.args.size c.lend-lines.result size_is c.in_ok-assembly.ensures.inside))
+    made_cut (λ (assembly : Assembly). assembly.image) c.args.size c.lend-lines.result
+    (lines_in c.args.language c.args.source.now)
+    c.faultless_assembly.result (c.lend-lines.ensures ∙ c.in_ok-read.ensures.lines) size_is
+    (IfOk-weaker c.faultless_assembly.result
+    (λ (assembly : Assembly). assembly ≡ assembly_with c.args.size c.lend-lines.result c.args.source.now)
+    (λ (assembly : Assembly). assembly.image ≡ image_of c.args.size c.lend-lines.result)
+    (λ made is. ap (λ (assembly : Assembly). assembly.image) is) c.faultless_assembly.ensures.ok)
+    c.faultless_assembly.ensures.inside
+
+pub returns-clause-faultless : goal.returns-clause-faultless
+returns-clause-faultless c =
+    on_made c.faultless_assembly.result c.in_ok-read.ensures.faultless
+
+pub returns-clause-placement : goal.returns-clause-placement
+returns-clause-placement c =
+    on_made c.faultless_assembly.result (placed_in_turn (lines_in c.args.language c.args.source.now))
+
+pub returns-clause-first : goal.returns-clause-first
+returns-clause-first c =
+    made_fault c.args.language c.args.size c.lend-lines.result
+    (lines_in c.args.language c.args.source.now)
+    c.faultless_assembly.result (c.lend-lines.ensures ∙ c.in_ok-read.ensures.lines) c.in_ok-read.ensures.faultless
+    c.faultless_assembly.ensures.outside

@@ -1,5 +1,5 @@
 -- The lines are those of the source.
-use Rattle.std.proofs.Common.{List, Option, IfSome, ◌∙◌, sym, ap, subst}
+use Rattle.std.proofs.Common.{List, IfSome, ◌∙◌, sym, ap, subst}
 use Rattle.autocoder_statements.specs.declared.statement.Line.{Line}
 use Rattle.autocoder_symbols.specs.Chains.{chains_of}
 use Rattle.autocoder_symbols.specs.Symbols.{sites_of}

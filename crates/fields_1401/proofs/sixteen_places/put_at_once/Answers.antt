@@ -52,6 +52,45 @@ lanes c =
       shown_is = c.where_replaceable.ensures.lanes;
     }
 
+pub codes_up-control-requires : goal.codes_up-control-requires
+codes_up-control-requires c = omega (
+  arith,
+  ap length c.chars_mut-chars.ensures.value ∙ length-chars_of c.args.core.now,
+  c.from-b_low.ensures,
+  c.requires.b,
+  c.requires.b_least,
+)
+
+pub codes_up-requires : goal.codes_up-requires
+codes_up-requires c = omega (
+  arith,
+  ap length c.chars_mut-chars.ensures.value ∙ length-chars_of c.args.core.now,
+  c.from-a_low.ensures,
+  c.requires.a,
+  c.requires.a_least,
+)
+
+pub unzoned-of_a-requires-clause-range : goal.unzoned-of_a-requires-clause-range
+unzoned-of_a-requires-clause-range c = c.codes_up.ensures.range
+
+pub taken_codes-taken-requires-clause-few : goal.taken_codes-taken-requires-clause-few
+taken_codes-taken-requires-clause-few c = λ i lt. omega (
+  arith,
+  c.count_beyond-beyond.ensures.beyond i lt,
+  count_by-le-length is_replaceable (drop (i + 1) c.codes_up-control.result),
+  length-drop (i + 1) c.codes_up-control.result,
+  c.codes_up-control.ensures.count,
+)
+
+pub put_last-requires-clause-inside : goal.put_last-requires-clause-inside
+put_last-requires-clause-inside c = omega (
+  arith,
+  ap length c.chars_mut-chars.ensures.value ∙ length-chars_of c.args.core.now,
+  c.from-b_low.ensures,
+  c.requires.b,
+  c.requires.b_least,
+)
+
 pub returns-clause-put : goal.returns-clause-put
 returns-clause-put c =
     let s = c.args.core.now in

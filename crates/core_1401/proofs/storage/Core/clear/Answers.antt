@@ -1,11 +1,13 @@
 -- Blanks without word marks are written, and nothing else.
 use Rattle.std.proofs.Common.{◌≡◌, ℕ, ◌+◌, ◌-◌, List, arith, ap, sym, ◌∙◌, length}
 use Rattle.std.proofs.lemmas.List.{with_items_is}
+use Rattle.std.specs.Vec.{with_items}
 use Rattle.core_1401.specs.MarkWords.{held}
 use Rattle.core_1401.specs.Places.{with_cells}
 use Rattle.core_1401.specs.Storage.{Storage, blank}
 use Rattle.core_1401.proofs.HeldLemmas.{length_held}
-use Rattle.core_1401.proofs.PlacesLemmas.{AreBlanks, held-cleared}
+use Rattle.core_1401.proofs.PlacesLemmas.{AreBlanks, held-cleared, whole-cleared}
+use Rattle.core_1401.proofs.SizeLemmas.{held_size, place_small}
 use Rattle.core_1401.proofs.storage.Core.clear.Goals as goal
 
 pub returns-clause-value : goal.returns-clause-value
@@ -45,3 +47,33 @@ returns-clause-size c =
     ∙ ap length c.deref_mut.ensures.value
     ∙ sym (length_held c.self.inside.chars.items words)
     ∙ ap length c.self.view_is
+
+pub put_blanks-requires-clause-within : goal.put_blanks-requires-clause-within
+put_blanks-requires-clause-within c = omega (
+  arith,
+  ap length c.deref_mut.ensures.value,
+  held_size c.self.inside.chars.items c.self.inside.words c.args.self.now c.self.view_is,
+  c.from-high.ensures,
+  c.requires.at,
+)
+
+pub clear_marks-requires-clause-within : goal.clear_marks-requires-clause-within
+clear_marks-requires-clause-within c = omega (
+  arith,
+  place_small c.self.inside.chars.items c.self.inside.words c.args.self.now c.args.at c.from-high.result c.self.view_is
+      c.self.invariant.size c.from-high.ensures c.requires.at,
+  c.self.told,
+)
+
+pub invariant_of-self : goal.invariant_of-self
+invariant_of-self c =
+    let chars : List ℕ = c.self.inside.chars.items in
+    let words : List ℕ = c.self.inside.words in
+    let new : List ℕ = (with_items c.self.inside.chars c.put_blanks.new.chars).items in
+    let long : length new ≡ length chars =
+    ap length (with_items_is c.self.inside.chars c.put_blanks.new.chars
+    (c.put_blanks.ensures.count ∙ c.deref_mut.ensures.len)) ∙ c.put_blanks.ensures.count
+    ∙ ap length c.deref_mut.ensures.value in
+    let size : length chars ≡ length c.args.self.now = held_size chars words c.args.self.now c.self.view_is in
+    whole-cleared chars words new c.clear_marks.new.words (c.from-high.result + 1 - c.from.result) c.from-high.result
+    long (omega (arith, size, c.from-high.ensures, c.requires.at)) c.clear_marks.ensures c.self.invariant

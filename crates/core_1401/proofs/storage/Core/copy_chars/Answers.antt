@@ -6,6 +6,7 @@ use Rattle.core_1401.specs.Places.{with_chars}
 use Rattle.core_1401.specs.Storage.{Storage, cell_at}
 use Rattle.core_1401.proofs.HeldLemmas.{length_held}
 use Rattle.core_1401.proofs.PlacesLemmas.{AreCopied, held-copied}
+use Rattle.core_1401.proofs.SizeLemmas.{held_size}
 use Rattle.core_1401.proofs.storage.Core.copy_chars.Goals as goal
 
 pub returns : goal.returns
@@ -35,3 +36,37 @@ returns c =
     ∙ ap (λ (p : ℕ). with_chars storage b n (λ i. (cell_at storage (p - i)).char)) c.from.ensures
     ∙ ap (λ (p : ℕ). with_chars storage p n (λ i. (cell_at storage (c.args.a - i)).char)) c.from-2.ensures
     ∙ ap (λ (m : ℕ). with_chars storage c.args.b m (λ i. (cell_at storage (c.args.a - i)).char)) c.from-3.ensures
+
+pub copy_down-requires-clause-a_in : goal.copy_down-requires-clause-a_in
+copy_down-requires-clause-a_in c = omega (
+  arith,
+  ap length c.deref_mut.ensures.value,
+  held_size c.self.inside.chars.items c.self.inside.words c.args.self.now c.self.view_is,
+  c.from.ensures,
+  c.requires.a_in,
+)
+
+pub copy_down-requires-clause-b_in : goal.copy_down-requires-clause-b_in
+copy_down-requires-clause-b_in c = omega (
+  arith,
+  ap length c.deref_mut.ensures.value,
+  held_size c.self.inside.chars.items c.self.inside.words c.args.self.now c.self.view_is,
+  c.from-2.ensures,
+  c.requires.b_in,
+)
+
+pub copy_down-requires-clause-a_places : goal.copy_down-requires-clause-a_places
+copy_down-requires-clause-a_places c = omega (
+  arith,
+  c.from.ensures,
+  c.from-3.ensures,
+  c.requires.a_places,
+)
+
+pub copy_down-requires-clause-b_places : goal.copy_down-requires-clause-b_places
+copy_down-requires-clause-b_places c = omega (
+  arith,
+  c.from-2.ensures,
+  c.from-3.ensures,
+  c.requires.b_places,
+)

@@ -9,6 +9,7 @@ use Rattle.core_1401.specs.Places.{with_cells}
 use Rattle.core_1401.specs.Storage.{Storage, cell_at}
 use Rattle.core_1401.proofs.HeldLemmas.{length_held, most_places}
 use Rattle.core_1401.proofs.PlacesLemmas.{AreCopied, held-field, whole-field}
+use Rattle.core_1401.proofs.SizeLemmas.{held_size, place_small}
 use Rattle.core_1401.proofs.storage.Core.copy_field.Goals as goal
 
 pub returns : goal.returns
@@ -78,3 +79,53 @@ invariant_of-self c =
     (c.from-high.result + 1 - c.from-count.result) c.from-high.result c.with_bit.result long
     in_core order c.clear_marks.ensures
     (omega (arith, in_core, small, c.self.told)) c.with_bit.ensures c.self.invariant
+
+pub copy_down-requires-clause-a_in : goal.copy_down-requires-clause-a_in
+copy_down-requires-clause-a_in c = omega (
+  arith,
+  ap length c.deref_mut.ensures.value,
+  held_size c.self.inside.chars.items c.self.inside.words c.args.self.now c.self.view_is,
+  c.from.ensures,
+  c.requires.a_in,
+)
+
+pub copy_down-requires-clause-b_in : goal.copy_down-requires-clause-b_in
+copy_down-requires-clause-b_in c = omega (
+  arith,
+  ap length c.deref_mut.ensures.value,
+  held_size c.self.inside.chars.items c.self.inside.words c.args.self.now c.self.view_is,
+  c.from-high.ensures,
+  c.requires.b_in,
+)
+
+pub copy_down-requires-clause-a_places : goal.copy_down-requires-clause-a_places
+copy_down-requires-clause-a_places c = omega (
+  arith,
+  c.from.ensures,
+  c.from-count.ensures,
+  c.requires.a_places,
+)
+
+pub copy_down-requires-clause-b_places : goal.copy_down-requires-clause-b_places
+copy_down-requires-clause-b_places c = omega (
+  arith,
+  c.from-high.ensures,
+  c.from-count.ensures,
+  c.requires.b_places,
+)
+
+pub clear_marks-requires-clause-within : goal.clear_marks-requires-clause-within
+clear_marks-requires-clause-within c = omega (
+  arith,
+  place_small c.self.inside.chars.items c.self.inside.words c.args.self.now c.args.b c.from-high.result c.self.view_is
+      c.self.invariant.size c.from-high.ensures c.requires.b_in,
+  c.self.told,
+)
+
+pub bounds-self-inside-low : goal.bounds-self-inside-low
+bounds-self-inside-low c = omega (
+  arith,
+  place_small c.self.inside.chars.items c.self.inside.words c.args.self.now c.args.b c.from-high.result c.self.view_is
+      c.self.invariant.size c.from-high.ensures c.requires.b_in,
+  c.from-high.ensures,
+)

@@ -1,6 +1,7 @@
 -- The first mark below either place ends the pair of fields.
 use Rattle.std.proofs.Common.{arith}
 use Rattle.core_1401.proofs.FieldLemmas.{ArePlaces, pair_last, pair_len_marked, pair_len_unmarked}
+use Rattle.core_1401.proofs.SizeLemmas.{place_small}
 use Rattle.core_1401.proofs.storage.Core.pair_len.Goals as goal
 use Rattle.core_1401.proofs.storage.Core.pair_len.Goals.{else-distance-a-via-then-distance-a+else-distance-b}
 use Rattle.core_1401.proofs.storage.Core.pair_len.Goals.{else-distance-a-via-else-distance-a}
@@ -31,3 +32,39 @@ returns-else-distance-a-clause-value c =
       | else-distance-a-via-then-distance-a+else-distance-b w ↦ omega (arith, w.if-distance-b.false)
       | else-distance-a-via-else-distance-a w ↦ omega (arith, w.if-distance-a.false)
     ])
+
+pub first_pair-distance-requires-clause-a_in : goal.first_pair-distance-requires-clause-a_in
+first_pair-distance-requires-clause-a_in c = omega (
+  arith,
+  place_small c.self.inside.chars.items c.self.inside.words c.args.self.now c.args.a c.from-a.result c.self.view_is
+      c.self.invariant.size c.from-a.ensures c.requires.a_in,
+)
+
+pub first_pair-distance-requires-clause-a_fits : goal.first_pair-distance-requires-clause-a_fits
+first_pair-distance-requires-clause-a_fits c = omega (
+  arith,
+  place_small c.self.inside.chars.items c.self.inside.words c.args.self.now c.args.a c.from-a.result c.self.view_is
+      c.self.invariant.size c.from-a.ensures c.requires.a_in,
+)
+
+pub first_pair-distance-requires-clause-b_in : goal.first_pair-distance-requires-clause-b_in
+first_pair-distance-requires-clause-b_in c = omega (
+  arith,
+  place_small c.self.inside.chars.items c.self.inside.words c.args.self.now c.args.b c.from-b.result c.self.view_is
+      c.self.invariant.size c.from-b.ensures c.requires.b_in,
+)
+
+pub first_pair-distance-requires-clause-b_fits : goal.first_pair-distance-requires-clause-b_fits
+first_pair-distance-requires-clause-b_fits c = omega (
+  arith,
+  place_small c.self.inside.chars.items c.self.inside.words c.args.self.now c.args.b c.from-b.result c.self.view_is
+      c.self.invariant.size c.from-b.ensures c.requires.b_in,
+)
+
+pub overflow_cast-result : goal.overflow_cast-result
+overflow_cast-result c = omega (
+  arith,
+  place_small c.self.inside.chars.items c.self.inside.words c.args.self.now c.args.a c.from-a.result c.self.view_is
+      c.self.invariant.size c.from-a.ensures c.requires.a_in,
+  c.if-distance-a.true,
+)

@@ -1,18 +1,21 @@
 -- One command more of the seat's, which has seen all others.
 use Rattle.std.proofs.Common.{◌≡◌, ◌+◌, ◌≤◌, ℕ, Bool, true, false, not, List, [], ◌∷◌, ◌++◌, length, length-append}
 use Rattle.std.proofs.Common.{refl, ap, sym, ◌∙◌, subst, arith, true≢false}
+use Rattle.std.specs.Prelude.{Err}
+use Rattle.std.proofs.lemmas.Result.{err_from_is_err_and}
 use mathlib.Core.List.{IsPrefix}
 use Rattle.machine_commands.specs.declared.answer.Answer.{Answer}
 use Rattle.machine_commands.specs.declared.command.Command.{Command}
 use Rattle.room_alone.specs.Kept.{KeptAccount}
-use Rattle.room_alone.specs.Journal.{entry, pairs_of}
+use Rattle.room_alone.specs.Journal.{entry, refusal_of}
 use Rattle.room_alone.specs.Replay.{pair, reply_to}
-use Rattle.room_alone.specs.declared.entry.Entry.{Entry}
 use Rattle.room_alone.specs.declared.entry.SeatedCommand.{SeatedCommand}
 use Rattle.room_1401.specs.Keeping.{shown_in}
-use Rattle.room_1401.specs.Seen.{Carries, own}
+use Rattle.room_1401.specs.Seen.{own}
 use Rattle.room_1401.proofs.KeepingLemmas.{all_shown, more_shown, shown_as, still_shown}
 use Rattle.room_1401.proofs.PrefixLemmas.{prefix_trans}
+use Rattle.room_1401.proofs.RefusalLemmas.{not_refused, not_unread, read_full, read_kept, read_memory, reads}
+use Rattle.room_1401.proofs.RefusalLemmas.{taken, unkept_there}
 use Rattle.room_1401.proofs.SeenLemmas.{own_pushed}
 use Rattle.room_1401.proofs.locked.LockedRoom.carry.Goals as goal
 
@@ -146,3 +149,145 @@ returns-clause-carried g c _ =
           ∙ ap (λ (list : List SeatedCommand). reply_to g.J.RoomId.size list c.args.command)
           (sym (same ∙ all_shown old.failed old.room.journal good));
     }
+
+-- a refusal for no reading is for nothing else
+pub returns-then-not-brief-clause-failed : goal.returns-then-not-brief-clause-failed
+returns-then-not-brief-clause-failed g c apart = absurd (apart refl)
+
+pub returns-then-not-brief-clause-after_failure : goal.returns-then-not-brief-clause-after_failure
+returns-then-not-brief-clause-after_failure g c is = absurd (read_kept (not_unread _ _ refl is))
+
+pub returns-then-not-brief-clause-fault : goal.returns-then-not-brief-clause-fault
+returns-then-not-brief-clause-fault g c apart _ = absurd (apart refl)
+
+pub returns-then-not-brief-clause-full : goal.returns-then-not-brief-clause-full
+returns-then-not-brief-clause-full g c is = absurd (read_full (not_unread _ _ refl is))
+
+pub returns-then-not-brief-clause-memory : goal.returns-then-not-brief-clause-memory
+returns-then-not-brief-clause-memory g c is = absurd (read_memory (not_unread _ _ refl is))
+
+-- a refusal of the recorder
+pub returns-in_err-carried-clause-recorded : goal.returns-in_err-carried-clause-recorded
+returns-in_err-carried-clause-recorded g c =
+    let p = err_from_is_err_and c.from_residual.result c.from_residual.ensures.1 in
+    rw (p.1) tt
+
+pub returns-in_err-carried-clause-carried : goal.returns-in_err-carried-clause-carried
+returns-in_err-carried-clause-carried g c =
+    let p = err_from_is_err_and c.from_residual.result c.from_residual.ensures.1 in
+    rw (p.1) tt
+
+pub returns-in_err-carried-clause-made : goal.returns-in_err-carried-clause-made
+returns-in_err-carried-clause-made g c =
+    let p = err_from_is_err_and c.from_residual.result c.from_residual.ensures.1 in
+    rw (p.1) tt
+
+pub returns-in_err-carried-clause-kept : goal.returns-in_err-carried-clause-kept
+returns-in_err-carried-clause-kept g c =
+    let p = err_from_is_err_and c.from_residual.result c.from_residual.ensures.1 in
+    rw (p.1) tt
+
+pub returns-in_err-carried-clause-answered : goal.returns-in_err-carried-clause-answered
+returns-in_err-carried-clause-answered g c =
+    let p = err_from_is_err_and c.from_residual.result c.from_residual.ensures.1 in
+    rw (p.1) tt
+
+pub returns-in_err-carried-clause-same : goal.returns-in_err-carried-clause-same
+returns-in_err-carried-clause-same g c =
+    let p = err_from_is_err_and c.from_residual.result c.from_residual.ensures.1 in
+    rw (p.1) tt
+
+pub returns-in_err-carried-clause-unkept : goal.returns-in_err-carried-clause-unkept
+returns-in_err-carried-clause-unkept g c =
+    let p = err_from_is_err_and c.from_residual.result c.from_residual.ensures.1 in
+    rw (p.1) tt
+
+pub returns-in_err-carried-clause-by_failure : goal.returns-in_err-carried-clause-by_failure
+returns-in_err-carried-clause-by_failure g c =
+    let p = err_from_is_err_and c.from_residual.result c.from_residual.ensures.1 in
+    rw (p.1) tt
+
+pub returns-in_err-carried-clause-list : goal.returns-in_err-carried-clause-list
+returns-in_err-carried-clause-list g c =
+    let p = err_from_is_err_and c.from_residual.result c.from_residual.ensures.1 in
+    rw (p.1) tt
+
+pub returns-in_err-carried-clause-shown : goal.returns-in_err-carried-clause-shown
+returns-in_err-carried-clause-shown g c =
+    let p = err_from_is_err_and c.from_residual.result c.from_residual.ensures.1 in
+    rw (p.1) tt
+
+pub returns-in_err-carried-clause-err : goal.returns-in_err-carried-clause-err
+returns-in_err-carried-clause-err g c =
+    let p = err_from_is_err_and c.from_residual.result c.from_residual.ensures.1 in
+    let same = c.in_err-carried.ensures.err in
+    rw (p.1) (
+      c.brief.ensures.same.1,
+      same.0 ∙ ap (λ (it : KeptAccount). it.room.journal) c.self.view_is,
+      same.1 ∙ ap (λ (it : KeptAccount). it.failed) c.self.view_is,
+      same.2 ∙ ap (λ (it : KeptAccount). it.kept) c.self.view_is,
+    )
+
+pub returns-in_err-carried-clause-no_reading : goal.returns-in_err-carried-clause-no_reading
+returns-in_err-carried-clause-no_reading g c unread =
+    let p = err_from_is_err_and c.from_residual.result c.from_residual.ensures.1 in
+    absurd (reads _ _ c.self.inside.recorder.room.journal c.self.inside.recorder.failed refl
+    c.in_err-carried.ensures.failed c.in_err-carried.ensures.fault (sym (p.1 ∙ ap (λ f. Err f) p.2) ∙ unread))
+
+pub returns-in_err-carried-clause-failed : goal.returns-in_err-carried-clause-failed
+returns-in_err-carried-clause-failed g c _ =
+    let p = err_from_is_err_and c.from_residual.result c.from_residual.ensures.1 in
+    unkept_there _ _ _ _ (p.1 ∙ ap (λ f. Err f) p.2) (ap (λ (it : KeptAccount). it.failed) c.self.view_is)
+    c.in_err-carried.ensures.failed
+
+pub returns-in_err-carried-clause-after_failure : goal.returns-in_err-carried-clause-after_failure
+returns-in_err-carried-clause-after_failure g c is =
+    let p = err_from_is_err_and c.from_residual.result c.from_residual.ensures.1 in
+    let iff = unkept_there _ _ _ _ (p.1 ∙ ap (λ f. Err f) p.2) (ap (λ (it : KeptAccount). it.failed) c.self.view_is)
+    c.in_err-carried.ensures.failed in
+    shown_as _ _ _ _ _ _ _ _ _ c.brief.ensures.shown (iff.0 is) c.if-not-brief.ensures.list
+
+pub returns-in_err-carried-clause-fault : goal.returns-in_err-carried-clause-fault
+returns-in_err-carried-clause-fault g c =
+    let p = err_from_is_err_and c.from_residual.result c.from_residual.ensures.1 in
+    rw (p.1) (λ _ good. (
+      p.2
+          ∙ c.in_err-carried.ensures.fault (ap (λ (it : KeptAccount). it.failed) c.self.view_is ∙ good)
+          ∙ ap (λ (it : KeptAccount). refusal_of it.room.journal) c.self.view_is,
+      c.if-not-brief.ensures.list,
+    ))
+
+-- a command that is taken isn't refused
+pub returns-then-not-carried-clause-no_reading : goal.returns-then-not-carried-clause-no_reading
+returns-then-not-carried-clause-no_reading g c is = absurd (not_refused _ _ _ refl is)
+
+pub returns-then-not-carried-clause-after_failure : goal.returns-then-not-carried-clause-after_failure
+returns-then-not-carried-clause-after_failure g c is = absurd (not_refused _ _ _ refl is)
+
+pub returns-then-not-carried-clause-full : goal.returns-then-not-carried-clause-full
+returns-then-not-carried-clause-full g c is = absurd (not_refused _ _ _ refl is)
+
+pub returns-then-not-carried-clause-memory : goal.returns-then-not-carried-clause-memory
+returns-then-not-carried-clause-memory g c is = absurd (not_refused _ _ _ refl is)
+
+pub returns-then-not-carried-clause-failed : goal.returns-then-not-carried-clause-failed
+returns-then-not-carried-clause-failed g c _ =
+    let same = ap (λ (it : KeptAccount). it.failed) c.self.view_is in
+    taken _ _ _ refl (sym same ∙ c.in_ok-carried.ensures.good)
+
+pub returns-clause-no_reading : goal.returns-clause-no_reading
+returns-clause-no_reading g c is = absurd (not_refused _ _ _ refl is)
+
+pub returns-clause-after_failure : goal.returns-clause-after_failure
+returns-clause-after_failure g c is = absurd (not_refused _ _ _ refl is)
+
+pub returns-clause-full : goal.returns-clause-full
+returns-clause-full g c is = absurd (not_refused _ _ _ refl is)
+
+pub returns-clause-memory : goal.returns-clause-memory
+returns-clause-memory g c is = absurd (not_refused _ _ _ refl is)
+
+pub returns-clause-failed : goal.returns-clause-failed
+returns-clause-failed g c _ =
+    let same = ap (λ (it : KeptAccount). it.failed) c.self.view_is in
+    taken _ _ _ refl (sym same ∙ c.in_ok-carried.ensures.good)
