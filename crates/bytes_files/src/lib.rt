@@ -19,9 +19,10 @@ pub mod writing;
 pub use closed_streams::{HeldStreams, hold_closed_streams};
 pub use fault::{FileFault, NewFault, WriteFault};
 pub use limited::{LimitedFile, size_limit};
-pub use names::{end_of_links, is_one_file, is_there};
+pub use names::{end_of_links, is_named, is_one_file, is_there, remove_own};
 pub use new_file::{check_new, put_new};
 pub use reading::{read_whole, read_whole_reel};
 pub use writing::{
-    CreatedFile, WholeFile, begin_whole, check_create, create, end_whole, keep_rights, put_whole,
+    CreatedFile, WholeFile, begin_whole, check_create, create, create_beside, create_new,
+    end_whole, keep_rights, put_whole,
 };

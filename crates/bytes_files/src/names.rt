@@ -55,12 +55,18 @@ fn are_same(first: &Metadata, second: &Metadata) -> bool {
     first.dev() == second.dev() && first.ino() == second.ino()
 }
 
+/// Whether this name is that of an open file: the file's own, and no link's.
+pub fn is_named<R: Files>(rt: &R, name: &str, file: &R::File) -> bool {
+    match (file.metadata(), fs::symlink_metadata(rt, name)) {
+        (Ok(open), Ok(named)) => are_same(&open, &named),
+        _ => false,
+    }
+}
+
 /// Takes the name of an open file away, if the name is still that file's: another process may have put its own there.
-pub(crate) fn remove_own<R: Files>(rt: &R, name: &str, file: &R::File) {
-    if let (Ok(open), Ok(named)) = (file.metadata(), fs::symlink_metadata(rt, name)) {
-        if are_same(&open, &named) {
-            let _ = fs::remove_file(rt, name);
-        }
+pub fn remove_own<R: Files>(rt: &R, name: &str, file: &R::File) {
+    if is_named(rt, name, file) {
+        let _ = fs::remove_file(rt, name);
     }
 }
 

@@ -2,9 +2,8 @@
 
 use crate::fault::{NewFault, WriteFault, write_fault};
 use crate::names::is_there;
-use crate::writing::{PartFile, begin_part, sync_folder};
+use crate::writing::{PartFile, begin_part, create_new, sync_folder};
 use bytes_streams::{ToWriter, put_all};
-use std::fs::File;
 use std::io::ErrorKind;
 use std::rt::Files;
 use std::{fs, io};
@@ -20,7 +19,7 @@ fn new_fault(kind: ErrorKind) -> NewFault {
 
 /// Gives a file this name, in the place of an empty file that is made first: a file system may have no links.
 fn take_new_name<R: Files>(rt: &R, beside: &str, name: &str) -> io::Result<()> {
-    File::create_new(rt, name)?;
+    create_new(rt, name)?;
     let renamed = fs::rename(rt, beside, name);
     if renamed.is_err() {
         let _ = fs::remove_file(rt, name);

@@ -4,7 +4,7 @@ use crate::fault::{WriteFault, write_fault};
 use crate::limited::LimitedFile;
 use crate::names::{end_of_links, remove_own, split_name};
 use bytes_streams::{ToWriter, put_all};
-use std::fs::{File, Metadata, OpenFile, OpenOptions};
+use std::fs::{Metadata, OpenFile, OpenOptions};
 use std::io::{ErrorKind, Printer, Write};
 use std::os::unix::fs::{MetadataExt, chown};
 use std::rt::Files;
@@ -62,17 +62,34 @@ impl<F: Write, O: Write> Write for WholeFile<F, O> {
     }
 }
 
-/// A new file next to the one of this name, and its own name.
-fn create_beside<R: Files + AllocGlobal>(rt: &R, name: &str) -> io::Result<(R::File, String)> {
+/// A new file of this name, which can be read, and to which bytes are added.
+///
+/// # Errors
+///
+/// As the system's: `AlreadyExists` if something has this name, `OutOfMemory` if there is no room for a name.
+pub fn create_new<R: Files>(rt: &R, name: &str) -> io::Result<R::File> {
+    OpenOptions::new()
+        .read(true)
+        .append(true)
+        .create_new(true)
+        .open(rt, name)
+}
+
+/// A new file next to the one of this name, as `create_new` makes one, and its own name.
+///
+/// # Errors
+///
+/// As those of `create_new`; `ResourceBusy` if each name that is tried is another file's.
+pub fn create_beside<R: Files + AllocGlobal>(rt: &R, name: &str) -> io::Result<(R::File, String)> {
     for number in 0..NAMES {
         let beside = format!(in rt.alloc(); "{name}.{number}.part")?;
-        match File::create_new(rt, beside.as_str()) {
+        match create_new(rt, beside.as_str()) {
             Ok(file) => return Ok((file, beside)),
             Err(error) if error.kind() == ErrorKind::AlreadyExists => {}
             Err(error) => return Err(error),
         }
     }
-    Err(io::Error::from(ErrorKind::AlreadyExists))
+    Err(io::Error::from(ErrorKind::ResourceBusy))
 }
 
 /// Gives a new file the owner, the group and the permissions of an old one, as far as the system lets us.
@@ -100,6 +117,16 @@ pub(crate) fn begin_part<R: Files + AllocGlobal>(
     })
 }
 
+/// A new file next to the one to which links from this name lead, with the rights of the old one if there is one.
+fn part_of<R: Files + AllocGlobal, O>(
+    rt: &R,
+    name: &str,
+    old: Option<Metadata>,
+) -> io::Result<Place<R::File, O>> {
+    let path = end_of_links(rt, name)?;
+    Ok(Place::Part(begin_part(rt, path, old)?))
+}
+
 /// Where the bytes go of a file of this name, which may be a device or a pipe.
 fn place_of<R: Files + AllocGlobal, O>(rt: &R, name: &str) -> io::Result<Place<R::File, O>> {
     match OpenOptions::new().write(true).open(rt, name) {
@@ -109,13 +136,9 @@ fn place_of<R: Files + AllocGlobal, O>(rt: &R, name: &str) -> io::Result<Place<R
                 return Ok(Place::Device(old));
             }
             // A link to a file stays one.
-            let path = end_of_links(rt, name)?;
-            Ok(Place::Part(begin_part(rt, path, Some(metadata))?))
+            part_of(rt, name, Some(metadata))
         }
-        Err(error) if error.kind() == ErrorKind::NotFound => {
-            let path = end_of_links(rt, name)?;
-            Ok(Place::Part(begin_part(rt, path, None)?))
-        }
+        Err(error) if error.kind() == ErrorKind::NotFound => part_of(rt, name, None),
         Err(error) => Err(error),
     }
 }
@@ -236,7 +259,7 @@ impl<F: Write, O: Write> Write for CreatedFile<F, O> {
 /// still its own.
 fn check_make<R: Files + AllocGlobal>(rt: &R, name: &str) -> io::Result<()> {
     let end = end_of_links(rt, name)?;
-    let file = File::create_new(rt, end.as_str())?;
+    let file = create_new(rt, end.as_str())?;
     remove_own(rt, end.as_str(), &file);
     Ok(())
 }

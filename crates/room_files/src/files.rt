@@ -23,6 +23,7 @@ pub(crate) fn file_fault(kind: ErrorKind, otherwise: JournalFileFault) -> Journa
         ErrorKind::NotFound | ErrorKind::NotADirectory => JournalFileFault::NotThere,
         ErrorKind::IsADirectory => JournalFileFault::Folder,
         ErrorKind::PermissionDenied | ErrorKind::ReadOnlyFilesystem => JournalFileFault::Denied,
+        ErrorKind::OutOfMemory => JournalFileFault::Memory,
         _ => otherwise,
     }
 }
@@ -65,7 +66,6 @@ pub(crate) fn bytes_of(alloc: Global, file: &File) -> Result<Vec<u8>, JournalFil
     match file.take(MOST_BYTES + 1).read_to_end(&mut bytes) {
         Ok(_) if bytes.len() as u64 > MOST_BYTES => Err(JournalFileFault::TooLong),
         Ok(_) => Ok(bytes),
-        Err(error) if error.kind() == ErrorKind::OutOfMemory => Err(JournalFileFault::Memory),
         Err(error) => Err(file_fault(error.kind(), JournalFileFault::Unreadable)),
     }
 }

@@ -5,61 +5,18 @@ use crate::fault::{JournalFileFault, KeepFault};
 use crate::files::{file_fault, keep_name, lock};
 use crate::journal_file::{Durability, JournalFile};
 use crate::keeping::begin_text;
-use bytes_files::{end_of_links, keep_rights};
+use bytes_files::{create_beside, create_new, end_of_links, is_named, keep_rights, remove_own};
 use bytes_streams::{Sink, put_all};
 use std::fs;
-use std::fs::{File, OpenOptions};
-use std::io::ErrorKind;
-use std::os::unix::fs::MetadataExt;
+use std::fs::File;
 use std::rt::Files;
 
-/// How many names are tried for a file that hasn't got its own name yet.
-const NAMES: u32 = 100;
-
-/// Whether the file of this name is this open one.
-fn is_named(rt: &impl Files<File = File>, name: &str, file: &File) -> bool {
-    match (file.metadata(), fs::symlink_metadata(rt, name)) {
-        (Ok(open), Ok(named)) => open.dev() == named.dev() && open.ino() == named.ino(),
-        _ => false,
-    }
-}
-
-/// Takes the name of an open file away, if the name is still that file's: another process may have put its own there.
-fn remove_own(rt: &impl Files<File = File>, name: &str, file: &File) {
-    if is_named(rt, name, file) {
-        let _ = fs::remove_file(rt, name);
-    }
-}
-
-/// A new file of this name, to which lines are added.
-fn make_file(rt: &impl Files<File = File>, name: &str) -> Result<File, ErrorKind> {
-    match OpenOptions::new()
-        .read(true)
-        .append(true)
-        .create_new(true)
-        .open(rt, name)
-    {
-        Ok(file) => Ok(file),
-        Err(error) => Err(error.kind()),
-    }
-}
-
-/// A new file beside the one of this name, and its own name.
+/// A new file next to the one of this name, to which lines are added, and its own name.
 fn make_beside(
     rt: &(impl Files<File = File> + AllocGlobal),
     name: &str,
 ) -> Result<(File, String), JournalFileFault> {
-    for number in 0..NAMES {
-        let Ok(beside) = format!(in rt.alloc(); "{name}.{number}.part") else {
-            return Err(JournalFileFault::Memory);
-        };
-        match make_file(rt, beside.as_str()) {
-            Ok(file) => return Ok((file, beside)),
-            Err(ErrorKind::AlreadyExists) => {}
-            Err(kind) => return Err(file_fault(kind, JournalFileFault::Unwritten)),
-        }
-    }
-    Err(JournalFileFault::Unwritten)
+    create_beside(rt, name).map_err(|error| file_fault(error.kind(), JournalFileFault::Unwritten))
 }
 
 /// Locks a file, and then gives it this name too, if there is no file of that name.
@@ -93,9 +50,9 @@ fn make_linked(
 
 /// A new file that was made under its name, and then locked.
 fn make_in_place(rt: &impl Files<File = File>, name: &str) -> Result<File, JournalFileFault> {
-    let file = match make_file(rt, name) {
+    let file = match create_new(rt, name) {
         Ok(file) => file,
-        Err(kind) => return Err(file_fault(kind, JournalFileFault::Unwritten)),
+        Err(error) => return Err(file_fault(error.kind(), JournalFileFault::Unwritten)),
     };
     if let Err(fault) = lock(&file) {
         remove_own(rt, name, &file);
