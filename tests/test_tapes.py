@@ -3,9 +3,10 @@ import re
 import unittest
 
 from tests.peer import image
-from tests.support import ProgramTest, misuse, program
+from tests.support import EXAMPLES, ProgramTest, misuse, program
 from tests.test_reel import MARK, between, codes, refuse_large_files
 
+SOURCE = EXAMPLES / "five_and_five.source"
 USAGE = "run [OPTIONS] [FILE]"
 READ, WRITE, REWIND, UNLOAD, TAPE_MARK = "~M%U1201R", "~M%U1201W", "~U%U1R", "~U%U1U", "~U%U1M"
 AREA = 'AB~"'
@@ -98,6 +99,18 @@ class Refused(TapesTest):
         self.before = self.names()
         ran = program("run", "--load", deck, "--image", self.other, "--tape", f"1={new}")
         self.expect_refused("no file is left of one", ran, 1, "ibm1401: the deck isn't loaded: ...")
+
+    def test_a_new_file_whose_other_names_are_taken(self):
+        """A file that isn't whole yet has one of a hundred names; if each is another file's, none is made."""
+        for number in range(100):
+            (self.folder / f"new.tap.{number}.part").touch()
+        error = f"ibm1401: cannot write {self.new}\n"
+        self.expect("a new reel", self.run_with(f"1={self.new}:new"), 1, "", error)
+        self.expect("an image", program("assemble", SOURCE, "-o", self.new), 1, "", error)
+        self.same("there is none", self.new.exists(), False)
+        (self.folder / "new.tap.99.part").unlink()
+        self.expect("one is free", program("assemble", SOURCE, "-o", self.new))
+        self.same("it is given back", (self.folder / "new.tap.99.part").exists(), False)
 
     def test_two_names_of_one_file(self):
         self.before = self.names()
