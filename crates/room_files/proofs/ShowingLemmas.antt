@@ -1,13 +1,16 @@
 -- What was written of a text that is no journal's.
-use Rattle.std.proofs.Common.{◌≡◌, ℕ, List, Option}
+use Rattle.std.proofs.Common.{◌≡◌, ℕ, List, [], ◌∷◌, Option, arith}
+use Rattle.std.specs.Prelude.{IfErr}
+use Rattle.std.specs.Io.KnownBytes.{Appends}
 use Rattle.room_alone.specs.declared.entry.Entry.{Entry}
 use Rattle.room_journal.specs.declared.fault.Wrong.{Wrong}
 use Rattle.room_journal.specs.declared.fault.Wrong.TheVariants as wrong
 use Rattle.room_journal.specs.declared.listing.View.{View}
 use Rattle.room_journal.specs.Reading.{IsCut, IsRefusedIn, IsTextOf}
 use Rattle.room_journal.specs.Reading.IsCut.{in_entry, in_header}
-use Rattle.room_files.specs.Showing.{IsRefusedShown, IsShownUpTo}
-use Rattle.room_files.specs.Showing.IsShownUpTo.{up_to_header}
+use Rattle.room_journal.specs.Listing.{listing_text}
+use Rattle.room_files.specs.Showing.{IsNotShown, IsRefusedShown, IsShownUpTo, unfinished}
+use Rattle.room_files.specs.Showing.IsShownUpTo.{up_to_entry, up_to_header}
 
 -- with the text of a journal, perhaps with an unfinished line after it, only memory can be refused
 abbrev pub IsMemoryOf : List ℕ → Wrong → Type 0
@@ -32,3 +35,11 @@ refused_unwritten text view old new number wrong.Answer same is memory = (is, sa
 refused_unwritten text view old new number wrong.Full same is memory = (is, same)
 refused_unwritten text view old new number wrong.Unfinished same is memory =
     cut_unwritten text view old new number same is memory
+
+-- a text that goes on after its entries is shown up to what comes after them
+pub shown_up_to : (text : List ℕ) (view : View) (old new : Option (List ℕ)) (size : ℕ) (journal : List Entry)
+    (rest : List ℕ) → IsTextOf text size journal rest → Appends old new (listing_text view journal)
+    → IfErr (unfinished journal rest) (IsNotShown text view old new)
+shown_up_to text view old new size journal [] is written = tt
+shown_up_to text view old new size journal (byte ∷ rest) is written =
+    up_to_entry text view old new size journal (byte ∷ rest) is (omega arith) written

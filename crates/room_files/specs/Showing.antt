@@ -1,5 +1,5 @@
 -- What a call that shows a journal has written and reported, once the file is read (own).
-use Rattle.std.specs.Prelude.{◌≡◌, ◌+◌, ◌<◌, ℕ, false, List, [], length, Option}
+use Rattle.std.specs.Prelude.{◌≡◌, ◌+◌, ◌<◌, ℕ, ⊤, false, List, [], ◌∷◌, length, Option, Result, Ok, Err}
 use Rattle.std.specs.Io.KnownBytes.{Appends}
 use Rattle.bytes_streams.specs.Sink.{AppendsPart}
 use Rattle.room_alone.specs.declared.entry.Entry.{Entry}
@@ -68,3 +68,15 @@ abbrev pub IsNotShown : List ℕ → View → Option (List ℕ) → Option (List
 IsNotShown text view old new fault.Memory = IsUnlisted text old new
 IsNotShown text view old new (fault.Journal why) = IsRefusedShown text view old new why.line why.why
 IsNotShown text view old new fault.Output = IsShownInPart text view old new
+
+-- why the entries of a journal that were asked for aren't written, and what was
+abbrev pub IsUnput : View → List Entry → Option (List ℕ) → Option (List ℕ) → ShowFault → Type 0
+IsUnput view journal old new fault.Memory = new ≡ old
+IsUnput view journal old new (fault.Journal why) = ⊥
+IsUnput view journal old new fault.Output = AppendsPart old new (listing_text view journal)
+
+-- the fault of a text that goes on after its entries
+abbrev pub unfinished : List Entry → List ℕ → Result ⊤ ShowFault
+unfinished journal [] = Ok tt
+unfinished journal (byte ∷ rest) =
+    Err (fault.Journal (record { line = length journal + 2; why = wrong.Unfinished }))

@@ -1,9 +1,12 @@
 //! A journal's text, shown or checked.
-ghost use Rattle.std.specs.Prelude.{◌≡◌, Err, IsTrue, IfOk, IfErr, OnOk};
-ghost use Rattle.room_journal.specs.Reading.{IsRefused};
-ghost use Rattle.room_files.specs.Showing.{IsNotShown, IsOfEntries, IsShown};
+ghost use Rattle.std.specs.Prelude.{◌≡◌, ℕ, List, Err, IsTrue, IfOk, IfErr, OnOk};
+ghost use Rattle.room_journal.specs.Reading.{IsRefused, IsTextOf};
+ghost use Rattle.std.specs.Io.KnownBytes.{Appends};
+ghost use Rattle.room_journal.specs.Listing.{listing_text};
+ghost use Rattle.room_files.specs.Showing.{IsNotShown, IsOfEntries, IsShown, IsUnput, unfinished};
 
 use bytes_streams::{Sink, put_all};
+use room_alone::{Entry, Room};
 use room_journal::{JournalFault, View, Wrong, list_journal, read_journal, recover_journal};
 use std::alloc::Global;
 use thiserror::Error;
@@ -22,6 +25,55 @@ pub enum ShowFault {
     Output,
 }
 
+/// Writes the entries of a journal that are asked for, in columns.
+fn put_listing<W: Sink>(
+    alloc: Global,
+    journal: &[Entry],
+    view: View,
+    writer: &mut W,
+) -> Result<(), ShowFault>
+    ensures shown { OnOk result (Appends (W.received writer.old) (W.received writer.new)
+        (listing_text view journal.now)) }
+    ensures fault { IfErr result (IsUnput view journal.now (W.received writer.old) (W.received writer.new)) }
+    ensures failed { result ≡ Err ShowFault.Output → IsTrue (W.has_failed writer.new) }
+{
+    let Ok(listing) = list_journal(alloc, journal, view) else {
+        return Err(ShowFault::Memory);
+    };
+    put_all(writer, listing.as_slice()).map_err(|_| ShowFault::Output)
+}
+
+/// The fault of a text that goes on after the entries of a room, if there is more.
+fn unfinished(room: &Room, rest: &[u8]) -> Result<(), ShowFault>
+    ensures { result ≡ unfinished room.now.journal rest.now }
+{
+    if rest.is_empty() {
+        return Ok(());
+    }
+    Err(ShowFault::Journal(JournalFault {
+        line: room.journal().len() as u32 + 2,
+        why: Wrong::Unfinished,
+    }))
+}
+
+/// Writes the entries of the room of a text that are asked for, and looks whether the text goes on after them.
+fn show_found<W: Sink>(
+    alloc: Global,
+    room: &Room,
+    rest: &[u8],
+    view: View,
+    writer: &mut W,
+) -> Result<(), ShowFault>
+    ensures shown { (text : List ℕ) → IsTextOf text room.now.size room.now.journal rest.now
+        → OnOk result (IsShown text view (W.received writer.old) (W.received writer.new)) }
+    ensures fault { (text : List ℕ) → IsTextOf text room.now.size room.now.journal rest.now
+        → IfErr result (IsNotShown text view (W.received writer.old) (W.received writer.new)) }
+    ensures failed { result ≡ Err ShowFault.Output → IsTrue (W.has_failed writer.new) }
+{
+    put_listing(alloc, room.journal(), view, writer)?;
+    unfinished(room, rest)
+}
+
 /// Writes the entries of a journal's text that are asked for, in columns.
 ///
 /// # Errors
@@ -38,23 +90,10 @@ pub fn show_journal<W: Sink>(
     ensures fault { IfErr result (IsNotShown text.now view (W.received writer.old) (W.received writer.new)) }
     ensures failed { result ≡ Err ShowFault.Output → IsTrue (W.has_failed writer.new) }
 {
-    let (room, rest) = match recover_journal(alloc, text) {
-        Ok(found) => found,
-        Err(fault) => return Err(ShowFault::Journal(fault)),
-    };
-    let Ok(listing) = list_journal(alloc, room.journal(), view) else {
-        return Err(ShowFault::Memory);
-    };
-    if put_all(writer, listing.as_slice()).is_err() {
-        return Err(ShowFault::Output);
+    match recover_journal(alloc, text) {
+        Ok((room, rest)) => show_found(alloc, &room, rest, view, writer),
+        Err(fault) => Err(ShowFault::Journal(fault)),
     }
-    if rest.is_empty() {
-        return Ok(());
-    }
-    Err(ShowFault::Journal(JournalFault {
-        line: room.journal().len() as u32 + 2,
-        why: Wrong::Unfinished,
-    }))
 }
 
 /// How many entries the journal of a text has, each of which is answered as the machine answers it.
