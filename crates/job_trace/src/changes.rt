@@ -9,7 +9,7 @@ ghost use Rattle.job_trace.specs.Changes.{changes_text, is_changed};
 use crate::blocks::past_blocks;
 use bcd_1401::Cell;
 use core_1401::{Core, CoreFault};
-use machine_notation::{put_cell, put_digits};
+use machine_notation::{put_cell, put_named_digits};
 use std::alloc::{AllocError, Global};
 
 /// Whether a place has another character or another word mark.
@@ -91,8 +91,7 @@ fn put_change(
     ensures { OnOk result
         (text.new.items ≡ text.old.items ++ change_text (change_at at (end - at) before.now after.now)) }
 {
-    text.push(b'\t')?;
-    put_digits(text, 5, u64::from(at))?;
+    put_named_digits(text, b"\t", 5, u64::from(at))?;
     text.push(b'|')?;
     put_cells_from(text, before, at, end)?;
     text.push(b'|')?;

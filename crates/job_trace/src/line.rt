@@ -1,13 +1,13 @@
 //! What a line of the trace tells of registers, devices and stops.
-ghost use Rattle.std.specs.Prelude.{◌≡◌, ◌++◌, OnOk};
+ghost use Rattle.std.specs.Prelude.{◌≡◌, ◌++◌, codes, OnOk};
 ghost use Rattle.devices_1401.specs.Movement.{control_of};
-ghost use Rattle.job_trace.specs.TraceLine.{is_same_movement, moved_text, movement_text, position_text, print_text};
-ghost use Rattle.job_trace.specs.TraceLine.{registers_text, stop_text, tape_text, waiting_text};
+ghost use Rattle.job_trace.specs.TraceLine.{is_same_movement, movement_text, position_text, registers_text};
+ghost use Rattle.job_trace.specs.TraceLine.{stop_text, tape_text, text_if, waiting_text};
 
 use crate::work::TapeMark;
 use cpu_1401::Stop;
 use devices_1401::Movement;
-use machine_notation::{put_digits, put_named_digits};
+use machine_notation::put_named_digits;
 use std::alloc::AllocError;
 
 /// Adds the A and the B register.
@@ -15,29 +15,22 @@ use std::alloc::AllocError;
 pub(crate) fn put_registers(text: &mut Vec<u8>, a: u16, b: u16) -> Result<(), AllocError>
     ensures { OnOk result (text.new.items ≡ text.old.items ++ registers_text a b) }
 {
-    text.push(b'\t')?;
-    put_digits(text, 5, u64::from(a))?;
-    text.push(b'\t')?;
-    put_digits(text, 5, u64::from(b))
+    put_named_digits(text, b"\t", 5, u64::from(a))?;
+    put_named_digits(text, b"\t", 5, u64::from(b))
 }
 
-/// Adds a form and a line of it.
+/// Adds words, a form and a line of it.
 #[tactic(auto, unfolding(crate::specs::TraceLine::position_text))]
-fn put_position(text: &mut Vec<u8>, form: u16, line: u8) -> Result<(), AllocError>
-    ensures { OnOk result (text.new.items ≡ text.old.items ++ position_text form line) }
+pub(crate) fn put_position(
+    text: &mut Vec<u8>,
+    words: &[u8],
+    form: u16,
+    line: u8,
+) -> Result<(), AllocError>
+    ensures { OnOk result (text.new.items ≡ text.old.items ++ words.now ++ position_text form line) }
 {
-    put_digits(text, 4, u64::from(form))?;
-    text.push(b'/')?;
-    put_digits(text, 2, u64::from(line))
-}
-
-/// Adds where a line was printed.
-#[tactic(auto, unfolding(crate::specs::TraceLine::print_text))]
-pub(crate) fn put_print(text: &mut Vec<u8>, form: u16, line: u8) -> Result<(), AllocError>
-    ensures { OnOk result (text.new.items ≡ text.old.items ++ print_text form line) }
-{
-    text.extend_from_slice(b"\tPRINT ".as_slice())?;
-    put_position(text, form, line)
+    put_named_digits(text, words, 4, u64::from(form))?;
+    put_named_digits(text, b"/", 2, u64::from(line))
 }
 
 /// Adds a tape unit and how far its reel is, if there is one.
@@ -52,15 +45,6 @@ pub(crate) fn put_tape(text: &mut Vec<u8>, tape: Option<TapeMark>) -> Result<(),
         }
         None => Ok(()),
     }
-}
-
-/// Adds where the carriage moved to.
-#[tactic(auto, unfolding(crate::specs::TraceLine::moved_text))]
-pub(crate) fn put_moved(text: &mut Vec<u8>, form: u16, line: u8) -> Result<(), AllocError>
-    ensures { OnOk result (text.new.items ≡ text.old.items ++ moved_text form line) }
-{
-    text.extend_from_slice(b"\tCARRIAGE ".as_slice())?;
-    put_position(text, form, line)
 }
 
 /// Whether two movements of the carriage are the same.
@@ -97,15 +81,24 @@ pub(crate) fn put_waiting(text: &mut Vec<u8>, movement: Movement) -> Result<(), 
     put_movement(text, movement)
 }
 
-/// Adds the name of a stop, if there is one.
-pub(crate) fn put_stop(text: &mut Vec<u8>, stop: Option<Stop>) -> Result<(), AllocError>
-    ensures { OnOk result (text.new.items ≡ text.old.items ++ stop_text stop) }
+/// Adds words, if there is cause for them.
+pub(crate) fn put_if(text: &mut Vec<u8>, holds: bool, words: &[u8]) -> Result<(), AllocError>
+    ensures { OnOk result (text.new.items ≡ text.old.items ++ text_if holds words.now) }
 {
-    match stop {
-        Some(why) => {
-            text.push(b'\t')?;
-            Ok(text.extend_from_slice(why.name().as_bytes())?)
-        }
-        None => Ok(()),
+    if holds {
+        text.extend_from_slice(words)?;
     }
+    Ok(())
+}
+
+/// Adds the name of a stop, if there is one, and ends the line.
+pub(crate) fn put_end(text: &mut Vec<u8>, stop: Option<Stop>) -> Result<(), AllocError>
+    ensures { OnOk result (text.new.items ≡ text.old.items ++ stop_text stop ++ codes "\n") }
+{
+    if let Some(why) = stop {
+        text.push(b'\t')?;
+        text.extend_from_slice(why.name().as_bytes())?;
+    }
+    text.push(b'\n')?;
+    Ok(())
 }

@@ -2,12 +2,13 @@
 ghost use Rattle.std.specs.Prelude.{◌≡◌, ◌++◌, length, IfErr, IfOk, OnOk};
 ghost use Rattle.cpu_1401.specs.State.{regs_of};
 ghost use Rattle.devices_1401.specs.Movement.{pending_of};
-ghost use Rattle.job_trace.specs.TraceLine.{carriage_text, devices_text, line_of, pending_text, seen_of, work_text};
+ghost use Rattle.job_trace.specs.TraceLine.{carriage_text, devices_text, fetched_text, line_of, pending_text};
+ghost use Rattle.job_trace.specs.TraceLine.{print_text, registers_text, seen_of, text_if, work_text};
 
 use crate::changes::{copy_of, put_changes};
 use crate::fetched::put_fetched;
 use crate::line::{
-    is_same_movement, put_moved, put_print, put_registers, put_stop, put_tape, put_waiting,
+    is_same_movement, put_end, put_if, put_position, put_registers, put_tape, put_waiting,
 };
 use crate::work::Work;
 use core_1401::{Core, CoreFault};
@@ -80,13 +81,10 @@ impl Snapshot {
         ensures line { OnOk result (text.new.items ≡ text.old.items ++ line_of self.old work stop machine.now) }
         ensures seen { OnOk result (self.new ≡ seen_of machine.now) }
     {
-        let regs = machine.regs();
-        put_fetched(text, &self.core, self.i)?;
-        put_registers(text, regs.a, regs.b)?;
-        self.put_devices(text, machine, work)?;
+        self.put_step(text, machine, work)?;
         put_changes(text, &mut self.core, machine.core())?;
-        put_stop(text, stop)?;
-        text.push(b'\n')?;
+        put_end(text, stop)?;
+        let regs = machine.regs();
         self.i = regs.i;
         self.form = regs.form;
         self.line = regs.line;
@@ -94,31 +92,31 @@ impl Snapshot {
         Ok(())
     }
 
-    /// Adds what the devices did, and where the carriage then is and what waits, if that is another than before.
+    /// Adds the instruction, the registers, what the devices did, and where the carriage then is and what waits, if
+    /// that is another than before.
     #[tactic(auto, unfolding(crate::specs::TraceLine::devices_text))]
-    fn put_devices(
-        &self,
-        text: &mut Vec<u8>,
-        machine: &Machine,
-        work: Work,
-    ) -> Result<(), AllocError>
-        ensures { OnOk result (text.new.items ≡ text.old.items ++ devices_text self.now (seen_of machine.now) work) }
+    fn put_step(&self, text: &mut Vec<u8>, machine: &Machine, work: Work) -> Result<(), AllocError>
+        ensures { OnOk result (text.new.items ≡ text.old.items
+            ++ fetched_text self.now.storage self.now.i ++ registers_text machine.now.a machine.now.b
+            ++ devices_text self.now (seen_of machine.now) work) }
     {
         let regs = machine.regs();
+        put_fetched(text, &self.core, self.i)?;
+        put_registers(text, regs.a, regs.b)?;
         self.put_work(text, work)?;
         self.put_carriage(text, regs.form, regs.line)?;
         self.put_pending(text, machine.pending_movement())
     }
 
     /// Adds where the carriage is, if it moved.
-    #[tactic(auto, unfolding(crate::specs::TraceLine::carriage_text))]
+    #[tactic(auto, unfolding(crate::specs::TraceLine::carriage_text, crate::specs::TraceLine::moved_text))]
     fn put_carriage(&self, text: &mut Vec<u8>, form: u16, line: u8) -> Result<(), AllocError>
         ensures { OnOk result (text.new.items ≡ text.old.items ++ carriage_text self.now form line) }
     {
         if self.form == form && self.line == line {
             return Ok(());
         }
-        put_moved(text, form, line)
+        put_position(text, b"\tCARRIAGE ", form, line)
     }
 
     /// Adds the movement that waits for the next print, if it didn't before.
@@ -143,15 +141,22 @@ impl Snapshot {
     fn put_work(&self, text: &mut Vec<u8>, work: Work) -> Result<(), AllocError>
         ensures { OnOk result (text.new.items ≡ text.old.items ++ work_text self.now work) }
     {
-        if work.printed {
-            put_print(text, self.form, self.line)?;
-        }
-        if work.read {
-            text.extend_from_slice(b"\tREAD".as_slice())?;
-        }
-        if work.punched {
-            text.extend_from_slice(b"\tPUNCH".as_slice())?;
-        }
+        self.put_printed(text, work.printed)?;
+        put_if(text, work.read, b"\tREAD")?;
+        put_if(text, work.punched, b"\tPUNCH")?;
         put_tape(text, work.tape)
+    }
+
+    /// Adds where a line was printed, if one was.
+    #[tactic(auto, unfolding(crate::specs::TraceLine::print_text))]
+    fn put_printed(&self, text: &mut Vec<u8>, printed: bool) -> Result<(), AllocError>
+        ensures { OnOk result
+            (text.new.items ≡ text.old.items ++ text_if printed (print_text self.now.form self.now.line)) }
+    {
+        if printed {
+            put_position(text, b"\tPRINT ", self.form, self.line)
+        } else {
+            Ok(())
+        }
     }
 }
