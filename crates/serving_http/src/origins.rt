@@ -2,7 +2,7 @@
 ghost use Rattle.std.specs.Prelude.{◌≡◌, ◌++◌, true, map, IfOk, OnOk};
 ghost use Rattle.std.specs.Char.{to_ascii_lowercase};
 ghost use Rattle.serving_http.specs.Origins.{host_at, is_text_of, origin_at, port_text, scheme_text, usual_port};
-ghost use Rattle.serving_http.specs.Origins.{whole_origin_at, IsFurtherIf};
+ghost use Rattle.serving_http.specs.Origins.{IsFurtherIf};
 
 use machine_notation::put_digits;
 use std::alloc::{AllocError, Global};
@@ -134,23 +134,16 @@ pub fn origin_at(alloc: Global, origin: &Origin) -> Result<Vec<u8>, AllocError>
     Ok(text)
 }
 
-/// The same with its port, whichever it is.
-fn whole_origin_at(alloc: Global, origin: &Origin) -> Result<Vec<u8>, AllocError>
-    ensures { IfOk result (λ text. text.items ≡ whole_origin_at origin.now) }
-{
-    let mut text = Vec::from_slice(alloc, origin.scheme.text().as_bytes())?;
-    text.extend_from_slice(origin.host.as_bytes())?;
-    put_port(&mut text, origin.port)?;
-    Ok(text)
-}
-
 /// Whether a text is that of an origin, as browsers write it, or with its port.
 fn is_text_of(alloc: Global, text: &[u8], origin: &Origin) -> Result<bool, AllocError>
     ensures { IfOk result (λ is. is ≡ is_text_of text.now origin.now) }
 {
-    let short = origin_at(alloc, origin)?;
-    let whole = whole_origin_at(alloc, origin)?;
-    Ok(text == short.as_slice() || text == whole.as_slice())
+    let mut whole = origin_at(alloc, origin)?;
+    if text == whole.as_slice() || origin.port != origin.scheme.usual_port() {
+        return Ok(text == whole.as_slice());
+    }
+    put_port(&mut whole, origin.port)?;
+    Ok(text == whole.as_slice())
 }
 
 /// The same origin at a port that is so many places further on; or none, if that is beyond 65535.
@@ -199,23 +192,26 @@ pub fn read_origin(alloc: Global, text: &str) -> Result<Origin, OriginFault>
 /// The scheme, the host and the port of an origin in small letters.
 fn parts_of(alloc: Global, text: &str) -> Result<Origin, OriginFault> {
     let (scheme, rest) = scheme_of(text)?;
-    if rest
+    let (host, digits) = host_and_digits(alloc, rest)?;
+    let port = port_of(scheme, digits)?;
+    let host = String::from_str(alloc, host)?;
+    Ok(Origin { scheme, host, port })
+}
+
+/// The host of an origin, and the digits of the port after it, if there is one.
+fn host_and_digits(alloc: Global, text: &str) -> Result<(&str, Option<&str>), OriginFault> {
+    if text
         .as_bytes()
         .iter()
         .any(|byte| matches!(*byte, b'/' | b'?' | b'#' | b'@'))
     {
         return Err(OriginFault::More);
     }
-    let (host, port) = if rest.starts_with('[') {
-        bracketed_host(alloc, rest)?
+    if text.starts_with('[') {
+        bracketed_host(alloc, text)
     } else {
-        named_host(alloc, rest)?
-    };
-    let port = match port {
-        None => scheme.usual_port(),
-        Some(digits) => port_of(digits)?,
-    };
-    Ok(Origin { scheme, host, port })
+        named_host(text)
+    }
 }
 
 /// The scheme of an origin, and what comes after it.
@@ -230,40 +226,41 @@ fn scheme_of(text: &str) -> Result<(Scheme, &str), OriginFault> {
 }
 
 /// A host that is a name or an IPv4 address, and the digits of the port after it, if there is one.
-fn named_host(alloc: Global, text: &str) -> Result<(String, Option<&str>), OriginFault> {
+fn named_host(text: &str) -> Result<(&str, Option<&str>), OriginFault> {
     let (name, port) = match text.split_once(':') {
         Some((name, port)) => (name, Some(port)),
         None => (text, None),
     };
-    if !is_name(name) {
-        return Err(OriginFault::Host);
+    if is_name(name) {
+        Ok((name, port))
+    } else {
+        Err(OriginFault::Host)
     }
-    Ok((String::from_str(alloc, name)?, port))
 }
 
 /// A host that is an IPv6 address in brackets, and the digits of the port after it, if there is one.
-fn bracketed_host(alloc: Global, text: &str) -> Result<(String, Option<&str>), OriginFault> {
+fn bracketed_host(alloc: Global, text: &str) -> Result<(&str, Option<&str>), OriginFault> {
     let Some((bracketed, after)) = text.split_once(']') else {
         return Err(OriginFault::Host);
     };
-    let Some(address) = bracketed.strip_prefix("[") else {
+    let (Some(address), Some(host)) = (bracketed.strip_prefix("["), text.strip_suffix(after)) else {
         return Err(OriginFault::Host);
     };
     if !is_ipv6(alloc, address)? {
         return Err(OriginFault::Host);
     }
-    let host = format!(in alloc; "[{address}]")?;
-    if after.is_empty() {
-        return Ok((host, None));
-    }
     match after.strip_prefix(":") {
         Some(port) => Ok((host, Some(port))),
+        None if after.is_empty() => Ok((host, None)),
         None => Err(OriginFault::Host),
     }
 }
 
-/// A port in digits.
-fn port_of(digits: &str) -> Result<u16, OriginFault> {
+/// A port in digits, or else the usual one of a scheme.
+fn port_of(scheme: Scheme, digits: Option<&str>) -> Result<u16, OriginFault> {
+    let Some(digits) = digits else {
+        return Ok(scheme.usual_port());
+    };
     match digits.parse::<u16>() {
         Ok(port) if port > 0 => Ok(port),
         _ => Err(OriginFault::Port),

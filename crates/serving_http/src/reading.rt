@@ -105,17 +105,6 @@ impl<R: Clock> Read for Recorder<'_, R> {
     }
 }
 
-/// What reading a request has come to.
-#[derive(Clone, Copy)]
-enum Turn {
-    /// More is to be read or written.
-    More,
-    /// The request is whole.
-    Whole,
-    /// It was refused for its form, and the refusal is written.
-    Refused,
-}
-
 /// Reads the request of a connection to the page of this site, until it is whole. One that is refused for its form is
 /// answered so, and then there is none.
 ///
@@ -128,6 +117,7 @@ pub fn read_request<R: AllocGlobal + RandomSource + Clock>(
     stream: &TcpStream,
 ) -> io::Result<Option<WholeRequest>> {
     stream.set_nodelay(true)?;
+    let keys = RandomState::new(rt)?;
     let mut notice = Notice {
         site,
         is_whole: false,
@@ -137,7 +127,7 @@ pub fn read_request<R: AllocGlobal + RandomSource + Clock>(
         stream: Patient::new(rt, stream),
         bytes: Vec::new(rt.alloc()),
     };
-    read_whole(rt, stream, &mut notice, &mut reader)?;
+    read_whole(rt, keys, stream, &mut notice, &mut reader)?;
     if !notice.is_whole {
         linger(rt, stream);
         return Ok(None);
@@ -149,21 +139,36 @@ pub fn read_request<R: AllocGlobal + RandomSource + Clock>(
 }
 
 /// Reads until the request is whole, or refused and answered.
-fn read_whole<R: AllocGlobal + RandomSource + Clock>(
+fn read_whole<R: AllocGlobal + Clock>(
     rt: &R,
+    keys: RandomState,
     stream: &TcpStream,
     notice: &mut Notice<'_>,
     reader: &mut Recorder<'_, R>,
 ) -> io::Result<()> {
-    let mut connection = Connection::new(rt.alloc(), RandomState::new(rt)?, page_config());
-    let mut writer = Patient::new(rt, stream);
+    let mut connection = Connection::new(rt.alloc(), keys, page_config());
+    take_turns(
+        &mut connection,
+        notice,
+        reader,
+        &mut Patient::new(rt, stream),
+    )
+}
 
+/// Reads and writes in turn, until the request is whole, or refused and answered.
+fn take_turns<R: Clock>(
+    connection: &mut Connection,
+    notice: &mut Notice<'_>,
+    reader: &mut Recorder<'_, R>,
+    writer: &mut Patient<'_, R>,
+) -> io::Result<()> {
     // A loop is proved to end, so this one counts its turns.
     for _ in 0..u64::MAX {
-        match take_turn(&mut connection, notice, reader, &mut writer)? {
-            Turn::More => {}
-            Turn::Whole | Turn::Refused => return Ok(()),
+        connection.advance(notice);
+        if notice.is_whole || connection.is_done() {
+            return Ok(());
         }
+        take_turn(connection, reader, writer)?;
     }
     Err(ErrorKind::TimedOut.into())
 }
@@ -171,23 +176,15 @@ fn read_whole<R: AllocGlobal + RandomSource + Clock>(
 /// Reads or writes what the connection wants next.
 fn take_turn<R: Clock>(
     connection: &mut Connection,
-    notice: &mut Notice<'_>,
     reader: &mut Recorder<'_, R>,
     writer: &mut Patient<'_, R>,
-) -> io::Result<Turn> {
-    connection.advance(notice);
-    if notice.is_whole {
-        return Ok(Turn::Whole);
-    }
-    if connection.is_done() {
-        return Ok(Turn::Refused);
-    }
+) -> io::Result<()> {
     if !connection.wants_write() {
         connection.read_from(reader)?;
     } else if connection.write_to(writer)? == 0 {
         return Err(ErrorKind::WriteZero.into());
     }
-    Ok(Turn::More)
+    Ok(())
 }
 
 /// Sends the bytes of an answer.

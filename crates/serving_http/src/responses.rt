@@ -49,8 +49,7 @@ fn put_common_fields(response: &mut Response) -> Result<(), AllocError>
     put_field(response, "cache-control", "no-store")?;
     put_field(response, "x-content-type-options", "nosniff")?;
     put_field(response, "referrer-policy", "no-referrer")?;
-    put_field(response, "connection", "close")?;
-    Ok(())
+    put_field(response, "connection", "close")
 }
 
 /// Refuses a request by a status.

@@ -34,17 +34,11 @@ fn by_method(method: &str, wanted: &str, route: Route) -> Route
 pub fn route_of(method: &str, path: &str) -> Route
     ensures { result ≡ route_of method.now path.now }
 {
-    if path == "/" {
-        return by_method(method, "GET", Route::Page);
+    match path {
+        "/" => by_method(method, "GET", Route::Page),
+        "/picture" => by_method(method, "GET", Route::Picture),
+        "/line" => by_method(method, "POST", Route::Line),
+        "/lines" => by_method(method, "POST", Route::Lines),
+        _ => Route::Unknown,
     }
-    if path == "/picture" {
-        return by_method(method, "GET", Route::Picture);
-    }
-    if path == "/line" {
-        return by_method(method, "POST", Route::Line);
-    }
-    if path == "/lines" {
-        return by_method(method, "POST", Route::Lines);
-    }
-    Route::Unknown
 }
