@@ -112,11 +112,13 @@ where
         refuse(&stream);
         return Ok(false);
     }
-    let started = scope.spawn(move || {
-        attend_arrival(page, &stream, number, asked);
-        crowd.leave(rt, number);
-    });
-    if started.is_err() {
+    if scope
+        .spawn(move || {
+            attend_arrival(page, &stream, number, asked);
+            crowd.leave(rt, number);
+        })
+        .is_err()
+    {
         crowd.leave(rt, number);
         return Err(SeatsFault::Thread);
     }
@@ -163,9 +165,9 @@ fn answer_to<J: RoomId, R: Wait + Clock + AllocGlobal + RandomSource>(
     request: WholeRequest,
     asked: Sender<Asked>,
 ) -> Option<Vec<u8>> {
-    match page.answer(request) {
+    match page.answer(&request) {
         Answered::Here(answer) => answer,
-        Answered::AtSeat(request) => ask(page.serving.rt, request, asked),
+        Answered::AtSeat => ask(page.serving.rt, request, asked),
     }
 }
 

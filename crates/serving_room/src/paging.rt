@@ -64,12 +64,14 @@ where
     R: Threads + Wait + Sync + Clock + AllocGlobal + RandomSource + 's,
     requires { (0 < seat) × (seat ≤ J.seats) }
 {
-    let started = scope.spawn(
-        move ||
-            requires { (0 < seat) × (seat ≤ J.seats) }
-        { serve_page(serving, room, port, seat) },
-    );
-    if started.is_err() {
+    if scope
+        .spawn(
+            move ||
+                requires { (0 < seat) × (seat ≤ J.seats) }
+            { serve_page(serving, room, port, seat) },
+        )
+        .is_err()
+    {
         serving.give_up(port, SeatsFault::Thread);
     }
 }
@@ -146,15 +148,14 @@ where
     requires { (0 < page.now.seat) × (page.now.seat ≤ J.seats) }
 {
     let serving = page.serving;
-    let accepting = scope.spawn(move || accept_arrivals(page, asked));
-    if accepting.is_err() {
+    if scope.spawn(move || accept_arrivals(page, asked)).is_err() {
         serving.give_up(page.port, SeatsFault::Thread);
         return;
     }
     answer_visits(
         room,
         page,
-        Visits::new(serving.rt, serving.service, receiver),
+        &mut Visits::new(serving.rt, serving.service, receiver),
     );
 }
 
@@ -164,7 +165,7 @@ where
 fn answer_visits<J, H, K, R>(
     room: &SharedRoom<J, H, K>,
     page: &PageOfRoom<'_, J, R>,
-    visits: Visits<'_, J, R>,
+    visits: &mut Visits<'_, J, R>,
 )
 where
     J: RoomId,
@@ -175,7 +176,6 @@ where
 {
     let rt = page.serving.rt;
     let service = page.serving.service;
-    let mut visits = visits;
     for _ in rt.forever() {
         if !visits.wait() {
             return;
@@ -183,12 +183,12 @@ where
         match service.take_free(rt, page.seat) {
             Some(seat) => {
                 let seats = service.seats();
-                let seat = answer_at(room, page, seat, seats, &mut visits);
+                let seat = answer_at(room, page, seat, seats, visits);
                 service.put_back(rt, seat);
             }
             None => {
                 let mut taken = TakenPage::new(&page.port.site, &document());
-                answer_each(rt, &mut taken, &mut visits);
+                answer_each(rt, &mut taken, visits);
             }
         }
         visits.leave();

@@ -31,7 +31,7 @@ pub(crate) enum Answered {
     /// It was answered by these bytes; or it isn't answered, since memory was refused.
     Here(Option<Vec<u8>>),
     /// It goes to the page's seat.
-    AtSeat(WholeRequest),
+    AtSeat,
 }
 
 /// Whether the bytes of a connection are a request about a room.
@@ -91,22 +91,22 @@ pub(crate) struct PageOfRoom<'a, J: RoomId, R> {
 impl<'a, J: RoomId, R: Wait + Clock + AllocGlobal + RandomSource> PageOfRoom<'a, J, R> {
     /// Answers a request about the room, and what another page's hold keeps off; any other request goes to the seat. If
     /// the clock can't be read, nobody holds the machine, and requests about the room aren't answered.
-    pub(crate) fn answer(&self, request: WholeRequest) -> Answered {
+    pub(crate) fn answer(&self, request: &WholeRequest) -> Answered {
         let rt = self.serving.rt;
         let is_about_room = is_about_room(request.bytes.as_slice());
         let Ok(clock) = rt.monotonic() else {
             return if is_about_room {
                 Answered::Here(None)
             } else {
-                Answered::AtSeat(request)
+                Answered::AtSeat
             };
         };
         let time = clock.as_secs();
         let mut held = self.serving.pages.hold.lock(rt);
-        let hold = self.hold_at(&request, *held, time);
+        let hold = self.hold_at(request, *held, time);
         *held = hold;
         if !is_about_room && !is_kept_off(hold, self.seat) {
-            return Answered::AtSeat(request);
+            return Answered::AtSeat;
         }
         let Ok(taken) = self.serving.service.taken(rt, rt.alloc()) else {
             return Answered::Here(None);
@@ -115,7 +115,7 @@ impl<'a, J: RoomId, R: Wait + Clock + AllocGlobal + RandomSource> PageOfRoom<'a,
         let answer = answer_bytes(rt, &mut page, request.bytes.as_slice());
         *held = page.room.hold;
         if page.room.passes {
-            return Answered::AtSeat(request);
+            return Answered::AtSeat;
         }
         if page.room.asks {
             // If no new room may follow, this has no effect.

@@ -96,21 +96,14 @@ where
     ensures accounted { result.fault ≢ Some SeatsFault.Unreturned
         → IsAccounted J.seats (kept_part (K.has_failed result.keeper) result.room.journal) }
 {
-    let (seats, fault) = match SeatService::new(rt.alloc(), seats) {
+    match SeatService::new(rt.alloc(), seats) {
         Ok(service) => {
-            let in_common = RoomPages::new(rt);
-            let serving = Serving {
-                rt,
-                service: &service,
-                pages: &in_common,
-                watch,
-            };
-            serve_connections(&serving, &room, listeners, input, door);
-            service.into_seats()
+            serve_connections(rt, &service, &room, listeners, watch, input, door);
+            let (seats, fault) = service.into_seats();
+            end_service(room, seats, fault)
         }
-        Err(seats) => (Some(seats), Some(SeatsFault::Memory)),
-    };
-    end_service(room, seats, fault)
+        Err(seats) => end_service(room, Some(seats), Some(SeatsFault::Memory)),
+    }
 }
 
 /// Closes a room, or abandons it if not all of its seats are back.
@@ -150,10 +143,12 @@ fn end_service<J: RoomId, H: Wait + Drop, K: Keeper + Drop>(
 }
 
 /// Attends consoles and answers pages until the input closes the room, and until all of them have ended.
-fn serve_connections<J, H, K, R, S, D>(
-    serving: &Serving<'_, J, R>,
+fn serve_connections<'x, J, H, K, R, S, D>(
+    rt: &'x R,
+    service: &'x SeatService<J>,
     room: &SharedRoom<J, H, K>,
     listeners: Listeners<'_>,
+    watch: &'x Watch,
     input: S,
     door: &D,
 )
@@ -167,9 +162,17 @@ where
     requires pages { length listeners.pages.now ≤ J.seats }
     requires count { J.seats < 2 ^ 8 }
 {
+    let in_common = RoomPages::new(rt);
+    let serving = Serving {
+        rt,
+        service,
+        pages: &in_common,
+        watch,
+    };
+    let serving = &serving;
     thread::scope(
         thread::scope_env(),
-        serving.rt,
+        rt,
         move |scope|
             requires { (length listeners.pages.now ≤ J.seats) × (J.seats < 2 ^ 8) }
         { listen(scope, serving, room, listeners, input, door) },
@@ -198,8 +201,10 @@ where
 {
     let rt = serving.rt;
     let service = serving.service;
-    let closing = scope.spawn(move || close_by_input(serving, listeners, input));
-    if closing.is_err() {
+    if scope
+        .spawn(move || close_by_input(serving, listeners, input))
+        .is_err()
+    {
         service.note(rt, SeatsFault::Thread);
         return;
     }
