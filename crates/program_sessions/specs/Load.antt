@@ -28,6 +28,17 @@ pub record IsTooLong (features : Features) (text : List ℕ) : Type 0 where
   pub text_is : IsTextOf text image
   pub more : most_entries < length (fit_entries features ++ load_entries image)
 
+-- why an image wasn't put into a new room: its commands, with that of the features, are too many; or want of memory
+abbrev pub IsWhyNotPut : Features → Image → HoldFault → Type 0
+IsWhyNotPut features image fault.Output = ⊥
+IsWhyNotPut features image fault.Size = ⊥
+IsWhyNotPut features image (fault.Unread name) = ⊥
+IsWhyNotPut features image (fault.Image why) = ⊥
+IsWhyNotPut features image fault.JournalFull = most_entries < length (fit_entries features ++ load_entries image)
+IsWhyNotPut features image fault.Memory = ⊤
+IsWhyNotPut features image (fault.Session why) = ⊥
+IsWhyNotPut features image (fault.Kept why) = ⊥
+
 -- why no image was loaded: the text's own fault; too many segments; or want of memory
 abbrev pub IsWhyNotLoaded : Features → List ℕ → HoldFault → Type 0
 IsWhyNotLoaded features text fault.Output = ⊥

@@ -1,23 +1,19 @@
 //! What the subcommands `journal` and `resume` do, and sessions whose journal is kept.
-ghost use Rattle.std.specs.Prelude.{◌≡◌, false, IfOk, length, unwrap_or};
-ghost use Rattle.room_alone.specs.Journal.{pairs_of};
-ghost use Rattle.room_journal.specs.Choice.{chosen};
+ghost use Rattle.std.specs.Prelude.{IfOk};
 ghost use Rattle.program_sessions.specs.Choosing.{HasChosen};
 
 use crate::fault::{HoldFault, console_fault, ended};
 use crate::loading::{load_file, loaded_room, read_file};
 use bytes_streams::{FromReader, Sink, Source, ToWriter};
 use console_1401::put_features;
-use console_lines::SessionEnd;
 use console_terminal::console;
 use core_1401::CoreFault;
 use machine_panel::Features;
 use program_call::{NewJournal, Opening, Resuming, Session, Showing};
 use room_alone::{Room, session};
 use room_files::{
-    Durability, JournalFile, KeepFault, MadeJournal, ShowFault, TakenUp, TextFault, check_journal,
-    create_journal, keep_session, read_journal_file, read_room, resume_session, show_journal,
-    take_up_journal,
+    Durability, KeepFault, MadeJournal, ShowFault, TakenUp, check_journal, create_journal,
+    keep_session, read_journal_file, read_room, resume_session, show_journal, take_up_journal,
 };
 use room_journal::{JournalFault, View, carry_chosen};
 use std::alloc::Global;
@@ -122,39 +118,59 @@ pub fn hold_session<R: Files<File = File> + Input + Print + Eprint + AllocGlobal
     asked: Session,
 ) -> Result<(), HoldFault> {
     let Session { opening, journal } = asked;
+    let mut reader = FromReader::new(rt.reader());
+    let mut writer = ToWriter::new(io::writer(rt));
     match journal {
-        None => hold_unkept(rt, opening),
-        Some(journal) => keep_in_new(rt, begun_room(rt, opening)?, journal),
+        None => hold_unkept(rt, opening, &mut reader, &mut writer),
+        Some(journal) => hold_kept(rt, opening, journal, &mut reader, &mut writer),
     }
 }
 
 /// The same without a new file.
-fn hold_unkept<R: Files<File = File> + Input + Print + Eprint + AllocGlobal>(
-    rt: &R,
+fn hold_unkept<R: Source, W: Sink>(
+    rt: &(impl Files<File = File> + Eprint + AllocGlobal),
     opening: Opening,
+    reader: &mut R,
+    writer: &mut W,
 ) -> Result<(), HoldFault> {
     match opening {
-        Opening::PowerOn(size, features) => hold_console(rt, size, features),
-        Opening::Image(file, features) => load_file(rt, file, features),
+        Opening::PowerOn(size, features) => {
+            hold_console(rt.alloc(), size, features, reader, writer)
+        }
+        Opening::Image(file, features) => load_file(rt, file, features, reader, writer),
         Opening::Journal(asked) => match asked.until {
-            None => go_on(rt, asked.file, durability_of(asked.sync)),
-            Some(_) => look_at(rt, read_chosen(rt, asked)?),
+            None => go_on(rt, asked.file, durability_of(asked.sync), reader, writer),
+            Some(_) => look_at(rt.alloc(), read_chosen(rt, asked)?, reader, writer),
         },
     }
 }
 
-/// Holds one of standard input and output at the console of a new room, whose machine has these features.
-fn hold_console<R: Input + Print + AllocGlobal>(
-    rt: &R,
+/// The same with a journal that is kept in a new file.
+fn hold_kept<R: Source, W: Sink>(
+    rt: &(impl Files<File = File> + AllocGlobal),
+    opening: Opening,
+    journal: NewJournal,
+    reader: &mut R,
+    writer: &mut W,
+) -> Result<(), HoldFault> {
+    match begun_room(rt, opening) {
+        Ok(room) => keep_in_new(rt, room, journal, reader, writer),
+        Err(fault) => Err(fault),
+    }
+}
+
+/// Holds a session at the console of a new room, whose machine has these features.
+fn hold_console<R: Source, W: Sink>(
+    alloc: Global,
     size: u16,
     features: Features,
+    reader: &mut R,
+    writer: &mut W,
 ) -> Result<(), HoldFault> {
     if features == Features::NONE {
-        let mut reader = FromReader::new(rt.reader());
-        let mut writer = ToWriter::new(io::writer(rt));
-        return console(rt.alloc(), size, &mut reader, &mut writer).map_err(console_fault);
+        return console(alloc, size, reader, writer).map_err(console_fault);
     }
-    look_at(rt, new_room(rt.alloc(), size, features)?)
+    look_at(alloc, new_room(alloc, size, features)?, reader, writer)
 }
 
 /// What an entry outlasts, with `--sync` or without.
@@ -166,33 +182,26 @@ pub fn durability_of(sync: bool) -> Durability {
     }
 }
 
-/// Keeps a room in a new file, and holds a session of standard input and output at its console.
-fn keep_in_new<R: Files<File = File> + Input + Print + AllocGlobal>(
-    rt: &R,
+/// Keeps a room in a new file, and holds a session at its console.
+fn keep_in_new<R: Source, W: Sink>(
+    rt: &(impl Files<File = File> + AllocGlobal),
     room: Room,
     journal: NewJournal,
-) -> Result<(), HoldFault> {
-    let NewJournal { file, sync } = journal;
-    let made = create_journal(rt, file, durability_of(sync)).map_err(HoldFault::Kept)?;
-    let MadeJournal { file, name } = made;
-    let mut reader = FromReader::new(rt.reader());
-    let mut writer = ToWriter::new(io::writer(rt));
-    match keep_by(rt.alloc(), room, file, &mut reader, &mut writer) {
-        Ok(end) => ended(end),
-        // The file has no journal.
-        Err(fault) => Err(HoldFault::Kept(KeepFault::of_text(name.remove(rt), fault))),
-    }
-}
-
-/// Keeps a room by a sink, and holds a session at its console.
-fn keep_by<S: Sink + Drop, R: Source, W: Sink>(
-    alloc: Global,
-    room: Room,
-    sink: S,
     reader: &mut R,
     writer: &mut W,
-) -> Result<SessionEnd, TextFault> {
-    keep_session::<Brand, S, R, W>(alloc, room, sink, reader, writer)
+) -> Result<(), HoldFault> {
+    let NewJournal { file, sync } = journal;
+    match create_journal(rt, file, durability_of(sync)) {
+        Ok(MadeJournal { file, name }) => {
+            let held = keep_session::<Brand, _, _, _>(rt.alloc(), room, file, reader, writer);
+            match held {
+                Ok(end) => ended(end),
+                // The file has no journal.
+                Err(fault) => Err(HoldFault::Kept(KeepFault::of_text(name.remove(rt), fault))),
+            }
+        }
+        Err(fault) => Err(HoldFault::Kept(fault)),
+    }
 }
 
 /// The room after those commands of a file's journal that are asked for.
@@ -212,9 +221,10 @@ pub fn read_chosen(
         without,
         ..
     } = asked;
-    let room = read_room(rt, file).map_err(HoldFault::Kept)?;
-    let _journal = room.journal();
-    chosen_room(rt.alloc(), &room, until, without.as_slice())
+    match read_room(rt, file) {
+        Ok(room) => chosen_room(rt.alloc(), &room, until, without.as_slice()),
+        Err(fault) => Err(HoldFault::Kept(fault)),
+    }
 }
 
 /// A room that has carried out some of a room's commands again.
@@ -228,9 +238,7 @@ fn chosen_room(
     until: Option<u64>,
     without: &[u64],
 ) -> Result<Room, HoldFault>
-    ensures commands { IfOk result (λ made. pairs_of made.journal
-        ≡ chosen (unwrap_or until (length room.now.journal)) without.now room.now.journal) }
-    ensures size { IfOk result (λ made. made.size ≡ room.now.size) }
+    ensures { IfOk result (HasChosen until without.now) }
 {
     let entries = room.journal().len() as u64;
     let until = until.unwrap_or(entries);
@@ -246,12 +254,15 @@ fn chosen_room(
     carry_chosen(alloc, size, room.journal(), until, without).map_err(|_| HoldFault::Memory)
 }
 
-/// Holds a session of standard input and output at the console of a room, of which nothing is kept.
-fn look_at<R: Input + Print + AllocGlobal>(rt: &R, room: Room) -> Result<(), HoldFault> {
+/// Holds a session at the console of a room, of which nothing is kept.
+fn look_at<R: Source, W: Sink>(
+    alloc: Global,
+    room: Room,
+    reader: &mut R,
+    writer: &mut W,
+) -> Result<(), HoldFault> {
     let mut room = room;
-    let mut reader = FromReader::new(rt.reader());
-    let mut writer = ToWriter::new(io::writer(rt));
-    ended(session(rt.alloc(), &mut room, &mut reader, &mut writer))
+    ended(session(alloc, &mut room, reader, writer))
 }
 
 /// Tells on standard error which line was cut off, if one was.
@@ -262,36 +273,26 @@ pub fn tell_cut(rt: &impl Eprint, cut: Option<u32>) {
 }
 
 /// Goes on in the file of a journal.
-fn go_on<R: Files<File = File> + Input + Print + Eprint + AllocGlobal>(
-    rt: &R,
+fn go_on<R: Source, W: Sink>(
+    rt: &(impl Files<File = File> + Eprint + AllocGlobal),
     file: String,
     durability: Durability,
-) -> Result<(), HoldFault> {
-    let TakenUp {
-        room,
-        file,
-        cut,
-        ..
-    } = match take_up_journal(rt, file, durability) {
-        Ok(taken) => taken,
-        Err(fault) => return Err(HoldFault::Kept(fault)),
-    };
-    tell_cut(rt, cut);
-    let mut reader = FromReader::new(rt.reader());
-    let mut writer = ToWriter::new(io::writer(rt));
-    ended(resume_by(rt.alloc(), room, file, &mut reader, &mut writer))
-}
-
-/// Holds a session at the console of a room by the file that has its journal.
-fn resume_by<R: Source, W: Sink>(
-    alloc: Global,
-    room: Room,
-    sink: JournalFile,
     reader: &mut R,
     writer: &mut W,
-) -> SessionEnd
-    requires good { ⟦<JournalFile as Sink>⟧.has_failed sink ≡ false }
-{
-    // What the file had before is unknown, and so is what it has.
-    resume_session::<Brand, JournalFile, R, W>(alloc, room, sink, reader, writer)
+) -> Result<(), HoldFault> {
+    match take_up_journal(rt, file, durability) {
+        Ok(
+            TakenUp {
+                room,
+                file,
+                cut,
+                ..
+            },
+        ) => {
+            tell_cut(rt, cut);
+            // What the file had before is unknown, and so is what it has.
+            ended(resume_session::<Brand, _, _, _>(rt.alloc(), room, file, reader, writer))
+        }
+        Err(fault) => Err(HoldFault::Kept(fault)),
+    }
 }

@@ -1,18 +1,20 @@
 //! What the subcommand `load` does.
-ghost use Rattle.std.specs.Prelude.{◌≡◌, IfOk, IfErr};
+ghost use Rattle.std.specs.Prelude.{◌≡◌, ◌++◌, [], true, nat_lt, IfOk, IfErr, OnOk};
+ghost use Rattle.std.specs.List.{list_all};
+ghost use Rattle.machine_image.specs.Image.{is_inside};
+ghost use Rattle.console_1401.specs.ImageLoading.{fit_entries, load_entries};
 ghost use Rattle.console_terminal.specs.Console.{streams};
-ghost use Rattle.program_sessions.specs.Load.{LoadDid, IsLoadedRoom, IsWhyNotLoaded};
+ghost use Rattle.program_sessions.specs.Load.{LoadDid, IsLoadedRoom, IsWhyNotLoaded, IsWhyNotPut};
 
 use crate::fault::{HoldFault, ended};
 use bytes_files::{FileFault, read_whole};
-use bytes_streams::{FromReader, Sink, Source, ToWriter};
+use bytes_streams::{Sink, Source};
 use console_1401::{put_features, put_lent_image};
 use core_1401::CoreFault;
-use machine_image::lend_image;
+use machine_image::{LentImage, lend_image};
 use machine_panel::Features;
 use room_alone::{Room, RoomFault, session};
 use std::alloc::Global;
-use std::io;
 use std::rt::Files;
 
 /// The bytes of a file.
@@ -28,26 +30,22 @@ pub fn read_file(rt: &(impl Files + AllocGlobal), name: String) -> Result<Vec<u8
     }
 }
 
-/// Holds a session at standard input and output, on a machine with these features and the image of a file loaded.
+/// One session at the console of a machine with these features and the image of a file loaded.
 ///
 /// # Errors
 ///
 /// `Unread` if the file can't be read, and what `load` fails by.
-pub fn load_file<R: Files + Input + Print + AllocGlobal>(
-    rt: &R,
+pub(crate) fn load_file<R: Source, W: Sink>(
+    rt: &(impl Files + AllocGlobal),
     file: String,
     features: Features,
+    reader: &mut R,
+    writer: &mut W,
 ) -> Result<(), HoldFault> {
-    let text = read_file(rt, file)?;
-    let mut reader = FromReader::new(rt.reader());
-    let mut writer = ToWriter::new(io::writer(rt));
-    load(
-        rt.alloc(),
-        text.as_slice(),
-        features,
-        &mut reader,
-        &mut writer,
-    )
+    match read_file(rt, file) {
+        Ok(text) => load(rt.alloc(), text.as_slice(), features, reader, writer),
+        Err(fault) => Err(fault),
+    }
 }
 
 /// One session at the console of a new room whose machine has these features, and the image of this text loaded.
@@ -71,13 +69,40 @@ pub fn load<R: Source, W: Sink>(
     ended(end)
 }
 
+/// Fits the machine of a new room with features, and loads an image.
+///
+/// # Errors
+///
+/// `Memory` or `JournalFull`.
+#[tactic(auto, using(crate::proofs::LoadLemmas::too_many))]
+fn put_program(room: &mut Room, image: &LentImage<'_>, features: Features) -> Result<(), HoldFault>
+    requires new { room.old.journal ≡ [] }
+    requires size { image.now.size ≡ room.old.size }
+    requires segments { list_all (is_inside image.now.size) image.now.segments ≡ true }
+    requires start { nat_lt image.now.start image.now.size ≡ true }
+    ensures ok { OnOk result (room.new.journal ≡ fit_entries features ++ load_entries image.now) }
+    ensures err { IfErr result (IsWhyNotPut features image.now) }
+    ensures size { room.new.size ≡ room.old.size }
+{
+    // The journal of a new room isn't full.
+    if put_features(room, features).is_err() {
+        return Err(HoldFault::Memory);
+    }
+    match put_lent_image(room, image) {
+        Ok(()) => Ok(()),
+        Err(RoomFault::Memory) => Err(HoldFault::Memory),
+        Err(RoomFault::JournalFull) => Err(HoldFault::JournalFull),
+        Err(RoomFault::NoReading | RoomFault::Unkept) => unreachable!(),
+    }
+}
+
 /// A new room of an image's size whose machine has these features, and the image loaded. Of the image one segment is
 /// held at a time.
 ///
 /// # Errors
 ///
 /// `Image` if the text is no image's; `Memory` or `JournalFull` if the image isn't loaded.
-#[tactic(auto, using(crate::proofs::LoadLemmas::too_long))]
+#[tactic(auto, using(crate::proofs::LoadLemmas::not_loaded))]
 pub fn loaded_room(alloc: Global, text: &[u8], features: Features) -> Result<Room, HoldFault>
     ensures ok { IfOk result (IsLoadedRoom features text.now) }
     ensures err { IfErr result (IsWhyNotLoaded features text.now) }
@@ -91,15 +116,8 @@ pub fn loaded_room(alloc: Global, text: &[u8], features: Features) -> Result<Roo
         Err(CoreFault::Memory) => return Err(HoldFault::Memory),
         Err(CoreFault::Size) => unreachable!(),
     };
-    // The journal of a new room isn't full.
-    match put_features(&mut room, features) {
-        Ok(()) => {}
-        Err(_) => return Err(HoldFault::Memory),
-    }
-    match put_lent_image(&mut room, &image) {
+    match put_program(&mut room, &image, features) {
         Ok(()) => Ok(room),
-        Err(RoomFault::Memory) => Err(HoldFault::Memory),
-        Err(RoomFault::JournalFull) => Err(HoldFault::JournalFull),
-        Err(RoomFault::NoReading | RoomFault::Unkept) => unreachable!(),
+        Err(fault) => Err(fault),
     }
 }
