@@ -26,7 +26,9 @@ fn listener_at(
     rt: &impl Net<Listener = TcpListener, Stream = TcpStream>,
     port: u16,
 ) -> Result<TcpListener, OpenFault> {
-    let listener = TcpListener::bind(rt, (Ipv4Addr::LOCALHOST, port)).map_err(|_| OpenFault::Port)?;
+    let Ok(listener) = TcpListener::bind(rt, (Ipv4Addr::LOCALHOST, port)) else {
+        return Err(OpenFault::Port);
+    };
     lengthen_queue(&listener);
     Ok(listener)
 }
@@ -101,6 +103,20 @@ fn site_at(
     }
 }
 
+/// The listener of the page of the seat that is so many places after the first.
+fn page_at<R: AllocGlobal + Net<Listener = TcpListener, Stream = TcpStream>>(
+    rt: &R,
+    first: u16,
+    origin: Option<&Origin>,
+    places: u8,
+) -> Result<PagePort, OpenFault> {
+    let site = site_at(rt.alloc(), first, origin, places)?;
+    match listener_at(rt, site.port()) {
+        Ok(listener) => Ok(PagePort { site, listener }),
+        Err(fault) => Err(fault),
+    }
+}
+
 /// The listeners of as many pages as seats, from this port on; one beyond the last port is refused.
 fn open_pages<R: AllocGlobal + Net<Listener = TcpListener, Stream = TcpStream>>(
     rt: &R,
@@ -112,9 +128,7 @@ fn open_pages<R: AllocGlobal + Net<Listener = TcpListener, Stream = TcpStream>>(
 {
     let mut pages = Vec::new(rt.alloc());
     for seat in 0..seats {
-        let site = site_at(rt.alloc(), first, origin, seat)?;
-        let listener = listener_at(rt, site.port())?;
-        if pages.push(PagePort { site, listener }).is_err() {
+        if pages.push(page_at(rt, first, origin, seat)?).is_err() {
             return Err(OpenFault::Hold(HoldFault::Memory));
         }
     }

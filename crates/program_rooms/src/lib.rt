@@ -12,7 +12,8 @@
 // why no room is opened, or what went wrong in it
 pub mod fault;
 
-// a console for each seat, once
+// a console for each seat, once; and how that and the others end
+mod ending;
 pub mod serving;
 
 // seats that are taken again: where operators come in, what is done before, the room, and those that follow it

@@ -1,5 +1,7 @@
 //! Rooms that operators share, and that begin with a journal.
-ghost use Rattle.std.specs.Prelude.{◌≡◌, ◌≤◌, ℕ, false, Some, Err, All, vec_len, IfOk, OnOk};
+ghost use Rattle.std.specs.Prelude.{◌≡◌, ◌≤◌, ℕ, [], false, Some, Err, All, vec_len, IfOk, OnOk};
+ghost use Rattle.std.specs.Io.KnownBytes.{Appends};
+ghost use Rattle.room_alone.specs.Kept.{kept_text};
 ghost use Rattle.room_journal.specs.JournalText.{journal_text};
 ghost use Rattle.serving_seats.specs.Giving.{IsSeated, foreign_in};
 ghost use Rattle.program_sessions.specs.Choosing.{HasChosen};
@@ -12,10 +14,10 @@ use crate::seating::serve_new;
 use crate::succession::{Rooms, Turn, serve_others, serve_rooms};
 use bytes_streams::Sink;
 use machine_panel::Features;
-use program_call::{NewJournal, Resuming};
+use program_call::Resuming;
 use program_sessions::{HoldFault, durability_of, read_chosen, tell_cut};
-use room_1401::{Entry, Room};
-use room_files::{JournalFile, TakenUp, find_journal, verify_journal};
+use room_1401::{Entry, Keeper, Room};
+use room_files::{FoundJournal, JournalFile, TakenUp, find_journal, verify_journal};
 use serving_room::{Watch, foreign_seat};
 use std::alloc::Global;
 use std::fs::File;
@@ -53,25 +55,55 @@ pub(crate) fn resume_seats<
 >(
     rt: &R,
     asked: Resuming,
-    journal: Option<NewJournal>,
+    names: Option<JournalNames>,
     seats: u8,
     minutes: Option<u16>,
     entrances: &Entrances,
 ) -> Result<(), OpenFault>
     requires { vec_len entrances.now.pages ≤ seats }
 {
-    if journal.is_none() && asked.until.is_none() {
-        return go_on(rt, asked.file, asked.sync, seats, minutes, entrances);
+    if names.is_none() && asked.until.is_none() {
+        go_on(rt, asked.file, asked.sync, seats, minutes, entrances)
+    } else {
+        begin_again(rt, asked, names, seats, minutes, entrances)
     }
-    let room = room_of(rt, asked, seats)?;
-    let rooms = Rooms {
-        size: room.machine().core().size(),
-        seats,
-        before: nothing(rt.alloc()),
-        names: journal.map(JournalNames::new),
-        minutes,
-    };
-    serve_rooms(rt, &rooms, &Before::Journal(room), entrances)
+}
+
+/// Opens a room whose journal isn't the one that it begins with, and those that follow it.
+fn begin_again<
+    R: Threads
+        + Wait
+        + Sync
+        + Clock
+        + RandomSource
+        + Input<Reader = StdinLock<'static>>
+        + Print
+        + Eprint
+        + AllocGlobal
+        + Files<File = File>,
+>(
+    rt: &R,
+    asked: Resuming,
+    names: Option<JournalNames>,
+    seats: u8,
+    minutes: Option<u16>,
+    entrances: &Entrances,
+) -> Result<(), OpenFault>
+    requires { vec_len entrances.now.pages ≤ seats }
+{
+    match room_of(rt, asked, seats) {
+        Ok(room) => {
+            let rooms = Rooms {
+                size: room.machine().core().size(),
+                seats,
+                before: nothing(rt.alloc()),
+                names,
+                minutes,
+            };
+            serve_rooms(rt, &rooms, &Before::Journal(room), entrances)
+        }
+        Err(fault) => Err(fault),
+    }
 }
 
 /// What is done before operators come to a machine at power-on.
@@ -93,9 +125,13 @@ fn room_of(
     ensures chosen { IfOk result (HasChosen asked.until asked.without.items) }
     ensures seated { IfOk result (λ room. All (IsSeated 0 seats) room.journal) }
 {
-    let room = read_chosen(rt, asked).map_err(OpenFault::Hold)?;
-    expect_seats(room.journal(), 0, seats)?;
-    Ok(room)
+    match read_chosen(rt, asked) {
+        Ok(room) => match expect_seats(room.journal(), 0, seats) {
+            Ok(()) => Ok(room),
+            Err(fault) => Err(fault),
+        },
+        Err(fault) => Err(OpenFault::Hold(fault)),
+    }
 }
 
 /// Goes on in the file of a journal.
@@ -120,35 +156,13 @@ fn go_on<
 ) -> Result<(), OpenFault>
     requires { vec_len entrances.now.pages ≤ seats }
 {
-    let Ok(names) = JournalNames::from_file(rt.alloc(), file.as_str(), sync) else {
-        return Err(OpenFault::Hold(HoldFault::Memory));
-    };
-    let taken = take_up(rt, file, sync, seats)?;
-    let rooms = Rooms {
-        size: taken.room.machine().core().size(),
-        seats,
-        before: nothing(rt.alloc()),
-        names: Some(names),
-        minutes,
-    };
-    serve_taken_up(rt, taken, &rooms, entrances)
-}
-
-/// Takes up a journal whose seats the room has.
-fn take_up(
-    rt: &(impl Files<File = File> + Eprint + AllocGlobal),
-    file: String,
-    sync: bool,
-    seats: u8,
-) -> Result<TakenUp, OpenFault>
-    ensures good { IfOk result (λ taken. ⟦<JournalFile as Sink>⟧.has_failed taken.file ≡ false) }
-    ensures text { IfOk result (λ taken. taken.text.items ≡ journal_text taken.room.size taken.room.journal) }
-{
-    let found = find_journal(rt, file, durability_of(sync)).map_err(not_kept)?;
-    expect_seats(found.entries(), 1, seats)?;
-    let taken = found.take_up().map_err(not_kept)?;
-    tell_cut(rt, taken.cut);
-    Ok(taken)
+    match JournalNames::from_file(rt.alloc(), file.as_str(), sync) {
+        Ok(names) => match take_up(rt, file, sync, seats) {
+            Ok(taken) => serve_taken_up(rt, taken, names, seats, minutes, entrances),
+            Err(fault) => Err(fault),
+        },
+        Err(_) => Err(OpenFault::Hold(HoldFault::Memory)),
+    }
 }
 
 /// Serves the room of a journal that was taken up, and those that follow it.
@@ -163,23 +177,64 @@ fn serve_taken_up<
         + Eprint
         + AllocGlobal
         + Files<File = File>,
->(rt: &R, taken: TakenUp, rooms: &Rooms<'_>, entrances: &Entrances) -> Result<(), OpenFault>
-    requires pages { vec_len entrances.now.pages ≤ rooms.now.seats }
+>(
+    rt: &R,
+    taken: TakenUp,
+    names: JournalNames,
+    seats: u8,
+    minutes: Option<u16>,
+    entrances: &Entrances,
+) -> Result<(), OpenFault>
+    requires pages { vec_len entrances.now.pages ≤ seats }
     requires good { ⟦<JournalFile as Sink>⟧.has_failed taken.file ≡ false }
     requires text { taken.text.items ≡ journal_text taken.room.size taken.room.journal }
 {
-    let TakenUp {
-        room,
-        file,
-        text,
-        ..
-    } = taken;
-    let watch = Watch::new(rooms.minutes, false);
-    let served = verify_room(rt, room, file, text, rooms.seats, entrances, &watch);
-    serve_others(rt, rooms, served, &watch, entrances)
+    let rooms = Rooms {
+        size: taken.room.machine().core().size(),
+        seats,
+        before: nothing(rt.alloc()),
+        names: Some(names),
+        minutes,
+    };
+    let watch = Watch::new(minutes, false);
+    let served = verify_room(rt, taken, seats, entrances, &watch);
+    serve_others(rt, &rooms, served, &watch, entrances)
 }
 
-/// Goes on by the file of a room's journal, which has its text. The room is the first of those that follow each other.
+/// Takes up a journal whose seats the room has.
+fn take_up(
+    rt: &(impl Files<File = File> + Eprint + AllocGlobal),
+    file: String,
+    sync: bool,
+    seats: u8,
+) -> Result<TakenUp, OpenFault>
+    ensures good { IfOk result (λ taken. ⟦<JournalFile as Sink>⟧.has_failed taken.file ≡ false) }
+    ensures text { IfOk result (λ taken. taken.text.items ≡ journal_text taken.room.size taken.room.journal) }
+{
+    match find_journal(rt, file, durability_of(sync)) {
+        Ok(found) => match expect_seats(found.entries(), 1, seats) {
+            Ok(()) => take_up_found(rt, found),
+            Err(fault) => Err(fault),
+        },
+        Err(fault) => Err(not_kept(fault)),
+    }
+}
+
+/// Takes up a journal that was found.
+fn take_up_found(rt: &impl Eprint, found: FoundJournal) -> Result<TakenUp, OpenFault>
+    ensures good { IfOk result (λ taken. ⟦<JournalFile as Sink>⟧.has_failed taken.file ≡ false) }
+    ensures text { IfOk result (λ taken. taken.text.items ≡ journal_text taken.room.size taken.room.journal) }
+{
+    match found.take_up() {
+        Ok(taken) => {
+            tell_cut(rt, taken.cut);
+            Ok(taken)
+        }
+        Err(fault) => Err(not_kept(fault)),
+    }
+}
+
+/// Goes on by the file of a room's journal, which has its text.
 fn verify_room<
     R: Threads
         + Wait
@@ -191,24 +246,51 @@ fn verify_room<
         + Eprint
         + AllocGlobal
         + Files<File = File>,
+>(rt: &R, taken: TakenUp, seats: u8, entrances: &Entrances, watch: &Watch) -> Result<(), OpenFault>
+    requires pages { vec_len entrances.now.pages ≤ seats }
+    requires good { ⟦<JournalFile as Sink>⟧.has_failed taken.file ≡ false }
+    requires text { taken.text.items ≡ journal_text taken.room.size taken.room.journal }
+{
+    let TakenUp {
+        room,
+        file,
+        text,
+        ..
+    } = taken;
+    let size = room.machine().core().size();
+    match verify_journal::<Brand, JournalFile>(rt.alloc(), file, text, size) {
+        Ok(keeper) => give_again(rt, room, seats, keeper, entrances, watch),
+        Err(_) => Err(OpenFault::Hold(HoldFault::Memory)),
+    }
+}
+
+/// Opens a room by a keeper that has the head of its journal, and whose seats give the commands of this room again. It is
+/// the first of those that follow each other.
+fn give_again<
+    R: Threads
+        + Wait
+        + Sync
+        + Clock
+        + RandomSource
+        + Input<Reader = StdinLock<'static>>
+        + Print
+        + Eprint
+        + AllocGlobal
+        + Files<File = File>,
+    K: Keeper + Drop + Send + Sync,
 >(
     rt: &R,
     room: Room,
-    file: JournalFile,
-    text: Vec<u8>,
     seats: u8,
+    keeper: K,
     entrances: &Entrances,
     watch: &Watch,
 ) -> Result<(), OpenFault>
     requires pages { vec_len entrances.now.pages ≤ seats }
-    requires good { ⟦<JournalFile as Sink>⟧.has_failed file ≡ false }
-    requires text { text.items ≡ journal_text room.size room.journal }
+    requires good { K.has_failed keeper ≡ false }
+    requires kept { Appends K.first (K.kept keeper) (kept_text K.form room.size []) }
 {
     let size = room.machine().core().size();
-    let verifier = verify_journal::<Brand, JournalFile>(rt.alloc(), file, text, size);
-    let Ok(keeper) = verifier else {
-        return Err(OpenFault::Hold(HoldFault::Memory));
-    };
     let before = Before::Journal(room);
     let turn = Turn {
         number: 1,

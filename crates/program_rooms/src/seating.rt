@@ -6,6 +6,7 @@ ghost use Rattle.room_alone.specs.Kept.{kept_text};
 ghost use Rattle.program_rooms.specs.Outcome.{seats_outcome};
 
 use crate::beginning::{Before, Program, begin};
+use crate::ending::tell_end;
 use crate::entrances::{Entrances, open_entrances, tell_ready};
 use crate::fault::{OpenFault, not_told};
 use crate::journal_names::JournalNames;
@@ -24,8 +25,7 @@ use room_1401::{Keeper, Opened, RoomId, Seat, SharedRoom};
 use room_files::MadeName;
 use serving_http::Origin;
 use serving_room::{
-    Listeners, NotingKeeper, PagePort, SeatsFault, SeatsServed, TakingTurns, UntilRenewed, Watch,
-    serve_seats,
+    Listeners, NotingKeeper, PagePort, SeatsFault, TakingTurns, UntilRenewed, serve_seats,
 };
 use std::fs::File;
 use std::io::StdinLock;
@@ -71,16 +71,25 @@ fn image_of(text: &[u8]) -> Result<LentImage<'_>, OpenFault> {
     }
 }
 
-/// The image of a text, if there is one.
+/// What the first seat does before operators come to a new machine: it loads the image of this text, if there is one.
 ///
 /// # Errors
 ///
 /// `Hold` with `Image` if the text is no image's.
-fn image_in(text: &Option<Vec<u8>>) -> Result<Option<LentImage<'_>>, OpenFault> {
-    match text {
-        None => Ok(None),
-        Some(text) => Ok(Some(image_of(text.as_slice())?)),
-    }
+fn program_of(
+    features: Features,
+    text: &Option<Vec<u8>>,
+    cards: Vec<Card>,
+) -> Result<Before<'_>, OpenFault> {
+    let image = match text {
+        None => None,
+        Some(text) => Some(image_of(text.as_slice())?),
+    };
+    Ok(Before::Program(Program {
+        features,
+        image,
+        cards,
+    }))
 }
 
 /// The machine that a room begins with.
@@ -90,18 +99,21 @@ fn image_in(text: &Option<Vec<u8>>) -> Result<Option<LentImage<'_>>, OpenFault> 
 /// `Hold` with `Unread`, `Image` or `Memory` if there is no such image, or with `Size` if no core storage of the size
 /// named is made.
 pub fn machine_of(rt: &(impl Files + AllocGlobal), opening: Opening) -> Result<Machine, OpenFault> {
-    let (size, features, text) = match opening {
-        Opening::PowerOn(size, features) => (size, features, None),
+    match opening {
+        Opening::PowerOn(size, features) => {
+            if Core::is_size(size) {
+                Ok(Machine::New(size, features, None))
+            } else {
+                Err(OpenFault::Hold(HoldFault::Size))
+            }
+        }
         Opening::Image(name, features) => {
             let text = read_file(rt, name).map_err(OpenFault::Hold)?;
-            (image_of(text.as_slice())?.size(), features, Some(text))
+            let size = image_of(text.as_slice())?.size();
+            Ok(Machine::New(size, features, Some(text)))
         }
-        Opening::Journal(asked) => return Ok(Machine::Journal(asked)),
-    };
-    if !Core::is_size(size) {
-        return Err(OpenFault::Hold(HoldFault::Size));
+        Opening::Journal(asked) => Ok(Machine::Journal(asked)),
     }
-    Ok(Machine::New(size, features, text))
 }
 
 /// Opens a machine to operators whose seats are taken again, with these cards in its hopper; a proxy brings their
@@ -142,26 +154,61 @@ pub fn open_seats<
     journal: Option<NewJournal>,
     minutes: Option<u16>,
 ) -> Result<(), OpenFault> {
-    let entrances = open_entrances(rt, operators, origin.as_ref())?;
-    let seats = operators.seats;
-    match machine {
-        Machine::New(size, features, text) => {
-            let image = image_in(&text)?;
-            let before = Before::Program(Program {
-                features,
-                image,
+    match open_entrances(rt, operators, origin.as_ref()) {
+        Ok(entrances) => {
+            let names = journal.map(JournalNames::new);
+            serve_machine(
+                rt,
+                machine,
                 cards,
-            });
-            let rooms = Rooms {
-                size,
-                seats,
-                before,
-                names: journal.map(JournalNames::new),
+                names,
+                operators.seats,
                 minutes,
-            };
-            serve_rooms(rt, &rooms, &rooms.before, &entrances)
+                &entrances,
+            )
         }
-        Machine::Journal(asked) => resume_seats(rt, asked, journal, seats, minutes, &entrances),
+        Err(fault) => Err(fault),
+    }
+}
+
+/// Opens a machine to those who come there.
+fn serve_machine<
+    R: Threads
+        + Wait
+        + Sync
+        + Clock
+        + RandomSource
+        + Input<Reader = StdinLock<'static>>
+        + Print
+        + Eprint
+        + AllocGlobal
+        + Files<File = File>,
+>(
+    rt: &R,
+    machine: Machine,
+    cards: Vec<Card>,
+    names: Option<JournalNames>,
+    seats: u8,
+    minutes: Option<u16>,
+    entrances: &Entrances,
+) -> Result<(), OpenFault>
+    requires { vec_len entrances.now.pages ≤ seats }
+{
+    match machine {
+        Machine::New(size, features, text) => match program_of(features, &text, cards) {
+            Ok(before) => {
+                let rooms = Rooms {
+                    size,
+                    seats,
+                    before,
+                    names,
+                    minutes,
+                };
+                serve_rooms(rt, &rooms, &rooms.before, entrances)
+            }
+            Err(fault) => Err(fault),
+        },
+        Machine::Journal(asked) => resume_seats(rt, asked, names, seats, minutes, entrances),
     }
 }
 
@@ -262,42 +309,41 @@ fn serve_begun<
     requires count { (0 < J.seats) × (J.seats < 2 ^ 8) }
     requires pages { vec_len turn.entrances.now.pages ≤ J.seats }
 {
-    if let Err(fault) = begin(rt, &room, &mut seats, turn.before) {
-        remove(rt, made);
-        return Err(fault);
+    match get_ready(rt, &room, &mut seats, made, turn) {
+        Ok(()) => {
+            turn.watch.open();
+            if turn.watch.renews() {
+                let input = UntilRenewed::new(rt, turn.watch);
+                serve_by(rt, room, seats, turn, input)
+            } else {
+                let input = FromReader::new(rt.reader());
+                serve_by(rt, room, seats, turn, input)
+            }
+        }
+        Err(fault) => Err(fault),
     }
-    drop(made);
-    serve_operators(rt, room, seats, turn)
 }
 
-/// Reports that the room listens, serves it, and reports how many commands its journal has at the end.
-fn serve_operators<
-    J: RoomId + Send + Sync,
-    R: Threads
-        + Wait
-        + Sync
-        + Clock
-        + RandomSource
-        + Input<Reader = StdinLock<'static>>
-        + Print
-        + Eprint
-        + AllocGlobal,
-    K: Keeper + Drop + Send + Sync,
->(rt: &R, room: SharedRoom<J, &R, K>, seats: Vec<Seat<J>>, turn: Turn<'_>) -> Result<(), OpenFault>
-    requires ledger { J.parts ≡ J.seats }
-    requires seats { AreAllSeats J.seats seats.items }
+/// Does what comes before the operators of a room, and reports that it listens. If a command isn't given, the file that
+/// was made for the journal is taken away.
+fn get_ready<J: RoomId, H: Wait + Drop, K: Keeper + Drop, R: Wait + Print + Files<File = File>>(
+    rt: &R,
+    room: &SharedRoom<J, H, K>,
+    seats: &mut Vec<Seat<J>>,
+    made: Option<MadeName>,
+    turn: Turn<'_>,
+) -> Result<(), OpenFault>
+    requires seats { AreAllSeats J.seats seats.old.items }
     requires count { (0 < J.seats) × (J.seats < 2 ^ 8) }
-    requires pages { vec_len turn.entrances.now.pages ≤ J.seats }
+    ensures { AreAllSeats J.seats seats.new.items }
 {
-    let entrances = turn.entrances;
-    report_open(rt, turn.number, entrances.pages.as_slice())?;
-    turn.watch.open();
-    let input = FromReader::new(rt.reader());
-    if turn.watch.renews() {
-        let input = UntilRenewed::new(rt, turn.watch);
-        return serve_by(rt, room, seats, entrances, turn.watch, input);
+    match begin(rt, room, seats, turn.before) {
+        Ok(()) => report_open(rt, turn.number, turn.entrances.pages.as_slice()),
+        Err(fault) => {
+            remove(rt, made);
+            Err(fault)
+        }
     }
-    serve_by(rt, room, seats, entrances, turn.watch, input)
 }
 
 /// Serves a room until this input ends it.
@@ -318,22 +364,22 @@ fn serve_by<
     rt: &R,
     room: SharedRoom<J, &R, K>,
     seats: Vec<Seat<J>>,
-    entrances: &Entrances,
-    watch: &Watch,
+    turn: Turn<'_>,
     input: S,
 ) -> Result<(), OpenFault>
     requires ledger { J.parts ≡ J.seats }
     requires seats { AreAllSeats J.seats seats.items }
     requires count { (0 < J.seats) × (J.seats < 2 ^ 8) }
-    requires pages { vec_len entrances.now.pages ≤ J.seats }
+    requires pages { vec_len turn.entrances.now.pages ≤ J.seats }
 {
     let listeners = Listeners {
-        consoles: entrances.consoles.as_ref(),
-        pages: entrances.pages.as_slice(),
+        consoles: turn.entrances.consoles.as_ref(),
+        pages: turn.entrances.pages.as_slice(),
     };
     let door = TakingTurns::new(rt);
-    let served = serve_seats(rt, room, seats, listeners, watch, input, &door);
-    tell_end(rt, served)
+    let served = serve_seats(rt, room, seats, listeners, turn.watch, input, &door);
+    let outcome = seats_outcome(served.keeper.has_failed(), served.fault);
+    tell_end(rt, served.room.journal().len(), outcome)
 }
 
 /// Reports that the first room listens, or which of those that follow does.
@@ -342,13 +388,6 @@ fn report_open(rt: &impl Print, number: u32, pages: &[PagePort]) -> Result<(), O
         return tell_ready(rt, pages);
     }
     println!(rt; "ROOM {number}").map_err(not_told)
-}
-
-/// Tells how many commands the journal of a room has that was served.
-fn tell_end<K: Keeper + Drop>(rt: &impl Print, served: SeatsServed<K>) -> Result<(), OpenFault> {
-    let told = println!(rt; "JOURNAL {}", served.room.journal().len());
-    seats_outcome(served.keeper.has_failed(), served.fault)?;
-    told.map_err(not_told)
 }
 
 /// Takes away the file that was made for a journal, if one was: it has no journal of a room that operators came to.

@@ -2,7 +2,8 @@
 ghost use Rattle.std.specs.Prelude.{◌≡◌};
 ghost use Rattle.program_rooms.specs.Outcome.{service_outcome, start_fault};
 
-use crate::fault::{OpenFault, not_told};
+use crate::ending::tell_end;
+use crate::fault::OpenFault;
 use console_1401::{ServeFault, serve};
 use program_call::PlainService;
 use program_sessions::HoldFault;
@@ -71,19 +72,33 @@ fn serve_room<
     requires named { (service.size ≡ J.size) × (service.seats ≡ J.seats) }
 {
     let PlainService { size, seats, port } = service;
-    let (room, seats) = match SharedRoom::<J, &R>::power_on(rt, alloc, size, seats, opened) {
-        Ok(opened) => opened,
-        Err(fault) => return Err(start_fault(fault)),
-    };
+    match SharedRoom::<J, &R>::power_on(rt, alloc, size, seats, opened) {
+        Ok((room, seats)) => match listen(rt, port) {
+            Ok(listener) => {
+                let door = TakingTurns::new(rt);
+                let served = serve(alloc, rt, room, seats, &listener, &door);
+                tell_end(
+                    rt,
+                    served.room.journal().len(),
+                    service_outcome(served.fault),
+                )
+            }
+            Err(fault) => Err(fault),
+        },
+        Err(fault) => Err(start_fault(fault)),
+    }
+}
+
+/// The listener at this port of 127.0.0.1, once standard output has it that the room is open.
+fn listen(
+    rt: &(impl Print + Net<Listener = TcpListener, Stream = TcpStream>),
+    port: u16,
+) -> Result<TcpListener, OpenFault> {
     let Ok(listener) = TcpListener::bind(rt, (Ipv4Addr::LOCALHOST, port)) else {
         return Err(OpenFault::Port);
     };
-    if println!(rt; "READY").is_err() {
-        return Err(OpenFault::Hold(HoldFault::Output));
+    match println!(rt; "READY") {
+        Ok(()) => Ok(listener),
+        Err(_) => Err(OpenFault::Hold(HoldFault::Output)),
     }
-    let door = TakingTurns::new(rt);
-    let served = serve(alloc, rt, room, seats, &listener, &door);
-    let told = println!(rt; "JOURNAL {}", served.room.journal().len());
-    service_outcome(served.fault)?;
-    told.map_err(not_told)
 }

@@ -1,16 +1,15 @@
 //! Rooms that follow each other at the same ports.
-ghost use Rattle.std.specs.Prelude.{◌≡◌, ◌≤◌, false, IfOk, IfSome, vec_len};
+ghost use Rattle.std.specs.Prelude.{◌≤◌, vec_len};
 
 use crate::beginning::Before;
+use crate::ending::first_of;
 use crate::entrances::{Entrances, listen_again};
 use crate::fault::OpenFault;
 use crate::journal_names::{JournalNames, begin_named};
 use crate::seating::serve_new;
-use bytes_streams::Sink;
 use room_1401::NoKeeper;
 use room_files::{JournalFile, MadeJournal, TextKeeper};
 use serving_room::Watch;
-use std::alloc::Global;
 use std::fs::File;
 use std::io::StdinLock;
 use std::marker::Brand;
@@ -135,14 +134,6 @@ fn is_followed(watch: &Watch, served: &Result<(), OpenFault>) -> bool {
     watch.is_over() && matches!(served, Ok(()) | Err(OpenFault::Seats(_)))
 }
 
-/// What went wrong first.
-fn first_of(before: Result<(), OpenFault>, now: Result<(), OpenFault>) -> Result<(), OpenFault> {
-    match before {
-        Ok(()) => now,
-        Err(fault) => Err(fault),
-    }
-}
-
 /// Serves a room, with a journal in a file of its own or without one.
 fn serve_one<
     R: Threads
@@ -160,25 +151,14 @@ fn serve_one<
 {
     let size = rooms.size;
     let seats = rooms.seats;
-    match begin_next(rt, rooms, turn.number)? {
-        None => serve_new(rt, size, seats, NoKeeper, None, turn),
-        Some(MadeJournal { file, name }) => {
+    let Some(names) = &rooms.names else {
+        return serve_new(rt, size, seats, NoKeeper, None, turn);
+    };
+    match begin_named(rt, names, size, turn.number) {
+        Ok(MadeJournal { file, name }) => {
             let keeper = TextKeeper::<Brand, JournalFile>::new(rt.alloc(), file);
             serve_new(rt, size, seats, keeper, Some(name), turn)
         }
-    }
-}
-
-/// The new file of the journal of the room of this number, if there are to be journals.
-fn begin_next(
-    rt: &(impl Files<File = File> + AllocGlobal),
-    rooms: &Rooms<'_>,
-    number: u32,
-) -> Result<Option<MadeJournal>, OpenFault>
-    ensures { IfOk result (λ made. IfSome made (λ made. ⟦<JournalFile as Sink>⟧.has_failed made.file ≡ false)) }
-{
-    match &rooms.names {
-        None => Ok(None),
-        Some(names) => Ok(Some(begin_named(rt, names, rooms.size, number)?)),
+        Err(fault) => Err(fault),
     }
 }

@@ -4,11 +4,11 @@ use Rattle.room_alone.specs.Kept.{lines_by}
 use Rattle.room_journal.specs.JournalText.{entry_text, header_text}
 use Rattle.program_rooms.proofs.resuming.verify_room.Goals as goal
 
-pub verify_journal-verifier-requires-clause-head :
-    goal.verify_journal-verifier-requires-clause-head
-verify_journal-verifier-requires-clause-head g c =
-    let lines : List ℕ = lines_by entry_text 1 c.args.room.journal in
-    let same : c.size-size.result ≡ c.args.room.size = search rules in (
+pub verify_journal-requires-clause-head :
+    goal.verify_journal-requires-clause-head
+verify_journal-requires-clause-head g c =
+    let lines : List ℕ = lines_by entry_text 1 c.args.taken.room.journal in
+    let same : c.size-size.result ≡ c.args.taken.room.size = search rules in (
       lines,
       c.requires.text
           ∙ ap (λ size. header_text size ++ lines) (sym same)
