@@ -51,5 +51,5 @@ pub record FirstGave (size : ℕ) (commands : List Command) (old new : List Seat
 -- if there is one, and fed the cards; or each gave its commands of a journal again.
 abbrev pub HasBegun : ℕ → Before → List SeatView → List SeatView → Type 0
 HasBegun size (Program program) old new =
-    FirstGave size (first_commands program.features program.image program.cards.items) old new
-HasBegun size (Journal room) old new = GiveAll size room.journal old new
+    FirstGave size (first_commands program.features program.image program.cards.now) old new
+HasBegun size (Journal room) old new = GiveAll size room.now.journal old new

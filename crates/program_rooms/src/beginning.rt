@@ -39,7 +39,7 @@ fn give_fault(fault: GiveFault) -> OpenFault
     }
 }
 
-/// What the first seat of a room does before operators come, and does again in each room that follows.
+/// What the first seat of a room does before operators come, and does again in each room that follows. Nothing is held.
 #[derive(Drop)]
 pub(crate) struct Program<'a> {
     /// What it fits the machine with, first of all.
@@ -47,7 +47,7 @@ pub(crate) struct Program<'a> {
     /// The image that it loads, if there is one: one segment is held at a time.
     pub image: Option<LentImage<'a>>,
     /// The cards that it then feeds.
-    pub cards: Vec<Card>,
+    pub cards: &'a [Card],
 }
 
 /// What the seats of a room do before operators come.
@@ -56,7 +56,7 @@ pub(crate) enum Before<'a> {
     /// The first fits the machine, if there are features, loads an image, if there is one, and then feeds cards.
     Program(Program<'a>),
     /// They give the commands of this room's journal again, each those of its number.
-    Journal(Room),
+    Journal(&'a Room),
 }
 
 impl<'a> Before<'a> {
@@ -104,7 +104,7 @@ fn begin_by_first<J: RoomId, H: Wait + Drop, K: Keeper + Drop, W: Wait>(
     requires { AreAllSeats J.seats seats.old.items }
     ensures seats { AreAllSeats J.seats seats.new.items }
     ensures gave { OnOk result
-        (FirstGave J.size (first_commands program.now.features program.now.image program.now.cards.items)
+        (FirstGave J.size (first_commands program.now.features program.now.image program.now.cards.now)
         seats.old.items seats.new.items) }
 {
     // A room has a seat.
@@ -123,10 +123,10 @@ fn begin_by<J: RoomId, H: Wait + Drop, K: Keeper + Drop, W: Wait>(
 ) -> Result<(), OpenFault>
     ensures number { seat.new.number ≡ seat.old.number }
     ensures gave { OnOk result (GaveAll J.size
-        (first_commands program.now.features program.now.image program.now.cards.items) seat.old seat.new) }
+        (first_commands program.now.features program.now.image program.now.cards.now) seat.old seat.new) }
 {
     match fit_by(wait, room, seat, program.features) {
-        Ok(()) => make_ready_by(wait, room, seat, &program.image, program.cards.as_slice()),
+        Ok(()) => make_ready_by(wait, room, seat, &program.image, program.cards),
         Err(fault) => Err(fault),
     }
 }

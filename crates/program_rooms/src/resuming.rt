@@ -1,7 +1,5 @@
 //! Rooms that operators share, and that begin with a journal.
-ghost use Rattle.std.specs.Prelude.{◌≡◌, ◌≤◌, ℕ, [], false, Some, Err, All, vec_len, IfOk, OnOk};
-ghost use Rattle.std.specs.Io.KnownBytes.{Appends};
-ghost use Rattle.room_alone.specs.Kept.{kept_text};
+ghost use Rattle.std.specs.Prelude.{◌≡◌, ◌≤◌, ℕ, false, Some, Err, All, vec_len, IfOk, OnOk};
 ghost use Rattle.room_journal.specs.JournalText.{journal_text};
 ghost use Rattle.serving_seats.specs.Giving.{IsSeated, foreign_in};
 ghost use Rattle.program_sessions.specs.Choosing.{HasChosen};
@@ -16,10 +14,9 @@ use bytes_streams::Sink;
 use machine_panel::Features;
 use program_call::Resuming;
 use program_sessions::{HoldFault, durability_of, read_chosen, tell_cut};
-use room_1401::{Entry, Keeper, Room};
+use room_1401::{Entry, Room};
 use room_files::{FoundJournal, JournalFile, TakenUp, find_journal, verify_journal};
 use serving_room::{Watch, foreign_seat};
-use std::alloc::Global;
 use std::fs::File;
 use std::io::StdinLock;
 use std::marker::Brand;
@@ -96,23 +93,22 @@ fn begin_again<
             let rooms = Rooms {
                 size: room.machine().core().size(),
                 seats,
-                before: nothing(rt.alloc()),
+                before: nothing(),
                 names,
                 minutes,
             };
-            serve_rooms(rt, &rooms, &Before::Journal(room), entrances)
+            serve_rooms(rt, &rooms, &Before::Journal(&room), entrances)
         }
         Err(fault) => Err(fault),
     }
 }
 
 /// What is done before operators come to a machine at power-on.
-fn nothing(alloc: Global) -> Before<'static> {
-    let cards = Vec::new(alloc);
+fn nothing() -> Before<'static> {
     Before::Program(Program {
         features: Features::NONE,
         image: None,
-        cards,
+        cards: &[],
     })
 }
 
@@ -192,7 +188,7 @@ fn serve_taken_up<
     let rooms = Rooms {
         size: taken.room.machine().core().size(),
         seats,
-        before: nothing(rt.alloc()),
+        before: nothing(),
         names: Some(names),
         minutes,
     };
@@ -234,7 +230,7 @@ fn take_up_found(rt: &impl Eprint, found: FoundJournal) -> Result<TakenUp, OpenF
     }
 }
 
-/// Goes on by the file of a room's journal, which has its text.
+/// Goes on by the file of a room's journal, which has its text. The room is the first of those that follow each other.
 fn verify_room<
     R: Threads
         + Wait
@@ -259,44 +255,15 @@ fn verify_room<
     } = taken;
     let size = room.machine().core().size();
     match verify_journal::<Brand, JournalFile>(rt.alloc(), file, text, size) {
-        Ok(keeper) => give_again(rt, room, seats, keeper, entrances, watch),
+        Ok(keeper) => {
+            let turn = Turn {
+                number: 1,
+                watch,
+                before: &Before::Journal(&room),
+                entrances,
+            };
+            serve_new(rt, size, seats, keeper, None, turn)
+        }
         Err(_) => Err(OpenFault::Hold(HoldFault::Memory)),
     }
-}
-
-/// Opens a room by a keeper that has the head of its journal, and whose seats give the commands of this room again. It is
-/// the first of those that follow each other.
-fn give_again<
-    R: Threads
-        + Wait
-        + Sync
-        + Clock
-        + RandomSource
-        + Input<Reader = StdinLock<'static>>
-        + Print
-        + Eprint
-        + AllocGlobal
-        + Files<File = File>,
-    K: Keeper + Drop + Send + Sync,
->(
-    rt: &R,
-    room: Room,
-    seats: u8,
-    keeper: K,
-    entrances: &Entrances,
-    watch: &Watch,
-) -> Result<(), OpenFault>
-    requires pages { vec_len entrances.now.pages ≤ seats }
-    requires good { K.has_failed keeper ≡ false }
-    requires kept { Appends K.first (K.kept keeper) (kept_text K.form room.size []) }
-{
-    let size = room.machine().core().size();
-    let before = Before::Journal(room);
-    let turn = Turn {
-        number: 1,
-        watch,
-        before: &before,
-        entrances,
-    };
-    serve_new(rt, size, seats, keeper, None, turn)
 }

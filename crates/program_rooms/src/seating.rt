@@ -25,7 +25,8 @@ use room_1401::{Keeper, Opened, RoomId, Seat, SharedRoom};
 use room_files::MadeName;
 use serving_http::Origin;
 use serving_room::{
-    Listeners, NotingKeeper, PagePort, SeatsFault, TakingTurns, UntilRenewed, serve_seats,
+    Listeners, NotingKeeper, PagePort, SeatsFault, SeatsServed, TakingTurns, UntilRenewed,
+    serve_seats,
 };
 use std::fs::File;
 use std::io::StdinLock;
@@ -76,11 +77,11 @@ fn image_of(text: &[u8]) -> Result<LentImage<'_>, OpenFault> {
 /// # Errors
 ///
 /// `Hold` with `Image` if the text is no image's.
-fn program_of(
+fn program_of<'a>(
     features: Features,
-    text: &Option<Vec<u8>>,
-    cards: Vec<Card>,
-) -> Result<Before<'_>, OpenFault> {
+    text: &'a Option<Vec<u8>>,
+    cards: &'a [Card],
+) -> Result<Before<'a>, OpenFault> {
     let image = match text {
         None => None,
         Some(text) => Some(image_of(text.as_slice())?),
@@ -195,7 +196,7 @@ fn serve_machine<
     requires { vec_len entrances.now.pages ≤ seats }
 {
     match machine {
-        Machine::New(size, features, text) => match program_of(features, &text, cards) {
+        Machine::New(size, features, text) => match program_of(features, &text, cards.as_slice()) {
             Ok(before) => {
                 let rooms = Rooms {
                     size,
@@ -377,9 +378,13 @@ fn serve_by<
         pages: turn.entrances.pages.as_slice(),
     };
     let door = TakingTurns::new(rt);
-    let served = serve_seats(rt, room, seats, listeners, turn.watch, input, &door);
-    let outcome = seats_outcome(served.keeper.has_failed(), served.fault);
-    tell_end(rt, served.room.journal().len(), outcome)
+    let SeatsServed {
+        room,
+        keeper,
+        fault,
+    } = serve_seats(rt, room, seats, listeners, turn.watch, input, &door);
+    let outcome = seats_outcome(keeper.has_failed(), fault);
+    tell_end(rt, room.journal().len(), outcome)
 }
 
 /// Reports that the first room listens, or which of those that follow does.

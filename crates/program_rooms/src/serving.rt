@@ -4,7 +4,7 @@ ghost use Rattle.program_rooms.specs.Outcome.{service_outcome, start_fault};
 
 use crate::ending::tell_end;
 use crate::fault::OpenFault;
-use console_1401::{ServeFault, serve};
+use console_1401::{ServeFault, Served, serve};
 use program_call::PlainService;
 use program_sessions::HoldFault;
 use room_1401::{Opened, RoomId, SharedRoom, StartFault};
@@ -76,12 +76,8 @@ fn serve_room<
         Ok((room, seats)) => match listen(rt, port) {
             Ok(listener) => {
                 let door = TakingTurns::new(rt);
-                let served = serve(alloc, rt, room, seats, &listener, &door);
-                tell_end(
-                    rt,
-                    served.room.journal().len(),
-                    service_outcome(served.fault),
-                )
+                let Served { room, fault, .. } = serve(alloc, rt, room, seats, &listener, &door);
+                tell_end(rt, room.journal().len(), service_outcome(fault))
             }
             Err(fault) => Err(fault),
         },
