@@ -3,8 +3,9 @@ ghost use Rattle.std.specs.Prelude.{◌≢◌, IfErr};
 
 use crate::decks::{NamedDeck, carry};
 use crate::fault::OperateFault;
-use crate::opening::{Opened, Reading, labels_of, open_room, sourceless};
+use crate::opening::{Opened, Reading, labels_of, open_room};
 use devices_1401::Card;
+use machine_graphics::Graphics;
 use machine_panel::SwitchName;
 use operate_answers::put_head;
 use operate_program::Program;
@@ -22,6 +23,17 @@ pub(crate) struct Around {
     pub hand: Vec<Card>,
     /// What is said at the beginning.
     pub greeting: Vec<u8>,
+}
+
+impl Around {
+    /// No cards in hand, and nothing said yet.
+    fn new(alloc: Global, program: Program) -> Around {
+        Around {
+            program,
+            hand: Vec::new(alloc),
+            greeting: Vec::new(alloc),
+        }
+    }
 }
 
 /// The room at which a person sits down, and what there is next to it.
@@ -78,16 +90,93 @@ fn name_of(alloc: Global, file: &Option<String>) -> Result<Option<Vec<u8>>, Oper
 /// Adds what is loaded and which instruction is next.
 fn put_beginning(
     alloc: Global,
-    greeting: &mut Vec<u8>,
-    program: &Program,
+    around: &mut Around,
     room: &Room,
     name: Option<&[u8]>,
 ) -> Result<(), OperateFault>
     ensures { IfErr result (λ why. why ≢ OperateFault.Faulty) }
 {
-    match put_head(alloc, greeting, program, room.machine(), name) {
+    match put_head(
+        alloc,
+        &mut around.greeting,
+        &around.program,
+        room.machine(),
+        name,
+    ) {
         Ok(()) => Ok(()),
         Err(_) => Err(OperateFault::Run(RunFault::Memory)),
+    }
+}
+
+/// Turns sense switches on, and puts two decks into the hopper; if there is the first, which loads itself, the load key
+/// is pressed. Then the greeting says what is loaded.
+fn make_ready(
+    alloc: Global,
+    begun: &mut Begun,
+    switches: [bool; 7],
+    deck: &Option<NamedDeck>,
+    beyond: &Option<NamedDeck>,
+    name: &Option<Vec<u8>>,
+) -> Result<(), OperateFault>
+    ensures { IfErr result (λ why. why ≢ OperateFault.Faulty) }
+{
+    let Begun { room, around } = begun;
+    turn_on(room, switches)?;
+    if let Some(deck) = deck {
+        deck.feed(room, around)?;
+    }
+    if let Some(beyond) = beyond {
+        beyond.feed(room, around)?;
+    }
+    if deck.is_some() {
+        carry(room, Command::LoadKey)?;
+    }
+    match name {
+        Some(name) => put_beginning(alloc, around, room, Some(name.as_slice())),
+        None => put_beginning(alloc, around, room, None),
+    }
+}
+
+/// A room that is opened, with these sense switches on and its decks in the hopper.
+fn made_ready(
+    alloc: Global,
+    opened: Opened,
+    switches: [bool; 7],
+    beyond: Option<NamedDeck>,
+    name: Option<Vec<u8>>,
+) -> Result<Begun, OperateFault>
+    ensures { IfErr result (λ why. why ≢ OperateFault.Faulty) }
+{
+    let Opened {
+        room,
+        program,
+        deck,
+    } = opened;
+    let around = Around::new(alloc, program);
+    let mut begun = Begun { room, around };
+    match make_ready(alloc, &mut begun, switches, &deck, &beyond, &name) {
+        Ok(()) => Ok(begun),
+        Err(fault) => Err(fault),
+    }
+}
+
+/// The same, once the deck of this file is read, if one is named.
+fn begin_at(
+    rt: &(impl Files + Eprint + AllocGlobal),
+    opened: Opened,
+    cards: Option<String>,
+    switches: [bool; 7],
+    decks: Option<Graphics>,
+    name: Option<Vec<u8>>,
+) -> Result<Begun, OperateFault>
+    ensures { IfErr result (λ why. why ≢ OperateFault.Faulty) }
+{
+    let Some(cards) = cards else {
+        return made_ready(rt.alloc(), opened, switches, None, name);
+    };
+    match NamedDeck::read(rt, cards, decks) {
+        Ok(beyond) => made_ready(rt.alloc(), opened, switches, Some(beyond), name),
+        Err(fault) => Err(fault),
     }
 }
 
@@ -107,37 +196,13 @@ pub(crate) fn begin(
 ) -> Result<Begun, OperateFault>
     ensures { IfErr result (λ why. why ≢ OperateFault.Faulty) }
 {
-    let name = name_of(rt.alloc(), &file)?;
-    let Opened {
-        mut room,
-        program,
-        deck,
-    } = open_room(rt, file, is_deck, reading)?;
-    let beyond = match cards {
-        Some(cards) => Some(NamedDeck::read(rt, cards, reading.decks)?),
-        None => None,
-    };
-    let mut hand = Vec::new(rt.alloc());
-    let mut greeting = Vec::new(rt.alloc());
-    turn_on(&mut room, switches)?;
-    for deck in [&deck, &beyond] {
-        if let Some(deck) = deck {
-            deck.feed(&mut room, &mut hand, &mut greeting)?;
-        }
-    }
-    if deck.is_some() {
-        carry(&mut room, Command::LoadKey)?;
-    }
-    let name = name.as_ref().map(|name| name.as_slice());
-    put_beginning(rt.alloc(), &mut greeting, &program, &room, name)?;
-    Ok(Begun {
-        room,
-        around: Around {
-            program,
-            hand,
-            greeting,
+    match name_of(rt.alloc(), &file) {
+        Ok(name) => match open_room(rt, file, is_deck, reading) {
+            Ok(opened) => begin_at(rt, opened, cards, switches, reading.decks, name),
+            Err(fault) => Err(fault),
         },
-    })
+        Err(fault) => Err(fault),
+    }
 }
 
 /// What there is next to the room of a journal's file, which goes on: the labels of a source, if one is named.
@@ -159,19 +224,11 @@ pub(crate) fn around_again(
             let size = Some(room.machine().core().size());
             labels_of(rt, file, Reading { size, ..reading })?
         }
-        None => sourceless(rt.alloc(), reading),
+        None => Program::without_source(rt.alloc(), reading.language),
     };
-    let mut greeting = Vec::new(rt.alloc());
-    put_beginning(
-        rt.alloc(),
-        &mut greeting,
-        &program,
-        room,
-        Some(name.as_bytes()),
-    )?;
-    Ok(Around {
-        program,
-        hand: Vec::new(rt.alloc()),
-        greeting,
-    })
+    let mut around = Around::new(rt.alloc(), program);
+    match put_beginning(rt.alloc(), &mut around, room, Some(name.as_bytes())) {
+        Ok(()) => Ok(around),
+        Err(fault) => Err(fault),
+    }
 }

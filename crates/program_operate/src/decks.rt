@@ -1,6 +1,7 @@
 //! The decks that are there when a person sits down.
 ghost use Rattle.std.specs.Prelude.{◌≢◌, IfErr};
 
+use crate::beginning::Around;
 use crate::fault::{OperateFault, unready};
 use devices_1401::{Card, MOST_HELD};
 use machine_graphics::Graphics;
@@ -33,13 +34,9 @@ impl NamedDeck {
         let Ok(label) = name.clone() else {
             return Err(OperateFault::Run(RunFault::Memory));
         };
-        let cards = match read_cards(rt, name, asked) {
-            Ok(cards) => cards,
-            Err(fault) => return Err(OperateFault::Run(fault)),
-        };
-        match list_cards(rt.alloc(), &cards) {
+        match cards_of(rt, name, asked) {
             Ok(cards) => Ok(NamedDeck { name: label, cards }),
-            Err(_) => Err(OperateFault::Run(RunFault::Memory)),
+            Err(fault) => Err(OperateFault::Run(fault)),
         }
     }
 
@@ -48,26 +45,39 @@ impl NamedDeck {
     /// # Errors
     ///
     /// `Hold` with `JournalFull` or `Memory`.
-    pub(crate) fn feed(
-        &self,
-        room: &mut Room,
-        hand: &mut Vec<Card>,
-        greeting: &mut Vec<u8>,
-    ) -> Result<(), OperateFault>
+    pub(crate) fn feed(&self, room: &mut Room, around: &mut Around) -> Result<(), OperateFault>
         ensures { IfErr result (λ why. why ≢ OperateFault.Faulty) }
     {
-        feed_cards(room, self.cards.as_slice(), hand)?;
-        let cards = self.cards.len() as u64;
+        feed_cards(room, self.cards.as_slice(), &mut around.hand)?;
         match put_deck(
-            greeting,
+            &mut around.greeting,
             self.name.as_bytes(),
-            cards,
+            self.cards.len() as u64,
             room.machine(),
-            hand.len(),
+            around.hand.len(),
         ) {
             Ok(()) => Ok(()),
             Err(_) => Err(OperateFault::Run(RunFault::Memory)),
         }
+    }
+}
+
+/// The cards of the file of this name, which has the graphics of the chain that was asked for.
+///
+/// # Errors
+///
+/// As those of `read_cards`.
+pub(crate) fn cards_of(
+    rt: &(impl Files + Eprint + AllocGlobal),
+    name: String,
+    asked: Option<Graphics>,
+) -> Result<Vec<Card>, RunFault> {
+    match read_cards(rt, name, asked) {
+        Ok(cards) => match list_cards(rt.alloc(), &cards) {
+            Ok(cards) => Ok(cards),
+            Err(_) => Err(RunFault::Memory),
+        },
+        Err(fault) => Err(fault),
     }
 }
 

@@ -1,5 +1,6 @@
 //! The files that a person names, and that of the journal.
 
+use crate::decks::cards_of;
 use bytes_files::read_whole;
 use bytes_streams::put_all;
 use devices_1401::Card;
@@ -7,7 +8,7 @@ use job_runner::DeckTextFault;
 use machine_graphics::Graphics;
 use operate_console::{Desk, FileFault};
 use operate_sitting::Cutter;
-use program_run::{RunFault, list_cards, read_cards};
+use program_run::RunFault;
 use room_alone::{NoKeeper, Room, Unkept};
 use room_files::{
     Durability, JournalFile, JournalFileFault, KeepFault, MadeJournal, TextKeeper, create_journal,
@@ -20,7 +21,7 @@ use std::rt::Files;
 use std::{fs, str};
 
 /// The keeper of a file's journal.
-type FileKeeper = TextKeeper<Brand, JournalFile>;
+pub(crate) type FileKeeper = TextKeeper<Brand, JournalFile>;
 
 /// The files of a person, whose decks have the graphics of a chain, and the file that keeps the journal.
 #[derive(Drop)]
@@ -118,13 +119,9 @@ impl<'a, R: Files<File = File> + Eprint + AllocGlobal> Desk for FileDesk<'a, R> 
 
     fn cards(&mut self, name: &[u8]) -> Result<Vec<Card>, FileFault> {
         let name = self.name_to_read(name)?;
-        let cards = match read_cards(self.rt, name, self.graphics) {
-            Ok(cards) => cards,
-            Err(fault) => return Err(no_deck(fault)),
-        };
-        match list_cards(self.rt.alloc(), &cards) {
+        match cards_of(self.rt, name, self.graphics) {
             Ok(cards) => Ok(cards),
-            Err(_) => Err(FileFault::Memory),
+            Err(fault) => Err(no_deck(fault)),
         }
     }
 

@@ -58,16 +58,9 @@ pub(crate) fn ended(end: OperateEnd, counts: bool) -> Result<(), OperateFault>
             }
         }
         OperateEnd::Write => Err(OperateFault::Hold(HoldFault::Output)),
-        OperateEnd::Read => Err(session_fault(SessionFault::Read)),
-        OperateEnd::Bound => Err(session_fault(SessionFault::Bound)),
-        OperateEnd::Memory => Err(session_fault(SessionFault::Memory)),
-        OperateEnd::Unkept => Err(session_fault(SessionFault::Unkept)),
+        OperateEnd::Read => Err(OperateFault::Hold(HoldFault::Session(SessionFault::Read))),
+        OperateEnd::Bound => Err(OperateFault::Hold(HoldFault::Session(SessionFault::Bound))),
+        OperateEnd::Memory => Err(OperateFault::Hold(HoldFault::Session(SessionFault::Memory))),
+        OperateEnd::Unkept => Err(OperateFault::Hold(HoldFault::Session(SessionFault::Unkept))),
     }
-}
-
-/// A console that ended so.
-fn session_fault(fault: SessionFault) -> OperateFault
-    ensures { result ≡ OperateFault.Hold (HoldFault.Session fault) }
-{
-    OperateFault::Hold(HoldFault::Session(fault))
 }

@@ -52,36 +52,32 @@ pub(crate) struct Opened {
     pub deck: Option<NamedDeck>,
 }
 
-/// A room at power-on.
-fn new_room(alloc: Global, size: u16) -> Result<Room, OperateFault>
-    ensures size { IfOk result (λ room. room.size ≡ size) }
-    ensures before { IfErr result (λ why. why ≢ OperateFault.Faulty) }
-{
-    match Room::power_on(alloc, size) {
-        Ok(room) => Ok(room),
-        Err(CoreFault::Size) => Err(OperateFault::Size),
-        Err(CoreFault::Memory) => Err(OperateFault::Run(RunFault::Memory)),
-    }
-}
-
 /// A room with nothing loaded, whose machine is fitted with these features.
 fn bare_room(alloc: Global, size: u16, features: Features) -> Result<Room, OperateFault>
     ensures size { IfOk result (λ room. room.size ≡ size) }
     ensures before { IfErr result (λ why. why ≢ OperateFault.Faulty) }
 {
-    let mut room = new_room(alloc, size)?;
+    let mut room = match Room::power_on(alloc, size) {
+        Ok(room) => room,
+        Err(CoreFault::Size) => return Err(OperateFault::Size),
+        Err(CoreFault::Memory) => return Err(OperateFault::Run(RunFault::Memory)),
+    };
     match put_features(&mut room, features) {
         Ok(()) => Ok(room),
         Err(fault) => Err(unready(fault)),
     }
 }
 
-/// A program whose source isn't known.
-pub(crate) fn sourceless(alloc: Global, reading: Reading) -> Program {
-    Program::without_source(alloc, reading.language)
+/// A source that was assembled.
+#[derive(Drop)]
+struct ReadSource {
+    /// Its image.
+    image: PackedImage,
+    /// What is known of it.
+    program: Program,
 }
 
-/// The program of a source of this name. What is wrong with it is reported.
+/// The image and the program of a source of this name. What is wrong with it is reported.
 ///
 /// # Errors
 ///
@@ -90,23 +86,30 @@ fn assembled(
     rt: &(impl Eprint + AllocGlobal),
     name: &str,
     reading: Reading,
-    text: &[u8],
+    text: Vec<u8>,
     suggested: Option<Suggestion>,
-) -> Result<AssemblyProgram, OperateFault>
+) -> Result<ReadSource, OperateFault>
     requires { is_refused reading.size ≡ false }
     ensures in_core { IfOk result (λ made. IsInCore made.image) }
-    ensures rows { IfOk result (λ made. made.rows ≡ rows_of (lines_in reading.language text.now)) }
-    ensures symbols { IfOk result (λ made. made.symbols.items ≡ symbols_in (lines_in reading.language text.now)) }
     ensures before { IfErr result (λ why. why ≢ OperateFault.Faulty) }
 {
     let Reading { language, size, .. } = reading;
-    match assemble_program(rt.alloc(), language, text, size_for(size, language, text)) {
+    let lines = text.as_slice();
+    match assemble_program(rt.alloc(), language, lines, size_for(size, language, lines)) {
         Ok(made) => {
-            report_source(rt, name, language, text, size, None, suggested);
-            Ok(made)
+            report_source(rt, name, language, lines, size, None, suggested);
+            let AssemblyProgram {
+                image,
+                rows,
+                symbols,
+            } = made;
+            Ok(ReadSource {
+                image,
+                program: Program::of_source(language, text, rows, symbols),
+            })
         }
         Err(fault) => {
-            report_source(rt, name, language, text, size, Some(fault), suggested);
+            report_source(rt, name, language, lines, size, Some(fault), suggested);
             Err(OperateFault::Run(RunFault::Source(fault)))
         }
     }
@@ -133,6 +136,18 @@ fn put_packed(room: &mut Room, image: &PackedImage) -> Result<(), RoomFault>
     put_command(room, Command::SetI { address })
 }
 
+/// A room of an image's size whose machine has these features, and the image loaded.
+fn packed_room(alloc: Global, image: &PackedImage, features: Features) -> Result<Room, OperateFault>
+    requires { IsInCore image.now }
+    ensures { IfErr result (λ why. why ≢ OperateFault.Faulty) }
+{
+    let mut room = bare_room(alloc, image.size(), features)?;
+    match put_packed(&mut room, image) {
+        Ok(()) => Ok(room),
+        Err(fault) => Err(unready(fault)),
+    }
+}
+
 /// A room at which the program of a source is loaded.
 fn of_source(
     rt: &(impl Eprint + AllocGlobal),
@@ -144,22 +159,15 @@ fn of_source(
     requires { is_refused reading.size ≡ false }
     ensures { IfErr result (λ why. why ≢ OperateFault.Faulty) }
 {
-    let made = assembled(rt, name, reading, text.as_slice(), suggested)?;
-    let AssemblyProgram {
-        image,
-        rows,
-        symbols,
-    } = made;
-    let mut room = bare_room(rt.alloc(), image.size(), reading.features)?;
-    match put_packed(&mut room, &image) {
-        Ok(()) => {}
-        Err(fault) => return Err(unready(fault)),
+    let ReadSource { image, program } = assembled(rt, name, reading, text, suggested)?;
+    match packed_room(rt.alloc(), &image, reading.features) {
+        Ok(room) => Ok(Opened {
+            room,
+            program,
+            deck: None,
+        }),
+        Err(fault) => Err(fault),
     }
-    Ok(Opened {
-        room,
-        program: Program::of_source(reading.language, text, rows, symbols),
-        deck: None,
-    })
 }
 
 /// A program's file that was read.
@@ -198,6 +206,20 @@ fn read_file(
     }
 }
 
+/// A room at which the image of a text is loaded.
+fn of_image(alloc: Global, text: &[u8], reading: Reading) -> Result<Opened, OperateFault>
+    ensures { IfErr result (λ why. why ≢ OperateFault.Faulty) }
+{
+    match loaded_room(alloc, text, reading.features) {
+        Ok(room) => Ok(Opened {
+            room,
+            program: Program::without_source(alloc, reading.language),
+            deck: None,
+        }),
+        Err(fault) => Err(OperateFault::Hold(fault)),
+    }
+}
+
 /// A room at which the program of a file is loaded: a source, or an image.
 ///
 /// # Errors
@@ -216,16 +238,10 @@ fn of_file(
         text,
         suggested,
     } = read_file(rt, file, reading)?;
-    if !is_image(text.as_slice()) {
-        return of_source(rt, name.as_str(), reading, text, suggested);
-    }
-    match loaded_room(rt.alloc(), text.as_slice(), reading.features) {
-        Ok(room) => Ok(Opened {
-            room,
-            program: sourceless(rt.alloc(), reading),
-            deck: None,
-        }),
-        Err(fault) => Err(OperateFault::Hold(fault)),
+    if is_image(text.as_slice()) {
+        of_image(rt.alloc(), text.as_slice(), reading)
+    } else {
+        of_source(rt, name.as_str(), reading, text, suggested)
     }
 }
 
@@ -252,9 +268,43 @@ pub(crate) fn labels_of(
     if is_image(text.as_slice()) {
         return Err(OperateFault::NoLabels(name));
     }
-    let made = assembled(rt, name.as_str(), reading, text.as_slice(), suggested)?;
-    let AssemblyProgram { rows, symbols, .. } = made;
-    Ok(Program::of_source(reading.language, text, rows, symbols))
+    match assembled(rt, name.as_str(), reading, text, suggested) {
+        Ok(made) => Ok(made.program),
+        Err(fault) => Err(fault),
+    }
+}
+
+/// A room at power-on, next to this deck, if there is one.
+fn with_deck(
+    alloc: Global,
+    deck: Option<NamedDeck>,
+    reading: Reading,
+) -> Result<Opened, OperateFault>
+    ensures { IfErr result (λ why. why ≢ OperateFault.Faulty) }
+{
+    let size = reading.size.unwrap_or(DEFAULT_SIZE);
+    match bare_room(alloc, size, reading.features) {
+        Ok(room) => Ok(Opened {
+            room,
+            program: Program::without_source(alloc, reading.language),
+            deck,
+        }),
+        Err(fault) => Err(fault),
+    }
+}
+
+/// A room at power-on, next to the deck of a file.
+fn of_deck(
+    rt: &(impl Files + Eprint + AllocGlobal),
+    file: String,
+    reading: Reading,
+) -> Result<Opened, OperateFault>
+    ensures { IfErr result (λ why. why ≢ OperateFault.Faulty) }
+{
+    match NamedDeck::read(rt, file, reading.decks) {
+        Ok(deck) => with_deck(rt.alloc(), Some(deck), reading),
+        Err(fault) => Err(fault),
+    }
 }
 
 /// A room at which the program of a file is loaded; without a file it is at power-on.
@@ -273,15 +323,14 @@ pub(crate) fn open_room(
     if is_refused(reading.size) {
         return Err(OperateFault::Size);
     }
-    let deck = match (file, is_deck) {
-        (Some(file), false) => return of_file(rt, file, reading),
-        (Some(file), true) => Some(NamedDeck::read(rt, file, reading.decks)?),
-        (None, _) => None,
-    };
-    let size = reading.size.unwrap_or(DEFAULT_SIZE);
-    Ok(Opened {
-        room: bare_room(rt.alloc(), size, reading.features)?,
-        program: sourceless(rt.alloc(), reading),
-        deck,
-    })
+    match file {
+        Some(file) => {
+            if is_deck {
+                of_deck(rt, file, reading)
+            } else {
+                of_file(rt, file, reading)
+            }
+        }
+        None => with_deck(rt.alloc(), None, reading),
+    }
 }

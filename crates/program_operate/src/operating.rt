@@ -3,7 +3,7 @@ ghost use Rattle.std.specs.Prelude.{◌≡◌, ◌≢◌, ◌&&◌, nat_lt, not,
 ghost use Rattle.program_operate.specs.Outcome.{Sat, limit_at, outcome};
 
 use crate::beginning::{Around, Begun, around_again, begin};
-use crate::desk::FileDesk;
+use crate::desk::{FileDesk, FileKeeper};
 use crate::fault::{OperateFault, ended};
 use crate::opening::Reading;
 use bytes_files::{FileFault, read_whole};
@@ -19,8 +19,8 @@ use program_run::RunFault;
 use program_sessions::{HoldFault, durability_of, tell_cut};
 use room_alone::{Keeper, KeptRoom, NoKeeper};
 use room_files::{
-    Durability, JournalFile, KeepFault, MadeJournal, TakenUp, create_journal, find_journal,
-    keep_room, take_up_room,
+    Durability, FoundJournal, JournalFile, KeepFault, MadeJournal, TakenUp, create_journal,
+    find_journal, keep_room, take_up_room,
 };
 use std::alloc::Global;
 use std::fs::File;
@@ -65,10 +65,10 @@ fn first_lines(
         return Ok(None);
     };
     match read_whole(rt, name.as_str()) {
-        Ok(text) => match Vec::from_slice(rt.alloc(), name.as_bytes()) {
-            Ok(name) => Ok(Some(Script { name, text })),
-            Err(_) => Err(OperateFault::Run(RunFault::Memory)),
-        },
+        Ok(text) => Ok(Some(Script {
+            name: name.into_bytes(),
+            text,
+        })),
         Err(FileFault::Memory) => Err(OperateFault::Run(RunFault::Memory)),
         Err(fault) => Err(OperateFault::Run(RunFault::File(name, fault))),
     }
@@ -94,10 +94,23 @@ fn sit_down<K: Keeper + Drop>(
 ) -> Result<Sitting<K>, OperateFault>
     ensures { IfErr result (λ why. why ≢ OperateFault.Faulty) }
 {
-    let mut sitting = match Sitting::new(alloc, room) {
-        Ok(sitting) => sitting,
-        Err(_) => return Err(OperateFault::Run(RunFault::Memory)),
-    };
+    match Sitting::new(alloc, room) {
+        Ok(sitting) => with_hand(sitting, hand),
+        Err(_) => Err(OperateFault::Run(RunFault::Memory)),
+    }
+}
+
+/// A sitting that has these cards in hand too.
+///
+/// # Errors
+///
+/// `Run` for memory.
+fn with_hand<K: Keeper + Drop>(
+    mut sitting: Sitting<K>,
+    hand: Vec<Card>,
+) -> Result<Sitting<K>, OperateFault>
+    ensures { IfErr result (λ why. why ≢ OperateFault.Faulty) }
+{
     match sitting.hold(hand) {
         Ok(()) => Ok(sitting),
         Err(_) => Err(OperateFault::Run(RunFault::Memory)),
@@ -132,7 +145,6 @@ fn outcome_at(end: OperateEnd, faults: u32, is_typed: bool) -> Result<(), Operat
 /// # Errors
 ///
 /// As those of `ended`.
-#[tactic(auto, using(crate::proofs::OutcomeLemmas::sat))]
 fn answer_lines<
     R: Print + AllocGlobal,
     K: Keeper + Drop,
@@ -191,6 +203,45 @@ fn answer<R: Print + AllocGlobal, K: Keeper + Drop, D: Desk + Cutter<K>, I: Sour
     answer_lines(rt, &setting, sitting, beginning, desk, reader)
 }
 
+/// A room that is kept in a new file from here on, and what there is next to it.
+///
+/// # Errors
+///
+/// `Hold` with `Kept`; then no new file is left.
+fn kept_in_new(
+    rt: &(impl Files<File = File> + AllocGlobal),
+    begun: Begun,
+    journal: NewJournal,
+) -> Result<(KeptRoom<FileKeeper>, Around), OperateFault>
+    ensures { IfErr result (λ why. why ≢ OperateFault.Faulty) }
+{
+    let NewJournal { file, sync } = journal;
+    match create_journal(rt, file, durability_of(sync)) {
+        Ok(made) => kept_in(rt, begun, made),
+        Err(fault) => Err(OperateFault::Hold(HoldFault::Kept(fault))),
+    }
+}
+
+/// The same with the file that was made.
+fn kept_in(
+    rt: &(impl Files<File = File> + AllocGlobal),
+    begun: Begun,
+    made: MadeJournal,
+) -> Result<(KeptRoom<FileKeeper>, Around), OperateFault>
+    ensures { IfErr result (λ why. why ≢ OperateFault.Faulty) }
+{
+    let MadeJournal { file, name } = made;
+    let Begun { room, around } = begun;
+    match keep_room::<Brand, JournalFile>(rt.alloc(), room, file) {
+        Ok(kept) => Ok((kept, around)),
+        // The file has no journal.
+        Err(fault) => {
+            let fault = KeepFault::of_text(name.remove(rt), fault);
+            Err(OperateFault::Hold(HoldFault::Kept(fault)))
+        }
+    }
+}
+
 /// Keeps a room in a new file, and answers the lines of a person at it.
 fn answer_in_new<R: Files<File = File> + Print + Eprint + AllocGlobal, I: Source + Terminal>(
     rt: &R,
@@ -202,25 +253,66 @@ fn answer_in_new<R: Files<File = File> + Print + Eprint + AllocGlobal, I: Source
     ensures ok { OnOk result (Sat console.manner.prompts console.manner.limit result) }
     ensures faulty { result ≡ Err OperateFault.Faulty → Sat console.manner.prompts console.manner.limit result }
 {
-    let NewJournal { file, sync } = journal;
-    let Ok(label) = file.clone() else {
+    let Ok(label) = journal.file.clone() else {
         return Err(OperateFault::Run(RunFault::Memory));
     };
-    let Begun { room, around } = begun;
-    let MadeJournal { file, name } = match create_journal(rt, file, durability_of(sync)) {
-        Ok(made) => made,
-        Err(fault) => return Err(OperateFault::Hold(HoldFault::Kept(fault))),
-    };
-    let kept = match keep_room::<Brand, JournalFile>(rt.alloc(), room, file) {
-        Ok(kept) => kept,
-        // The file has no journal.
-        Err(fault) => {
-            let fault = KeepFault::of_text(name.remove(rt), fault);
-            return Err(OperateFault::Hold(HoldFault::Kept(fault)));
+    match kept_in_new(rt, begun, journal) {
+        Ok((kept, around)) => {
+            let mut desk = FileDesk::new(rt, console.graphics, label.as_str());
+            answer(rt, kept, around, &mut desk, console, reader)
         }
-    };
-    let mut desk = FileDesk::new(rt, console.graphics, label.as_str());
-    answer(rt, kept, around, &mut desk, console, reader)
+        Err(fault) => Err(fault),
+    }
+}
+
+/// The room of a journal's file, which keeps it from here on, and what there is next to it.
+///
+/// # Errors
+///
+/// `Hold` with `Kept`; `Run` or `NoLabels` for the source.
+fn kept_again(
+    rt: &(impl Files<File = File> + Eprint + AllocGlobal),
+    file: String,
+    label: &str,
+    source: Option<String>,
+    reading: Reading,
+) -> Result<(KeptRoom<FileKeeper>, Around), OperateFault>
+    ensures { IfErr result (λ why. why ≢ OperateFault.Faulty) }
+{
+    match find_journal(rt, file, Durability::System) {
+        // If the source is refused, the file is as it was.
+        Ok(found) => match around_again(rt, found.room(), label, source, reading) {
+            Ok(around) => take_up(rt, found, around),
+            Err(fault) => Err(fault),
+        },
+        Err(fault) => Err(OperateFault::Hold(HoldFault::Kept(fault))),
+    }
+}
+
+/// The room of a journal that was found, which its file keeps from here on.
+fn take_up(
+    rt: &(impl Eprint + AllocGlobal),
+    found: FoundJournal,
+    around: Around,
+) -> Result<(KeptRoom<FileKeeper>, Around), OperateFault>
+    ensures { IfErr result (λ why. why ≢ OperateFault.Faulty) }
+{
+    match found.take_up() {
+        Ok(
+            TakenUp {
+                room,
+                file,
+                cut,
+                ..
+            },
+        ) => {
+            tell_cut(rt, cut);
+            // What the file had before is unknown, and so is what it has.
+            let kept = take_up_room::<Brand, JournalFile>(rt.alloc(), room, file);
+            Ok((kept, around))
+        }
+        Err(fault) => Err(OperateFault::Hold(HoldFault::Kept(fault))),
+    }
 }
 
 /// Goes on with the journal of a file, in the same file.
@@ -238,26 +330,80 @@ fn go_on<R: Files<File = File> + Print + Eprint + AllocGlobal, I: Source + Termi
     let Ok(label) = file.clone() else {
         return Err(OperateFault::Run(RunFault::Memory));
     };
-    let found = match find_journal(rt, file, Durability::System) {
-        Ok(found) => found,
-        Err(fault) => return Err(OperateFault::Hold(HoldFault::Kept(fault))),
-    };
-    // If the source is refused, the file is as it was.
-    let around = around_again(rt, found.room(), label.as_str(), source, reading)?;
-    let TakenUp {
-        room,
-        file,
-        cut,
-        ..
-    } = match found.take_up() {
-        Ok(taken) => taken,
-        Err(fault) => return Err(OperateFault::Hold(HoldFault::Kept(fault))),
-    };
-    tell_cut(rt, cut);
-    // What the file had before is unknown, and so is what it has.
-    let kept = take_up_room::<Brand, JournalFile>(rt.alloc(), room, file);
-    let mut desk = FileDesk::new(rt, console.graphics, label.as_str());
-    answer(rt, kept, around, &mut desk, console, reader)
+    match kept_again(rt, file, label.as_str(), source, reading) {
+        Ok((kept, around)) => {
+            let mut desk = FileDesk::new(rt, console.graphics, label.as_str());
+            answer(rt, kept, around, &mut desk, console, reader)
+        }
+        Err(fault) => Err(fault),
+    }
+}
+
+/// Answers the lines of a person at a room, whose journal is kept in a new file, or isn't kept.
+fn answer_begun<R: Files<File = File> + Print + Eprint + AllocGlobal, I: Source + Terminal>(
+    rt: &R,
+    begun: Begun,
+    journal: Option<NewJournal>,
+    console: Console,
+    reader: &mut I,
+) -> Result<(), OperateFault>
+    ensures ok { OnOk result (Sat console.manner.prompts console.manner.limit result) }
+    ensures faulty { result ≡ Err OperateFault.Faulty → Sat console.manner.prompts console.manner.limit result }
+{
+    match journal {
+        Some(journal) => answer_in_new(rt, begun, journal, console, reader),
+        None => {
+            let Begun { room, around } = begun;
+            let mut desk = FileDesk::new(rt, console.graphics, "");
+            answer(
+                rt,
+                KeptRoom::new(room, NoKeeper),
+                around,
+                &mut desk,
+                console,
+                reader,
+            )
+        }
+    }
+}
+
+/// What a new machine has but the program of its file.
+#[derive(Drop)]
+struct New {
+    is_deck: bool,
+    cards: Option<String>,
+    switches: [bool; 7],
+    journal: Option<NewJournal>,
+}
+
+/// Answers the lines of a person at a new machine, or at that of the file of a journal.
+fn sit_at<R: Files<File = File> + Print + Eprint + AllocGlobal, I: Source + Terminal>(
+    rt: &R,
+    file: Option<String>,
+    resumed: Option<String>,
+    new: New,
+    reading: Reading,
+    console: Console,
+    reader: &mut I,
+) -> Result<(), OperateFault>
+    ensures ok { OnOk result (Sat console.manner.prompts console.manner.limit result) }
+    ensures faulty { result ≡ Err OperateFault.Faulty → Sat console.manner.prompts console.manner.limit result }
+{
+    match resumed {
+        Some(resumed) => go_on(rt, resumed, file, reading, console, reader),
+        None => {
+            let New {
+                is_deck,
+                cards,
+                switches,
+                journal,
+            } = new;
+            match begin(rt, file, is_deck, cards, switches, reading) {
+                Ok(begun) => answer_begun(rt, begun, journal, console, reader),
+                Err(fault) => Err(fault),
+            }
+        }
+    }
 }
 
 /// Answers the lines of a person at a new machine, or at that of a journal. If it is Ok, all lines were done that came
@@ -299,22 +445,22 @@ pub fn operate_at<R: Files<File = File> + Print + Eprint + AllocGlobal, I: Sourc
         size,
         features,
     };
-    let console = Console {
-        manner: manner_of(ends, echo, limit),
-        graphics,
-        first: first_lines(rt, script)?,
+    let new = New {
+        is_deck,
+        cards,
+        switches,
+        journal,
     };
-    if let Some(resumed) = resumed {
-        return go_on(rt, resumed, file, reading, console, reader);
-    }
-    let begun = begin(rt, file, is_deck, cards, switches, reading)?;
-    match journal {
-        Some(journal) => answer_in_new(rt, begun, journal, console, reader),
-        None => {
-            let Begun { room, around } = begun;
-            let kept = KeptRoom::new(room, NoKeeper);
-            let mut desk = FileDesk::new(rt, console.graphics, "");
-            answer(rt, kept, around, &mut desk, console, reader)
+    match first_lines(rt, script) {
+        Ok(first) => {
+            let manner = manner_of(ends, echo, limit);
+            let console = Console {
+                manner,
+                graphics,
+                first,
+            };
+            sit_at(rt, file, resumed, new, reading, console, reader)
         }
+        Err(fault) => Err(fault),
     }
 }
