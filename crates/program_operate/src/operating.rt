@@ -113,7 +113,10 @@ fn with_hand<K: Keeper + Drop>(
 {
     match sitting.hold(hand) {
         Ok(()) => Ok(sitting),
-        Err(_) => Err(OperateFault::Run(RunFault::Memory)),
+        Err(_) => {
+            drop(sitting);
+            Err(OperateFault::Run(RunFault::Memory))
+        }
     }
 }
 
@@ -125,7 +128,12 @@ fn with_hand<K: Keeper + Drop>(
 fn outcome_of<K: Keeper + Drop>(operated: Operated<K>, is_typed: bool) -> Result<(), OperateFault>
     ensures { result ≡ outcome (nat_lt 0 operated.faults && not is_typed) operated.end }
 {
-    let Operated { end, faults, .. } = operated;
+    let Operated {
+        sitting,
+        end,
+        faults,
+    } = operated;
+    drop(sitting);
     outcome_at(end, faults, is_typed)
 }
 
