@@ -211,7 +211,7 @@ fn answer<R: Print + AllocGlobal, K: Keeper + Drop, D: Desk + Cutter<K>, I: Sour
     answer_lines(rt, &setting, sitting, beginning, desk, reader)
 }
 
-/// A room that is kept in a new file from here on, and what there is next to it.
+/// A room whose journal a new file gets from here on, and what there is next to it.
 ///
 /// # Errors
 ///
@@ -347,7 +347,7 @@ fn go_on<R: Files<File = File> + Print + Eprint + AllocGlobal, I: Source + Termi
     }
 }
 
-/// Answers the lines of a person at a room, whose journal is kept in a new file, or isn't kept.
+/// Answers the lines of a person at a room, with a new file for its journal or without one.
 fn answer_begun<R: Files<File = File> + Print + Eprint + AllocGlobal, I: Source + Terminal>(
     rt: &R,
     begun: Begun,

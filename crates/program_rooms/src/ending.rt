@@ -13,7 +13,7 @@ pub(crate) fn first_of(
     }
 }
 
-/// Tells on standard output how many commands the journal of a room has that ended so.
+/// Reports on standard output how many commands the journal of a room has that ended so.
 ///
 /// # Errors
 ///

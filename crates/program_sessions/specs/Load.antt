@@ -28,7 +28,7 @@ pub record IsTooLong (features : Features) (text : List ℕ) : Type 0 where
   pub text_is : IsTextOf text image
   pub more : most_entries < length (fit_entries features ++ load_entries image)
 
--- why an image wasn't put into a new room: its commands, with that of the features, are too many; or want of memory
+-- why an image wasn't put into a new room: its commands, with that of the features, are too many; or memory was refused
 abbrev pub IsWhyNotPut : Features → Image → HoldFault → Type 0
 IsWhyNotPut features image fault.Output = ⊥
 IsWhyNotPut features image fault.Size = ⊥

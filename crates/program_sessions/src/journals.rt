@@ -145,7 +145,7 @@ fn hold_unkept<R: Source, W: Sink>(
     }
 }
 
-/// The same with a journal that is kept in a new file.
+/// The same with a new file for its journal.
 fn hold_kept<R: Source, W: Sink>(
     rt: &(impl Files<File = File> + AllocGlobal),
     opening: Opening,
