@@ -8,3 +8,5 @@ pub mod ReelLemmas
 pub mod CountLemmas
 pub mod HandedLemmas
 pub mod EndLemmas
+pub mod FaultLemmas
+pub mod ClashLemmas

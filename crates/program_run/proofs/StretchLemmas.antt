@@ -64,6 +64,13 @@ all_of_it n left why s few (inr most) ended =
     let same : left ≡ n = omega arith in
     ap (λ (k : ℕ). unattended k s) same
 
+-- a stretch is a part of what is left, and so are its steps
+pub within_left : (n left most : ℕ) → n ≡ min left most → n ≤ left
+within_left n left most e = omega (arith, e)
+
+pub few_steps : (steps n left most : ℕ) → n ≡ min left most → steps ≤ n → steps ≤ left
+few_steps steps n left most e few = omega (arith, e, few)
+
 -- a part of a job, and what is left of it
 pub stretch_job : (n left steps : ℕ) (why : Stop) (found : Option Stop) (s now : TapedMachine) (lines : List PrintLine)
     (cards : List Card) → n ≤ left → unattended n s ≡ job_of now steps why lines cards

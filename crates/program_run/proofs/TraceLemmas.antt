@@ -1,5 +1,5 @@
 -- A step of a job, and its line.
-use Rattle.std.proofs.Common.{◌≡◌, ◌≢◌, ◌<◌, ◌≤◌, ◌⊎◌, not, ℕ, ◌+◌, ◌-◌, zero, suc, Bool, true, false, List, [], ◌++◌}
+use Rattle.std.proofs.Common.{◌≡◌, ◌≢◌, ◌<◌, ◌≤◌, ◌⊎◌, ℕ, ◌+◌, ◌-◌, zero, suc, Bool, true, false, List, [], ◌++◌}
 use Rattle.std.proofs.Common.{length, min, Option, None, Some}
 use Rattle.std.proofs.Common.{refl, sym, ◌∙◌, ap, subst, arith, append_assoc, length-append, inl, inr}
 use Rattle.std.proofs.lemmas.Option.{none-some}
@@ -26,11 +26,8 @@ use Rattle.program_run.specs.TraceText.{mark_after, taped_line, trace_on, trace_
 use Rattle.std.proofs.KnownBytes.{Appends-nil, Appends-trans}
 use Rattle.std.specs.Io.KnownBytes.{Appends}
 use Rattle.bytes_streams.specs.Sink.{AppendsPart}
-use Rattle.program_call.specs.declared.call.Start.TheVariants as start
-use Rattle.program_run.specs.RunTrace.{IsWhyUntraced, TracedStretch, line_if, lines_after, most_at_once, rest_traced}
+use Rattle.program_run.specs.RunTrace.{IsOfSize, TracedStretch, line_if, lines_after, most_at_once, rest_traced}
 use Rattle.program_run.specs.RunTrace.{seen_if, traced}
-use Rattle.program_run.specs.declared.deck_running.Broken.{Broken}
-use Rattle.program_run.specs.declared.deck_running.Broken.TheVariants as broken
 use Rattle.program_run.proofs.StretchLemmas.{ran_part}
 use Rattle.program_run.proofs.WrittenLemmas.{part_beyond, part_of_longer}
 
@@ -309,12 +306,16 @@ stretch_told {told = told} {next = next} law false deck deck' m m' left few most
     told_with {tape = mark_after next told m'.tapes} law false deck deck' m m' left few most_is no_lines no_cards job
     lines_are cards_are counted none some more ended paper_is still_is held_is stacker_is next_is refl
 
--- a write to another file hasn't touched the trace
-pub untraced : (why : Broken) (failed : Bool) → why ≢ broken.Trace → IsWhyUntraced why failed failed
-untraced broken.Memory failed other = refl
-untraced broken.Paper failed other = refl
-untraced broken.Punch failed other = refl
-untraced broken.Trace failed other = absurd (other refl)
+-- a stretch that doesn't end the job has steps
+pub some_limit : (is : Bool) (n left most : ℕ) → n ≡ min left most → most ≡ most_at_once is → n < left → 0 < n
+some_limit true n left most e e_most more = omega (arith, e, e_most, more)
+some_limit false n left most e e_most more = omega (arith, e, e_most, more)
+
+-- core storage has the size that was seen
+pub of_size : (is : Bool) (before : Option Seen) (s s' : State) → before ≡ seen_if is s
+    → length s'.storage ≡ length s.storage → IsOfSize before s'
+of_size true before s s' e same = subst (λ (each : Option Seen). IsOfSize each s') (sym e) (sym same)
+of_size false before s s' e same = subst (λ (each : Option Seen). IsOfSize each s') (sym e) tt
 
 seen_is : (is : Bool) (s : State) → is_some (seen_if is s) ≡ is
 seen_is true s = refl

@@ -1,5 +1,5 @@
 -- What was written of lines and cards, part by part.
-use Rattle.std.proofs.Common.{◌≡◌, ℕ, List, [], ◌∷◌, ◌++◌, Option, None, Some, refl, sym, ◌∙◌, ap, subst, append_assoc}
+use Rattle.std.proofs.Common.{◌≡◌, ◌≢◌, ℕ, Bool, List, [], ◌∷◌, ◌++◌, Option, None, Some, refl, sym, ◌∙◌, ap, subst, append_assoc}
 use Rattle.std.proofs.Common.{map, take, length, ◌≤◌, zero, suc, arith}
 use Rattle.std.proofs.lemmas.List.{append-nil, length-map, map-append, take-map}
 use Rattle.std.proofs.KnownBytes.{Appends-nil, Appends-trans}
@@ -15,7 +15,10 @@ use Rattle.job_runner.specs.declared.paper.PaperPlace.{PaperPlace}
 use Rattle.job_runner.specs.Paper.{line_text, paper_text, place_after, place_beyond}
 use Rattle.job_runner.specs.Unattended.{IsPartOf, Job}
 use Rattle.bytes_streams.specs.Sink.{AppendsPart}
-use Rattle.program_run.specs.RunDeck.{HasWritten, HasWrittenPart, Received, cards_text, in_graphics}
+use Rattle.program_run.specs.RunDeck.{HasWritten, HasWrittenPart, IsWhyUnwritten, Received, cards_text}
+use Rattle.program_run.specs.RunDeck.{in_graphics}
+use Rattle.program_run.specs.declared.deck_running.Broken.{Broken}
+use Rattle.program_run.specs.declared.deck_running.Broken.TheVariants as broken
 
 -- nothing is a part of any text
 pub nothing_yet : (old : Option (List ℕ)) (text : List ℕ) → AppendsPart old old text
@@ -139,3 +142,11 @@ pub kept_back : (chain : Graphics) (old new : Option (List ℕ)) → Keeps old n
 kept_back chain None new same = tt
 kept_back chain (Some xs) None same = same
 kept_back chain (Some xs) (Some ys) same = ap (map (ours_of chain)) same
+
+-- if the trace wasn't written, or memory was refused, paper and cards have failed as they had before
+pub only_traced : (why : Broken) (paper paper' punch punch' : Bool) → (why ≢ broken.Paper) × (why ≢ broken.Punch)
+    → paper' ≡ paper → punch' ≡ punch → IsWhyUnwritten why paper paper' punch punch'
+only_traced broken.Memory paper paper' punch punch' other e e' = (e, e')
+only_traced broken.Paper paper paper' punch punch' other e e' = absurd (other.0 refl)
+only_traced broken.Punch paper paper' punch punch' other e e' = absurd (other.1 refl)
+only_traced broken.Trace paper paper' punch punch' other e e' = (e, e')

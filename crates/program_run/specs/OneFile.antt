@@ -2,7 +2,7 @@
 use Rattle.std.specs.Prelude.{◌≡◌, ◌⊎◌, ℕ, ⊤, List, Option, Some, string_bytes}
 use Rattle.program_call.specs.declared.call.MountedReel.{MountedReel}
 use Rattle.program_call.specs.declared.call.ReelSource.{ReelSource}
-use Rattle.program_run.specs.RunFile.{InputNames, IsName, IsWrittenName, WrittenNames}
+use Rattle.program_run.specs.RunFile.{InputNames, IsInput, IsName, IsWrittenName, WrittenNames}
 use Rattle.program_run.specs.RunReels.{IsReadFrom, IsReadReel, IsWrittenReel, IsWrittenTo}
 use Rattle.program_run.specs.declared.one_file.Clash.{Clash}
 use Rattle.program_run.specs.declared.one_file.Clash.TheVariants as clash
@@ -45,19 +45,14 @@ IsReelsClash reels clash.Memory = ⊤
 IsReelsClash reels (clash.Names one other) =
     IsAnyReel reels (string_bytes one) × IsWrittenReel reels (string_bytes other)
 
--- the file of a reel and one that is written; or the program or the deck, and the file of a reel that is written
-abbrev pub IsClashWithReel : Option (List ℕ) → Option (List ℕ) → WrittenNames → ReelSource → Clash → Type 0
-IsClashWithReel program deck outputs reel clash.Memory = ⊤
-IsClashWithReel program deck outputs reel (clash.Names one other) =
-    (IsReelFile reel (string_bytes one) × IsWrittenName outputs (string_bytes other))
-    ⊎ (((program ≡ Some (string_bytes one)) ⊎ (deck ≡ Some (string_bytes one)))
-    × IsWrittenTo reel (string_bytes other))
+-- the program or the deck, and this file
+abbrev pub IsReadClash : InputNames → List ℕ → Clash → Type 0
+IsReadClash inputs file clash.Memory = ⊤
+IsReadClash inputs file (clash.Names one other) = IsInput inputs (string_bytes one) × (file ≡ string_bytes other)
 
--- the same of one of these reels, or two of them
-abbrev pub IsClashWithReels : Option (List ℕ) → Option (List ℕ) → WrittenNames → List MountedReel → Clash → Type 0
-IsClashWithReels program deck outputs reels clash.Memory = ⊤
-IsClashWithReels program deck outputs reels (clash.Names one other) =
-    (IsAnyReel reels (string_bytes one) × IsWrittenName outputs (string_bytes other))
-    ⊎ ((((program ≡ Some (string_bytes one)) ⊎ (deck ≡ Some (string_bytes one)))
-    × IsWrittenReel reels (string_bytes other))
-    ⊎ IsReelsClash reels (clash.Names one other))
+-- the file of a reel and one that is written; or the program or the deck, and the file of a reel that is written
+abbrev pub IsClashWithReel : InputNames → WrittenNames → ReelSource → Clash → Type 0
+IsClashWithReel inputs outputs reel clash.Memory = ⊤
+IsClashWithReel inputs outputs reel (clash.Names one other) =
+    (IsReelFile reel (string_bytes one) × IsWrittenName outputs (string_bytes other))
+    ⊎ (IsInput inputs (string_bytes one) × IsWrittenTo reel (string_bytes other))

@@ -1,5 +1,5 @@
 -- How a run of files ends (own): what is reported, and the reels that are handed over to be written.
-use Rattle.std.specs.Prelude.{◌≡◌, ℕ, ⊤, List, Option, option_map, string_bytes}
+use Rattle.std.specs.Prelude.{◌≡◌, ℕ, ⊤, List, Option, Result, Ok, Err, option_map, string_bytes}
 use Rattle.cpu_1401.specs.State.{State}
 use Rattle.devices_1401.specs.declared.card.Card.{Card}
 use Rattle.machine_panel.specs.declared.stop.Stop.TheVariants as stop
@@ -10,12 +10,14 @@ use Rattle.program_call.specs.declared.call.MountedReel.{MountedReel}
 use Rattle.program_call.specs.declared.call.Start.{Start}
 use Rattle.program_run.specs.ReelPlaces.{places_of}
 use Rattle.program_run.specs.RunDeck.{IsAtEndOf, started_job}
+use Rattle.program_run.specs.RunFile.{IsFaultOf}
 use Rattle.program_run.specs.RunJob.{IsBegun, begun_with, report_on, set_up}
 use Rattle.program_run.specs.RunReels.{AreMounted}
 use Rattle.program_run.specs.WrittenReels.{ReelFile, HandsOver, files_of}
 use Rattle.program_run.specs.declared.ending.Ending.{Ending}
 use Rattle.program_run.specs.declared.fault.RunFault.{RunFault}
 use Rattle.program_run.specs.declared.fault.RunFault.TheVariants as fault
+use Rattle.program_run.specs.declared.running.Begun.{Begun}
 
 -- the job of a machine that is started so has come to its end: its report, and how far its reels are, is what is
 -- reported, and each file of a reel is handed over with the text of the reel on its unit
@@ -59,3 +61,25 @@ IfStopped Is (fault.Image why) = ⊤
 IfStopped Is (fault.Reel name why) = ⊤
 IfStopped Is (fault.Exists name) = ⊤
 IfStopped Is fault.Memory = ⊤
+
+-- what became of a job: it has come to a halt, or why not
+abbrev pub Ran : Job → Option (List ReelFile) → Option (List ReelFile) → Result ⊤ RunFault → Type 0
+Ran job old new (Ok done) = IsHalt (λ ending. EndsAs job ending old new)
+Ran job old new (Err why) = IsFaultOf job why × IfStopped (λ ending. EndsAs job ending old new) why
+
+-- a fault of a job that reports no stop
+abbrev pub IsNoStopOf : Job → RunFault → Type 0
+IsNoStopOf job why = IsFaultOf job why × IfStopped (λ _. ⊥) why
+
+-- its files were read, and its reels are mounted
+pub record IsReadFor (job : Job) (read : Begun) : Type 0 where
+  pub begun :
+      IsBegun job.start job.language job.size (option_map string_bytes job.cards) read.taped.machine read.cards
+  pub reels : AreMounted job.reels.items no_tapes read.taped.tapes
+
+-- and the machine is fitted, and its switches are set
+pub record IsBegunFor (job : Job) (it : Begun) : Type 0 where
+  pub machine : State
+  pub begun : IsBegun job.start job.language job.size (option_map string_bytes job.cards) machine it.cards
+  pub reels : AreMounted job.reels.items no_tapes it.taped.tapes
+  pub machine_is : it.taped.machine ≡ set_up job.features job.switches machine

@@ -2,12 +2,13 @@
 -- its bytes.
 use Rattle.std.specs.Prelude.{◌≡◌, ◌≢◌, ◌⊎◌, ℕ, ⊤, true, List, Option, Some, option_map, string_bytes}
 use Rattle.machine_panel.specs.declared.stop.Stop.TheVariants as stop
+use Rattle.autocoder_deck.specs.declared.entry.LoadFault.{LoadFault}
 use Rattle.program_call.specs.declared.call.Job.{Job}
 use Rattle.program_call.specs.declared.call.Start.{Start}
 use Rattle.program_call.specs.declared.call.Start.TheVariants as start
 use Rattle.program_call.specs.declared.call.MountedReel.{MountedReel}
 use Rattle.program_call.specs.Sizes.{is_refused}
-use Rattle.program_run.specs.RunReels.{IsNewReel, IsReadReel, IsUnmounted, IsWrittenReel}
+use Rattle.program_run.specs.RunReels.{IsNewReel, IsNotPut, IsReadReel, IsUnmounted, IsWrittenReel}
 use Rattle.program_run.specs.declared.fault.RunFault.{RunFault}
 use Rattle.program_run.specs.declared.fault.RunFault.TheVariants as fault
 
@@ -95,70 +96,13 @@ IsWrittenName names name =
     ⊎ ((names.punch ≡ Some name)
     ⊎ ((names.trace ≡ Some name) ⊎ ((names.image ≡ Some name) ⊎ IsWrittenReel names.reels name)))
 
--- what isn't written: the file of this name, or standard output if there is no name
+-- a file of a run isn't written, if there is one of this name
 abbrev pub IsUnwrittenFile : Option (List ℕ) → RunFault → Type 0
-IsUnwrittenFile file fault.Output = ⊤
-IsUnwrittenFile file fault.Size = ⊥
-IsUnwrittenFile file (fault.File name why) = ⊥
-IsUnwrittenFile file (fault.Unwritten name) = file ≡ Some (string_bytes name)
-IsUnwrittenFile file (fault.OneFile first second) = ⊥
-IsUnwrittenFile file (fault.Deck name why) = ⊥
-IsUnwrittenFile file (fault.Unloaded why) = ⊥
-IsUnwrittenFile file (fault.Stopped ending) = ⊥
-IsUnwrittenFile file (fault.Source why) = ⊥
-IsUnwrittenFile file (fault.Image why) = ⊥
-IsUnwrittenFile file (fault.Reel name why) = ⊥
-IsUnwrittenFile file (fault.Exists name) = ⊥
-IsUnwrittenFile file fault.Memory = ⊤
+IsUnwrittenFile file why = (name : List ℕ) × (file ≡ Some name) × IsNotPut name why
 
--- what isn't written: one of these files, or standard output
-abbrev pub IsUnwritten : WrittenNames → RunFault → Type 0
-IsUnwritten names fault.Output = ⊤
-IsUnwritten names fault.Size = ⊥
-IsUnwritten names (fault.File name why) = ⊥
-IsUnwritten names (fault.Unwritten name) = IsWrittenName names (string_bytes name)
-IsUnwritten names (fault.OneFile first second) = ⊥
-IsUnwritten names (fault.Deck name why) = ⊥
-IsUnwritten names (fault.Unloaded why) = ⊥
-IsUnwritten names (fault.Stopped ending) = ⊥
-IsUnwritten names (fault.Source why) = ⊥
-IsUnwritten names (fault.Image why) = ⊥
-IsUnwritten names (fault.Reel name why) = ⊥
-IsUnwritten names (fault.Exists name) = ⊥
-IsUnwritten names fault.Memory = ⊤
-
--- why there is no image of what a deck has loaded: it isn't loaded, or the image's file isn't written
-abbrev pub IsUnstored : Start → Option (List ℕ) → RunFault → Type 0
-IsUnstored how file fault.Output = ⊥
-IsUnstored how file fault.Size = ⊥
-IsUnstored how file (fault.File name why) = ⊥
-IsUnstored how file (fault.Unwritten name) = file ≡ Some (string_bytes name)
-IsUnstored how file (fault.OneFile first second) = ⊥
-IsUnstored how file (fault.Deck name why) = ⊥
-IsUnstored how file (fault.Unloaded why) = how ≡ start.LoadKey
-IsUnstored how file (fault.Stopped ending) = ⊥
-IsUnstored how file (fault.Source why) = ⊥
-IsUnstored how file (fault.Image why) = ⊥
-IsUnstored how file (fault.Reel name why) = ⊥
-IsUnstored how file (fault.Exists name) = ⊥
-IsUnstored how file fault.Memory = ⊤
-
--- why a run doesn't begin whose files are read: a file can't be made that it writes, or there is no image of what a deck
--- has loaded
-abbrev pub IsUnready : Start → WrittenNames → RunFault → Type 0
-IsUnready how names fault.Output = ⊤
-IsUnready how names fault.Size = ⊥
-IsUnready how names (fault.File name why) = ⊥
-IsUnready how names (fault.Unwritten name) = IsWrittenName names (string_bytes name)
-IsUnready how names (fault.OneFile first second) = ⊥
-IsUnready how names (fault.Deck name why) = ⊥
-IsUnready how names (fault.Unloaded why) = how ≡ start.LoadKey
-IsUnready how names (fault.Stopped ending) = ⊥
-IsUnready how names (fault.Source why) = ⊥
-IsUnready how names (fault.Image why) = ⊥
-IsUnready how names (fault.Reel name why) = ⊥
-IsUnready how names (fault.Exists name) = ⊥
-IsUnready how names fault.Memory = ⊤
+-- a deck isn't loaded
+abbrev pub IsUnloaded : RunFault → Type 0
+IsUnloaded why = (why ≡ fault.Memory) ⊎ ((cause : LoadFault) × (why ≡ fault.Unloaded cause))
 
 -- how a run fails that has begun: what isn't written, a new reel whose file is there, or a stop that is no halt
 abbrev pub IsOfRun : WrittenNames → RunFault → Type 0

@@ -1,5 +1,5 @@
 -- The reels of a job: what is mounted, and what is reported of their files (own). Nothing is said of the files themselves.
-use Rattle.std.specs.Prelude.{◌≡◌, ◌⊎◌, ◌&&◌, nat_le, ℕ, ⊤, List, [], ◌∷◌, Ok, String, string_bytes}
+use Rattle.std.specs.Prelude.{◌≡◌, ◌⊎◌, ◌&&◌, nat_le, ℕ, List, [], ◌∷◌, Ok, String, string_bytes}
 use Rattle.std.specs.Prelude.{if◌then◌else◌}
 use Rattle.std.specs.Global.{Global}
 use Rattle.bytes_files.specs.declared.fault.FileFault.{FileFault}
@@ -97,6 +97,10 @@ IsThere file why = (why ≡ fault.Memory) ⊎ IsNamed fault.Exists file why
 -- it isn't written
 abbrev pub IsNotPut : List ℕ → RunFault → Type 0
 IsNotPut file why = (why ≡ fault.Memory) ⊎ IsNamed fault.Unwritten file why
+
+-- why the file of a new reel can't be made
+abbrev pub IsUnmadeOf : ReelSource → RunFault → Type 0
+IsUnmadeOf from why = (file : List ℕ) × IsWrittenTo from file × IsNotPut file why
 
 -- why a reel isn't mounted
 abbrev pub IsUnmountedOf : ReelSource → RunFault → Type 0

@@ -1,5 +1,5 @@
 //! A machine run with a deck, whose paper and punched cards are written as they come.
-ghost use Rattle.std.specs.Prelude.{◌≡◌, ◌<◌, ◌≤◌, ◌+◌, ◌⊎◌, ◌≢◌, false, true, length, min};
+ghost use Rattle.std.specs.Prelude.{◌≡◌, ◌<◌, ◌≤◌, ◌+◌, ◌⊎◌, ◌≢◌, Bool, true, length, min};
 ghost use Rattle.std.specs.Prelude.{[], Option, None, Some, IfOk, IfErr, IfSome, MatchOption, OnOk, OnErr, is_some};
 ghost use Rattle.std.specs.Prelude.{option_and_then};
 ghost use Rattle.std.specs.Io.KnownBytes.{Appends};
@@ -27,22 +27,17 @@ use job_trace::{TapeMark, Work};
 use machine_tapes::{TapeInstruction, TapedMachine, Tapes, tape_instruction, taped_step_law};
 use program_call::Start;
 use std::alloc::Global;
-use thiserror::Error;
 
 /// Why a run broke off.
-#[derive(Clone, Copy, Debug, Error)]
+#[derive(Clone, Copy)]
 pub enum Broken {
     /// Memory was refused.
-    #[error("memory refused")]
     Memory,
     /// The paper wasn't written.
-    #[error("cannot write the paper")]
     Paper,
     /// The punched cards weren't written.
-    #[error("cannot write the punched cards")]
     Punch,
     /// The trace wasn't written.
-    #[error("cannot write the trace")]
     Trace,
 }
 
@@ -75,16 +70,16 @@ fn write_paper<W: Sink>(
     ensures part { OnErr result
         (AppendsPart (W.received paper.old) (W.received paper.new) (paper_text place lines.now)) }
     ensures why { IfErr result (λ why.
-        IsWhyUnwritten why (W.has_failed paper.old) (W.has_failed paper.new) false false) }
-    ensures untraced { IfErr result (λ why. why ≢ Broken.Trace) }
+        (punch : Bool) → IsWhyUnwritten why (W.has_failed paper.old) (W.has_failed paper.new) punch punch) }
+    ensures untraced { IfErr result (λ why. (trace : Bool) → IsWhyUntraced why trace trace) }
 {
     let mut text = Vec::new(alloc);
-    let Ok(next) = put_paper(&mut text, place, lines) else {
-        return Err(Broken::Memory);
-    };
-    match put_all(paper, text.as_slice()) {
-        Ok(()) => Ok(next),
-        Err(_) => Err(Broken::Paper),
+    match put_paper(&mut text, place, lines) {
+        Ok(next) => match put_all(paper, text.as_slice()) {
+            Ok(()) => Ok(next),
+            Err(_) => Err(Broken::Paper),
+        },
+        Err(_) => Err(Broken::Memory),
     }
 }
 
@@ -95,16 +90,16 @@ fn write_cards<P: Sink>(alloc: Global, cards: &[Card], punch: &mut P) -> Result<
     ensures good { OnOk result (P.has_failed punch.new ≡ P.has_failed punch.old) }
     ensures part { OnErr result (AppendsPart (P.received punch.old) (P.received punch.new) (cards_text cards.now)) }
     ensures why { IfErr result (λ why.
-        IsWhyUnwritten why false false (P.has_failed punch.old) (P.has_failed punch.new)) }
-    ensures untraced { IfErr result (λ why. why ≢ Broken.Trace) }
+        (paper : Bool) → IsWhyUnwritten why paper paper (P.has_failed punch.old) (P.has_failed punch.new)) }
+    ensures untraced { IfErr result (λ why. (trace : Bool) → IsWhyUntraced why trace trace) }
 {
     let mut text = Vec::new(alloc);
-    if put_cards(&mut text, cards).is_err() {
-        return Err(Broken::Memory);
-    }
-    match put_all(punch, text.as_slice()) {
-        Ok(()) => Ok(()),
-        Err(_) => Err(Broken::Punch),
+    match put_cards(&mut text, cards) {
+        Ok(()) => match put_all(punch, text.as_slice()) {
+            Ok(()) => Ok(()),
+            Err(_) => Err(Broken::Punch),
+        },
+        Err(_) => Err(Broken::Memory),
     }
 }
 
@@ -213,13 +208,20 @@ fn run_stretch<'d, W: Sink, P: Sink, F: Sink>(
     let is_traced = outputs.trace.is_on();
     let next = tape_instruction(&taped.machine);
     // A deck in memory is always read, and what is kept in memory is refused for its lack alone.
-    let Ok(end) = run_job(taped, deck, limit, &mut output) else {
-        return Err(Broken::Memory);
+    let end = match run_job(taped, deck, limit, &mut output) {
+        Ok(end) => end,
+        Err(_) => return Err(Broken::Memory),
     };
     let lines = output.lines.as_slice();
     let cards = output.cards.as_slice();
-    let place = write_paper(alloc, place, lines, &mut outputs.paper)?;
-    write_cards(alloc, cards, &mut outputs.punch)?;
+    let place = match write_paper(alloc, place, lines, &mut outputs.paper) {
+        Ok(place) => place,
+        Err(unwritten) => return Err(unwritten),
+    };
+    match write_cards(alloc, cards, &mut outputs.punch) {
+        Ok(()) => {}
+        Err(unpunched) => return Err(unpunched),
+    }
     let stop = stop_of_job(end.stop, limit, left);
     let why = stop_of_step(end.stop);
     let work = Work {
@@ -228,16 +230,17 @@ fn run_stretch<'d, W: Sink, P: Sink, F: Sink>(
         punched: usize::from(regs.stacker) < cards.len(),
         tape: mark_after(is_traced, next, why, &taped.tapes),
     };
-    outputs
-        .trace
-        .put_line(alloc, limit, &taped.machine, work, why)?;
-    Ok(Stretch {
-        steps: end.steps,
-        stop,
-        place,
-        printed: lines.len() as u64,
-        punched: cards.len() as u64,
-    })
+    let trace = &mut outputs.trace;
+    match trace.put_line(alloc, limit, &taped.machine, work, why) {
+        Ok(()) => Ok(Stretch {
+            steps: end.steps,
+            stop,
+            place,
+            printed: lines.len() as u64,
+            punched: cards.len() as u64,
+        }),
+        Err(untraced) => Err(untraced),
+    }
 }
 
 /// Runs a machine with a deck until it stops or until this many instructions were carried out. What it prints and
@@ -278,13 +281,19 @@ fn run_deck<'d, W: Sink, P: Sink, F: Sink, T: Watch>(
     ensures why_untraced { IfErr result (λ why. IsWhyUntraced why (failed_of F.has_failed outputs.old.trace.file)
         (failed_of F.has_failed outputs.new.trace.file)) }
 {
-    outputs.trace.begin(alloc, &taped.machine)?;
+    match outputs.trace.begin(alloc, &taped.machine) {
+        Ok(()) => {}
+        Err(broken) => return Err(broken),
+    }
     let mut left = limit;
     let mut place = PaperPlace::FIRST;
     let mut printed: u64 = 0;
     let mut punched: u64 = 0;
     loop {
-        let stretch = run_stretch(alloc, taped, deck, left, place, outputs)?;
+        let stretch = match run_stretch(alloc, taped, deck, left, place, outputs) {
+            Ok(stretch) => stretch,
+            Err(broken) => return Err(broken),
+        };
         left -= stretch.steps;
         place = stretch.place;
         printed = printed.saturating_add(stretch.printed);
@@ -356,15 +365,10 @@ fn run_nothing<'d, W: Sink, P: Sink, F: Sink, T: Watch>(
     ensures why_untraced { IfErr result (λ why. IsWhyUntraced why (failed_of F.has_failed outputs.old.trace.file)
         (failed_of F.has_failed outputs.new.trace.file)) }
 {
-    let report = run_deck(alloc, taped, deck, held, 0, outputs, watch)?;
-    Ok(JobReport {
-        stop,
-        i: report.i,
-        steps: report.steps,
-        read: report.read,
-        printed: report.printed,
-        punched: report.punched,
-    })
+    match run_deck(alloc, taped, deck, held, 0, outputs, watch) {
+        Ok(report) => Ok(JobReport { stop, ..report }),
+        Err(broken) => Err(broken),
+    }
 }
 
 /// Presses the key that starts a machine, if there is one, and says why the machine can't be started, if it can't.

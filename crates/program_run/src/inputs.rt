@@ -1,26 +1,26 @@
 //! The files that a run reads: its program, and its deck.
-ghost use Rattle.std.specs.Prelude.{◌≡◌, ◌++◌, [], true, false, None, Ok, Err, IfOk, IfErr, map, option_map, string_bytes};
+ghost use Rattle.std.specs.Prelude.{◌≡◌, ◌++◌, [], true, false, Ok, Err, IfOk, IfErr, map, option_map, string_bytes};
 ghost use Rattle.std.specs.Prelude.{unwrap_or};
 ghost use Rattle.cpu_1401.specs.State.{power_on};
 ghost use Rattle.machine_graphics.specs.Graphics.{chain_of, ours_of};
 ghost use Rattle.job_runner.specs.DeckText.{deck_of};
 ghost use Rattle.program_run.specs.Program.{IsNoImage, IsNoProgram, is_meant_as_image};
+ghost use Rattle.program_call.specs.declared.call.Start.TheVariants.{Entry};
 ghost use Rattle.program_call.specs.Sizes.{is_refused};
-ghost use Rattle.program_run.specs.RunFile.{IsOfFile, IsUnread, IsUnreadFile, input_names};
-ghost use Rattle.program_run.specs.RunJob.{HasFile, HasLoader, HasProgram, IsBegun, IsDeckText};
+ghost use Rattle.program_run.specs.RunFile.{IsOfFile, IsUnread, IsUnreadFile, inputs_of};
+ghost use Rattle.program_run.specs.RunJob.{HasFile, HasProgram, IsBegun, IsDeckText};
 
 use crate::fault::RunFault;
-use crate::programs::{image_machine, is_image, loaded_machine, program_of};
+use crate::programs::{image_machine, is_image, loaded_machine, machine_of, program_of};
 use crate::source_reports::{report_faults, report_warnings};
 use crate::stopped_at::RunSource;
 use autocoder_1401::{AsmFault, AsmKind};
 use autocoder_statements::Language;
 use bytes_files::{FileFault, read_whole, read_whole_reel};
-use core_1401::CoreFault;
 use cpu_1401::Machine;
 use job_runner::{CardList, DeckTextFault, ReadDeck, read_deck};
 use machine_graphics::{Graphics, Suggestion, in_ours, suggest, suggest_for_source};
-use program_call::{DEFAULT_SIZE, Start, is_refused};
+use program_call::{DEFAULT_SIZE, Job, Start};
 use std::alloc::Global;
 use std::rt::Files;
 
@@ -29,22 +29,22 @@ use std::rt::Files;
 /// # Errors
 ///
 /// `File`, with the name as it was given; else `Memory`.
-pub(crate) fn read_file(rt: &(impl Files + AllocGlobal), name: String) -> Result<Vec<u8>, RunFault>
-    ensures { IfErr result (IsUnreadFile (string_bytes name)) }
+fn read_file(rt: &(impl Files + AllocGlobal), name: &str) -> Result<Vec<u8>, RunFault>
+    ensures { IfErr result (IsUnreadFile name.now) }
 {
-    match read_whole(rt, name.as_str()) {
+    match read_whole(rt, name) {
         Ok(bytes) => Ok(bytes),
-        Err(fault) => Err(unread(name, fault)),
+        Err(fault) => Err(unread(rt.alloc(), name, fault)),
     }
 }
 
 /// The fault of a file of this name that can't be read.
-fn unread(name: String, fault: FileFault) -> RunFault
-    ensures { IsUnreadFile (string_bytes name) result }
+fn unread(alloc: Global, name: &str, fault: FileFault) -> RunFault
+    ensures { IsUnreadFile name.now result }
 {
-    match fault {
-        FileFault::Memory => RunFault::Memory,
-        fault => RunFault::File(name, fault),
+    match (fault, String::from_str(alloc, name)) {
+        (FileFault::Memory, _) | (_, Err(_)) => RunFault::Memory,
+        (fault, Ok(name)) => RunFault::File(name, fault),
     }
 }
 
@@ -55,13 +55,13 @@ fn unread(name: String, fault: FileFault) -> RunFault
 /// As of `read_file`.
 pub(crate) fn read_reel_file(
     rt: &(impl Files + AllocGlobal),
-    name: String,
+    name: &str,
 ) -> Result<Vec<u8>, RunFault>
-    ensures { IfErr result (IsUnreadFile (string_bytes name)) }
+    ensures { IfErr result (IsUnreadFile name.now) }
 {
-    match read_whole_reel(rt, name.as_str()) {
+    match read_whole_reel(rt, name) {
         Ok(bytes) => Ok(bytes),
-        Err(fault) => Err(unread(name, fault)),
+        Err(fault) => Err(unread(rt.alloc(), name, fault)),
     }
 }
 
@@ -84,13 +84,22 @@ fn deck_in(alloc: Global, asked: Option<Graphics>, text: Vec<u8>) -> Result<Read
     read_deck(alloc, in_ours(asked, text).as_slice())
 }
 
+/// The fault of a deck of this name that is none.
+fn no_deck(alloc: Global, name: &str, fault: DeckTextFault) -> RunFault
+    ensures { IsOfFile name.now result }
+{
+    match (fault, String::from_str(alloc, name)) {
+        (DeckTextFault::Memory, _) | (_, Err(_)) => RunFault::Memory,
+        (fault, Ok(name)) => RunFault::Deck(name, fault),
+    }
+}
+
 /// The cards of a deck's file, which has the graphics of the chain that was asked for. It is reported, once, if the file
 /// has small letters, or bytes that show another chain.
 ///
 /// # Errors
 ///
 /// `File` if the file can't be read, `Deck` if a line is no card, or `Memory`.
-#[tactic(auto, using(crate::proofs::BegunLemmas::is_deck_text))]
 pub fn read_cards(
     rt: &(impl Files + Eprint + AllocGlobal),
     name: String,
@@ -99,30 +108,33 @@ pub fn read_cards(
     ensures cards { IfOk result IsDeckText }
     ensures fault { IfErr result (IsOfFile (string_bytes name)) }
 {
-    let Ok(label) = name.clone() else {
-        return Err(RunFault::Memory);
+    cards_of(rt, name.as_str(), asked)
+}
+
+/// The same of a name that is lent.
+#[tactic(auto, using(crate::proofs::BegunLemmas::is_deck_text))]
+fn cards_of(
+    rt: &(impl Files + Eprint + AllocGlobal),
+    name: &str,
+    asked: Option<Graphics>,
+) -> Result<CardList, RunFault>
+    ensures cards { IfOk result IsDeckText }
+    ensures fault { IfErr result (IsOfFile name.now) }
+{
+    let text = match read_file(rt, name) {
+        Ok(text) => text,
+        Err(fault) => return Err(fault),
     };
-    let text = read_file(rt, name)?;
-    report_suggestion(rt, label.as_str(), suggest(asked, text.as_slice()));
+    report_suggestion(rt, name, suggest(asked, text.as_slice()));
     match deck_in(rt.alloc(), asked, text) {
         Ok(deck) => {
             if deck.has_small_letters {
-                tell_small_letters(rt, label.as_str());
+                tell_small_letters(rt, name);
             }
             Ok(deck.cards)
         }
-        Err(DeckTextFault::Memory) => Err(RunFault::Memory),
-        Err(fault) => Err(RunFault::Deck(label, fault)),
+        Err(fault) => Err(no_deck(rt.alloc(), name, fault)),
     }
-}
-
-/// The chains whose graphics a run's files have.
-#[derive(Clone, Copy)]
-pub(crate) struct InputGraphics {
-    /// That of a source.
-    pub source: Option<Graphics>,
-    /// That of the decks.
-    pub decks: Option<Graphics>,
 }
 
 /// What a run begins with.
@@ -197,12 +209,14 @@ fn image_inputs(
     ensures file { IfOk result (λ inputs. HasProgram language size inputs.machine inputs.cards) }
     ensures fault { IfErr result (IsNoImage text.now) }
 {
-    let machine = image_machine(alloc, text)?;
-    Ok(Inputs {
-        machine,
-        cards: CardList::new(alloc),
-        source: None,
-    })
+    match image_machine(alloc, text) {
+        Ok(machine) => Ok(Inputs {
+            machine,
+            cards: CardList::new(alloc),
+            source: None,
+        }),
+        Err(fault) => Err(fault),
+    }
 }
 
 /// A machine with the program of a source.
@@ -218,33 +232,45 @@ fn source_machine(
     ensures program { IfOk result (λ machine. HasProgram language size machine []) }
     ensures fault { IfErr result IsNoProgram }
 {
-    let image = program_of(alloc, language, text, size)?;
-    loaded_machine(alloc, &image)
+    match program_of(alloc, language, text, size) {
+        Ok(image) => loaded_machine(alloc, &image),
+        Err(fault) => Err(fault),
+    }
 }
 
-/// A machine with the program of a source of this name, and no cards. What is wrong with it is reported.
+/// A machine with the program of a job's source, and no cards. What is wrong with it is reported.
 fn source_inputs(
     rt: &(impl Eprint + AllocGlobal),
-    name: &str,
-    language: Language,
+    job: &Job,
     text: Vec<u8>,
-    size: Option<u16>,
     suggested: Option<Suggestion>,
 ) -> Result<Inputs, RunFault>
     requires source { is_meant_as_image text.items ≡ false }
-    requires size { is_refused size ≡ false }
-    ensures file { IfOk result (λ inputs. HasProgram language size inputs.machine inputs.cards) }
+    requires size { is_refused job.now.size ≡ false }
+    ensures file { IfOk result (λ inputs. HasProgram job.now.language job.now.size inputs.machine inputs.cards) }
     ensures fault { IfErr result IsNoProgram }
 {
-    let made = source_machine(rt.alloc(), language, text.as_slice(), size);
+    let language = job.language;
+    let made = source_machine(rt.alloc(), language, text.as_slice(), job.size);
     let fault = fault_of(&made);
-    report_source(rt, name, language, text.as_slice(), size, fault, suggested);
-    let machine = made?;
-    Ok(Inputs {
-        machine,
-        cards: CardList::new(rt.alloc()),
-        source: Some(RunSource { language, text }),
-    })
+    let name = job.file.as_str();
+    report_source(
+        rt,
+        name,
+        language,
+        text.as_slice(),
+        job.size,
+        fault,
+        suggested,
+    );
+    match made {
+        Ok(machine) => Ok(Inputs {
+            machine,
+            cards: CardList::new(rt.alloc()),
+            source: Some(RunSource { language, text }),
+        }),
+        Err(fault) => Err(fault),
+    }
 }
 
 /// The text of a program's file, as `program_text` gives it, and which chain it may be for, if something shows it.
@@ -259,47 +285,41 @@ pub fn read_program_text(
 ) -> Result<(Vec<u8>, Option<Suggestion>), RunFault>
     ensures { IfErr result (IsUnreadFile (string_bytes file)) }
 {
-    let read = read_file(rt, file)?;
-    let suggested = suggest_for_source(asked, read.as_slice());
-    Ok((program_text(asked, read), suggested))
+    text_of(rt, file.as_str(), asked)
+}
+
+/// The same of a name that is lent.
+fn text_of(
+    rt: &(impl Files + AllocGlobal),
+    file: &str,
+    asked: Option<Graphics>,
+) -> Result<(Vec<u8>, Option<Suggestion>), RunFault>
+    ensures { IfErr result (IsUnreadFile file.now) }
+{
+    match read_file(rt, file) {
+        Ok(read) => {
+            let suggested = suggest_for_source(asked, read.as_slice());
+            Ok((program_text(asked, read), suggested))
+        }
+        Err(fault) => Err(fault),
+    }
 }
 
 /// A machine with the program of a source or an image, and no cards. What is wrong with a source is reported.
-fn read_program(
-    rt: &(impl Files + Eprint + AllocGlobal),
-    file: String,
-    language: Language,
-    asked: Option<Graphics>,
-    size: Option<u16>,
-) -> Result<Inputs, RunFault>
-    requires { is_refused size ≡ false }
-    ensures file { IfOk result (λ inputs. HasProgram language size inputs.machine inputs.cards) }
-    ensures fault { IfErr result (IsUnread Start.Entry size (input_names (string_bytes file) None)) }
+fn read_program(rt: &(impl Files + Eprint + AllocGlobal), job: &Job) -> Result<Inputs, RunFault>
+    requires { is_refused job.now.size ≡ false }
+    ensures file { IfOk result (λ inputs. HasProgram job.now.language job.now.size inputs.machine inputs.cards) }
+    ensures fault { IfErr result (IsUnread Entry job.now.size (inputs_of job.now)) }
 {
-    let Ok(label) = file.clone() else {
-        return Err(RunFault::Memory);
+    let (text, suggested) = match text_of(rt, job.file.as_str(), job.source_graphics) {
+        Ok(read) => read,
+        Err(fault) => return Err(fault),
     };
-    let (text, suggested) = read_program_text(rt, file, asked)?;
     if is_image(text.as_slice()) {
-        return image_inputs(rt.alloc(), language, text.as_slice(), size);
+        image_inputs(rt.alloc(), job.language, text.as_slice(), job.size)
+    } else {
+        source_inputs(rt, job, text, suggested)
     }
-    source_inputs(rt, label.as_str(), language, text, size, suggested)
-}
-
-/// A machine at power-on, and the cards of a deck that loads itself.
-#[tactic(auto, using(crate::proofs::BegunLemmas::has_loader))]
-fn read_loader(
-    rt: &(impl Files + Eprint + AllocGlobal),
-    file: String,
-    asked: Option<Graphics>,
-    size: Option<u16>,
-) -> Result<Inputs, RunFault>
-    requires { is_refused size ≡ false }
-    ensures file { IfOk result (λ inputs. HasLoader size inputs.machine inputs.cards) }
-    ensures fault { IfErr result (IsUnread Start.LoadKey size (input_names (string_bytes file) None)) }
-{
-    let cards = read_cards(rt, file, asked)?;
-    bare_inputs(rt.alloc(), size, cards)
 }
 
 /// A machine at power-on, and these cards.
@@ -309,69 +329,59 @@ fn bare_inputs(alloc: Global, size: Option<u16>, cards: CardList) -> Result<Inpu
     ensures cards { IfOk result (λ inputs. inputs.cards ≡ cards) }
     ensures err { IfErr result (λ why. why ≡ RunFault.Memory) }
 {
-    match Machine::power_on(alloc, size.unwrap_or(DEFAULT_SIZE)) {
+    match machine_of(alloc, size.unwrap_or(DEFAULT_SIZE)) {
         Ok(machine) => Ok(Inputs {
             machine,
             cards,
             source: None,
         }),
-        Err(CoreFault::Size) => unreachable!(),
-        Err(CoreFault::Memory) => Err(RunFault::Memory),
+        Err(_) => Err(RunFault::Memory),
     }
 }
 
-/// What a run begins with: the program of a file, and its deck.
+/// What a job begins with: the program of its file, and its deck.
 ///
 /// # Errors
 ///
-/// `Size` if there is no core storage of the size named; `File` if a file can't be read; `Source`, `Image` or `Deck` if
-/// it has no program or is no deck; or `Memory`.
+/// `File` if a file can't be read; `Source`, `Image` or `Deck` if it has no program or is no deck; or `Memory`.
 #[tactic(auto, using(crate::proofs::BegunLemmas::begun_alone, crate::proofs::BegunLemmas::begun_with))]
 pub(crate) fn read_inputs(
     rt: &(impl Files + Eprint + AllocGlobal),
-    file: String,
-    start: Start,
-    language: Language,
-    asked: InputGraphics,
-    size: Option<u16>,
-    cards: Option<String>,
+    job: &Job,
 ) -> Result<Inputs, RunFault>
-    ensures begun { IfOk result (λ inputs. IsBegun start language size (option_map string_bytes cards)
-        inputs.machine inputs.cards) }
-    ensures size { is_refused size ≡ true → result ≡ Err RunFault.Size }
-    ensures fault { IfErr result
-        (IsUnread start size (input_names (string_bytes file) (option_map string_bytes cards))) }
+    requires { is_refused job.now.size ≡ false }
+    ensures begun { IfOk result (λ inputs. IsBegun job.now.start job.now.language job.now.size
+        (option_map string_bytes job.now.cards) inputs.machine inputs.cards) }
+    ensures fault { IfErr result (IsUnread job.now.start job.now.size (inputs_of job.now)) }
 {
-    if is_refused(size) {
-        return Err(RunFault::Size);
-    }
-    let inputs = read_own(rt, file, start, language, asked, size)?;
-    match cards {
-        Some(name) => {
-            let beyond = read_cards(rt, name, asked.decks)?;
-            with_cards(inputs, &beyond)
-        }
+    let inputs = match read_own(rt, job) {
+        Ok(inputs) => inputs,
+        Err(fault) => return Err(fault),
+    };
+    match &job.cards {
+        Some(name) => match cards_of(rt, name.as_str(), job.graphics) {
+            Ok(beyond) => with_cards(inputs, &beyond),
+            Err(fault) => Err(fault),
+        },
         None => Ok(inputs),
     }
 }
 
 /// What the program's file gives.
-fn read_own(
-    rt: &(impl Files + Eprint + AllocGlobal),
-    file: String,
-    start: Start,
-    language: Language,
-    asked: InputGraphics,
-    size: Option<u16>,
-) -> Result<Inputs, RunFault>
-    requires { is_refused size ≡ false }
-    ensures file { IfOk result (λ inputs. HasFile start language size inputs.machine inputs.cards) }
-    ensures fault { IfErr result (IsUnread start size (input_names (string_bytes file) None)) }
+#[tactic(auto, using(crate::proofs::BegunLemmas::has_loader))]
+fn read_own(rt: &(impl Files + Eprint + AllocGlobal), job: &Job) -> Result<Inputs, RunFault>
+    requires { is_refused job.now.size ≡ false }
+    ensures file { IfOk result
+        (λ inputs. HasFile job.now.start job.now.language job.now.size inputs.machine inputs.cards) }
+    ensures fault { IfErr result (IsUnread job.now.start job.now.size (inputs_of job.now)) }
 {
-    match start {
-        Start::Entry => read_program(rt, file, language, asked.source, size),
-        Start::LoadKey => read_loader(rt, file, asked.decks, size),
-        Start::LoadTape(_) => bare_inputs(rt.alloc(), size, CardList::new(rt.alloc())),
+    match job.start {
+        Start::Entry => read_program(rt, job),
+        Start::LoadKey => match cards_of(rt, job.file.as_str(), job.graphics) {
+            Ok(cards) => bare_inputs(rt.alloc(), job.size, cards),
+            Err(fault) => Err(fault),
+        },
+        Start::LoadTape(_) => bare_inputs(rt.alloc(), job.size, CardList::new(rt.alloc())),
     }
 }
 

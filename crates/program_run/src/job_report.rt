@@ -40,9 +40,13 @@ impl fmt::Display for Count<'_> {
 
 impl fmt::Display for JobReport {
     fn fmt<W: fmt::Write>(&self, f: &mut fmt::Formatter<W>) -> fmt::Result {
-        write!(f, "{}; ", counted(u64::from(self.steps), "step"))?;
-        write!(f, "{} read, ", counted(self.read, "card"))?;
-        write!(f, "{} printed, ", counted(self.printed, "line"))?;
-        write!(f, "{} punched", counted(self.punched, "card"))
+        let steps = counted(u64::from(self.steps), "step");
+        let read = counted(self.read, "card");
+        let printed = counted(self.printed, "line");
+        let punched = counted(self.punched, "card");
+        write!(
+            f,
+            "{steps}; {read} read, {printed} printed, {punched} punched"
+        )
     }
 }

@@ -1,18 +1,19 @@
 //! Names of one run that lead to one file.
-ghost use Rattle.std.specs.Prelude.{◌≡◌, ◌⊎◌, ◌∷◌, Some, IfErr, IfSome, option_map, string_bytes};
-ghost use Rattle.program_run.specs.OneFile.{IsClash, IsClashOf, IsClashWithReel, IsClashWithReels, IsInputClash};
+ghost use Rattle.std.specs.Prelude.{◌∷◌, Some, IfErr, option_map, string_bytes};
+ghost use Rattle.program_run.specs.OneFile.{IsClash, IsClashOf, IsClashWithReel, IsInputClash, IsReadClash};
 ghost use Rattle.program_run.specs.OneFile.{IsReelPair, IsReelsClash};
-ghost use Rattle.program_run.specs.RunFile.{InputNames, input_names, written_names};
+ghost use Rattle.program_run.specs.RunEnd.{IsNoStopOf};
+ghost use Rattle.program_run.specs.RunFile.{inputs_of, written_of};
 
-use crate::outputs::OutputNames;
+use crate::fault::RunFault;
 use bytes_files::is_one_file;
-use program_call::{MountedReel, ReelSource, Start};
+use program_call::{Job, MountedReel, ReelSource, Start};
 use std::alloc::Global;
 use std::rt::Files;
 
 /// Why names are refused.
 #[derive(Drop)]
-pub(crate) enum Clash {
+enum Clash {
     /// Memory was refused.
     Memory,
     /// These two lead to one file.
@@ -75,20 +76,23 @@ fn check_if_named<R: Files + AllocGlobal>(
     }
 }
 
-/// Looks at the name of a file that is read with each of the files that are written.
-fn check_input<R: Files + AllocGlobal>(
-    rt: &R,
-    input: &str,
-    names: &OutputNames,
-) -> Result<(), Clash>
-    ensures { IfErr result (IsInputClash (Some input.now)
-        (written_names (option_map string_bytes names.now.paper) (option_map string_bytes names.now.punch)
-        (option_map string_bytes names.now.trace) (option_map string_bytes names.now.image) names.now.reels.items)) }
+/// Looks at the name of a file that is read with each of the files that are written, but for those of reels.
+fn check_input<R: Files + AllocGlobal>(rt: &R, input: &str, job: &Job) -> Result<(), Clash>
+    ensures { IfErr result (IsInputClash (Some input.now) (written_of job.now)) }
 {
-    check_with(rt, input, &names.paper)?;
-    check_with(rt, input, &names.punch)?;
-    check_with(rt, input, &names.trace)?;
-    check_with(rt, input, &names.image)
+    match check_with(rt, input, &job.paper) {
+        Ok(()) => {}
+        Err(clash) => return Err(clash),
+    }
+    match check_with(rt, input, &job.punch) {
+        Ok(()) => {}
+        Err(clash) => return Err(clash),
+    }
+    match check_with(rt, input, &job.trace) {
+        Ok(()) => {}
+        Err(clash) => return Err(clash),
+    }
+    check_with(rt, input, &job.image)
 }
 
 /// Looks at the name of the file of a reel with that of another, if there are both and one of them is written.
@@ -130,123 +134,124 @@ fn check_others<R: Files + AllocGlobal>(
     Ok(())
 }
 
-/// Looks at a run's names: those of its program, of its deck and of the files that it writes, and those of its reels. If
+/// Looks at a job's names: those of its program, of its deck and of the files that it writes, and those of its reels. If
 /// the program is on a reel, it is one of these.
 ///
 /// # Errors
 ///
 /// If two of them lead to one file, which is written; or if memory is refused.
-pub(crate) fn check_names<R: Files + AllocGlobal>(
-    rt: &R,
-    program: &str,
-    start: Start,
-    deck: &Option<String>,
-    names: &OutputNames,
-) -> Result<(), Clash>
-    ensures { IfErr result (IsClashOf (input_names program.now (option_map string_bytes deck.now))
-        (written_names (option_map string_bytes names.now.paper) (option_map string_bytes names.now.punch)
-        (option_map string_bytes names.now.trace) (option_map string_bytes names.now.image) names.now.reels.items)) }
+#[tactic(auto, using(crate::proofs::FaultLemmas::memory_of, crate::proofs::FaultLemmas::clash_of))]
+pub(crate) fn check_names<R: Files + AllocGlobal>(rt: &R, job: &Job) -> Result<(), RunFault>
+    ensures { IfErr result (IsNoStopOf job.now) }
 {
-    check_input(rt, program, names)?;
-    if let Some(deck) = deck {
-        check_input(rt, deck.as_str(), names)?;
+    match find_clash(rt, job) {
+        Ok(()) => Ok(()),
+        Err(Clash::Memory) => Err(RunFault::Memory),
+        Err(Clash::Names(first, second)) => Err(RunFault::OneFile(first, second)),
     }
-    match check_outputs(rt, names) {
+}
+
+/// The first two of the names that lead to one file, which is written.
+fn find_clash<R: Files + AllocGlobal>(rt: &R, job: &Job) -> Result<(), Clash>
+    ensures { IfErr result (IsClashOf (inputs_of job.now) (written_of job.now)) }
+{
+    match check_inputs(rt, job) {
         Ok(()) => {}
         Err(clash) => return Err(clash),
     }
-    check_reels(rt, program_alone(program, start), deck, names)
+    match check_outputs(rt, job) {
+        Ok(()) => {}
+        Err(clash) => return Err(clash),
+    }
+    check_reels(rt, job)
 }
 
-/// The name of the program's file, unless it is that of a reel.
-fn program_alone(program: &str, start: Start) -> Option<&str>
-    ensures { IfSome result (λ name. name.now ≡ program.now) }
+/// Looks at the names of the program and of the deck with those of the files that are written, but for those of reels.
+fn check_inputs<R: Files + AllocGlobal>(rt: &R, job: &Job) -> Result<(), Clash>
+    ensures { IfErr result (IsClashOf (inputs_of job.now) (written_of job.now)) }
 {
-    match start {
-        Start::Entry | Start::LoadKey => Some(program),
-        Start::LoadTape(_) => None,
+    match check_input(rt, job.file.as_str(), job) {
+        Ok(()) => {}
+        Err(clash) => return Err(clash),
+    }
+    match &job.cards {
+        Some(deck) => check_input(rt, deck.as_str(), job),
+        None => Ok(()),
     }
 }
 
 /// Looks at the names of the files that are written, but for those of reels.
-fn check_outputs<R: Files + AllocGlobal>(rt: &R, names: &OutputNames) -> Result<(), Clash>
-    ensures { (inputs : InputNames) → IfErr result (IsClashOf inputs
-        (written_names (option_map string_bytes names.now.paper) (option_map string_bytes names.now.punch)
-        (option_map string_bytes names.now.trace) (option_map string_bytes names.now.image) names.now.reels.items)) }
+fn check_outputs<R: Files + AllocGlobal>(rt: &R, job: &Job) -> Result<(), Clash>
+    ensures { IfErr result (IsClashOf (inputs_of job.now) (written_of job.now)) }
 {
-    check_if_named(rt, &names.paper, &names.punch)?;
-    check_if_named(rt, &names.paper, &names.trace)?;
-    check_if_named(rt, &names.punch, &names.trace)?;
-    check_if_named(rt, &names.paper, &names.image)?;
-    check_if_named(rt, &names.punch, &names.image)?;
-    check_if_named(rt, &names.trace, &names.image)
+    match check_if_named(rt, &job.paper, &job.punch) {
+        Ok(()) => {}
+        Err(clash) => return Err(clash),
+    }
+    match check_if_named(rt, &job.paper, &job.trace) {
+        Ok(()) => {}
+        Err(clash) => return Err(clash),
+    }
+    match check_if_named(rt, &job.punch, &job.trace) {
+        Ok(()) => {}
+        Err(clash) => return Err(clash),
+    }
+    match check_if_named(rt, &job.paper, &job.image) {
+        Ok(()) => {}
+        Err(clash) => return Err(clash),
+    }
+    match check_if_named(rt, &job.punch, &job.image) {
+        Ok(()) => {}
+        Err(clash) => return Err(clash),
+    }
+    check_if_named(rt, &job.trace, &job.image)
 }
 
 /// Looks at the name of the file of a reel with those of the files that are written; and if it is written, with those of
 /// the files that are read.
-fn check_reel<R: Files + AllocGlobal>(
-    rt: &R,
-    program: Option<&str>,
-    deck: &Option<String>,
-    names: &OutputNames,
-    reel: &ReelSource,
-) -> Result<(), Clash>
-    ensures { IfErr result (IsClashWithReel (option_map (λ name. name.now) program.entry) (option_map string_bytes deck.now)
-        (written_names (option_map string_bytes names.now.paper) (option_map string_bytes names.now.punch)
-        (option_map string_bytes names.now.trace) (option_map string_bytes names.now.image) names.now.reels.items)
-        reel.now) }
+fn check_reel<R: Files + AllocGlobal>(rt: &R, job: &Job, reel: &ReelSource) -> Result<(), Clash>
+    ensures { IfErr result (IsClashWithReel (inputs_of job.now) (written_of job.now) reel.now) }
 {
     let Some(file) = reel.file() else {
         return Ok(());
     };
-    match check_input(rt, file, names) {
+    match check_input(rt, file, job) {
         Ok(()) => {}
         Err(clash) => return Err(clash),
     }
     if reel.has_ring() {
-        check_written_reel(rt, program, deck, file)
+        check_written_reel(rt, job, file)
     } else {
         Ok(())
     }
 }
 
-/// Looks at the name of the file of a reel that is written with those of the files that are read.
-fn check_written_reel<R: Files + AllocGlobal>(
-    rt: &R,
-    program: Option<&str>,
-    deck: &Option<String>,
-    file: &str,
-) -> Result<(), Clash>
-    ensures { IfErr result (λ clash. IsClash (option_map (λ name. name.now) program.entry) (Some file.now) clash
-        ⊎ IsClash (option_map string_bytes deck.now) (Some file.now) clash) }
+/// Looks at the name of the file of a reel that is written with those of the files that are read, but for that of the
+/// program if it is a reel's.
+fn check_written_reel<R: Files + AllocGlobal>(rt: &R, job: &Job, file: &str) -> Result<(), Clash>
+    ensures { IfErr result (IsReadClash (inputs_of job.now) file.now) }
 {
-    if let Some(program) = program {
-        match check_pair(rt, program, file) {
+    match job.start {
+        Start::Entry | Start::LoadKey => match check_pair(rt, job.file.as_str(), file) {
             Ok(()) => {}
             Err(clash) => return Err(clash),
-        }
+        },
+        Start::LoadTape(_) => {}
     }
-    match deck {
+    match &job.cards {
         Some(deck) => check_pair(rt, deck.as_str(), file),
         None => Ok(()),
     }
 }
 
 /// Looks at the names of the files of reels with all others.
-fn check_reels<R: Files + AllocGlobal>(
-    rt: &R,
-    program: Option<&str>,
-    deck: &Option<String>,
-    names: &OutputNames,
-) -> Result<(), Clash>
-    ensures { IfErr result (IsClashWithReels (option_map (λ name. name.now) program.entry) (option_map string_bytes deck.now)
-        (written_names (option_map string_bytes names.now.paper) (option_map string_bytes names.now.punch)
-        (option_map string_bytes names.now.trace) (option_map string_bytes names.now.image) names.now.reels.items)
-        names.now.reels.items) }
+#[tactic(auto, using(crate::proofs::ClashLemmas::reel_clash, crate::proofs::ClashLemmas::reels_clash))]
+fn check_reels<R: Files + AllocGlobal>(rt: &R, job: &Job) -> Result<(), Clash>
+    ensures { IfErr result (IsClashOf (inputs_of job.now) (written_of job.now)) }
 {
-    let mut rest = names.reels.as_slice();
+    let mut rest = job.reels.as_slice();
     while let [first, beyond @ ..] = rest {
-        match check_reel(rt, program, deck, names, &first.reel) {
+        match check_reel(rt, job, &first.reel) {
             Ok(()) => {}
             Err(clash) => return Err(clash),
         }

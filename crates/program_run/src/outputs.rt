@@ -1,7 +1,8 @@
 //! The files that a run writes: its paper, its punched cards, and its trace.
-ghost use Rattle.std.specs.Prelude.{Some, IfErr, IfSome, option_map, string_bytes};
-ghost use Rattle.program_run.specs.RunFile.{IsUnwritten, IsUnwrittenFile, written_names};
-ghost use Rattle.program_run.specs.RunReels.{IsNotPut, IsWrittenReel, IsWrittenTo};
+ghost use Rattle.std.specs.Prelude.{◌≡◌, ◌⊎◌, IfErr, option_map, string_bytes};
+ghost use Rattle.program_run.specs.RunEnd.{IsNoStopOf};
+ghost use Rattle.program_run.specs.RunFile.{IsUnwrittenFile};
+ghost use Rattle.program_run.specs.RunReels.{IsNotPut, IsUnmadeOf};
 
 use crate::deck_running::Broken;
 use crate::fault::RunFault;
@@ -10,47 +11,27 @@ use crate::tracing::Trace;
 use bytes_files::{CreatedFile, WriteFault, check_create, check_new, create};
 use bytes_streams::ToWriter;
 use machine_graphics::Graphics;
-use program_call::{MountedReel, ReelSource};
+use program_call::{Job, ReelSource};
 use std::alloc::Global;
 use std::io::Printer;
 use std::rt::Files;
 
-/// The names of the files that a run writes.
-#[derive(Drop)]
-pub(crate) struct OutputNames {
-    /// The file of the paper; without one it is standard output.
-    pub paper: Option<String>,
-    /// The file of the punched cards; without one they are only counted.
-    pub punch: Option<String>,
-    /// The file of the trace; without one there is none.
-    pub trace: Option<String>,
-    /// The file of the image of what a deck has loaded; without one there is none.
-    pub image: Option<String>,
-    /// The reels, of which those with a ring are written.
-    pub reels: Vec<MountedReel>,
-    /// The chain whose graphics the punched cards have.
-    pub graphics: Graphics,
-}
-
-impl OutputNames {
-    /// The fault of a run that broke off.
-    pub fn fault_of(&self, alloc: Global, broken: Broken) -> RunFault
-        ensures { IsUnwritten (written_names (option_map string_bytes self.now.paper)
-            (option_map string_bytes self.now.punch) (option_map string_bytes self.now.trace)
-            (option_map string_bytes self.now.image) self.now.reels.items) result }
-    {
-        match broken {
-            Broken::Memory => RunFault::Memory,
-            Broken::Paper => unwritten(alloc, &self.paper),
-            Broken::Punch => unwritten(alloc, &self.punch),
-            Broken::Trace => unwritten(alloc, &self.trace),
-        }
+/// The fault of a job's run that broke off.
+pub(crate) fn fault_of(alloc: Global, job: &Job, broken: Broken) -> RunFault
+    ensures { IsNoStopOf job.now result }
+{
+    match broken {
+        Broken::Memory => RunFault::Memory,
+        Broken::Paper => unwritten(alloc, &job.paper),
+        Broken::Punch => unwritten(alloc, &job.punch),
+        Broken::Trace => unwritten(alloc, &job.trace),
     }
 }
 
 /// The fault of a file of this name that isn't written, or of standard output if there is no name.
+#[tactic(auto, using(crate::proofs::FaultLemmas::named_file))]
 fn unwritten(alloc: Global, name: &Option<String>) -> RunFault
-    ensures { IsUnwrittenFile (option_map string_bytes name.now) result }
+    ensures { (result ≡ RunFault.Output) ⊎ IsUnwrittenFile (option_map string_bytes name.now) result }
 {
     match name {
         Some(name) => unwritten_file(alloc, name.as_str()),
@@ -60,8 +41,7 @@ fn unwritten(alloc: Global, name: &Option<String>) -> RunFault
 
 /// The fault of a file of this name that isn't written.
 pub(crate) fn unwritten_file(alloc: Global, name: &str) -> RunFault
-    ensures file { IsUnwrittenFile (Some name.now) result }
-    ensures named { IsNotPut name.now result }
+    ensures { IsNotPut name.now result }
 {
     match String::from_str(alloc, name) {
         Ok(name) => RunFault::Unwritten(name),
@@ -70,9 +50,8 @@ pub(crate) fn unwritten_file(alloc: Global, name: &str) -> RunFault
 }
 
 /// The fault of a file of this name that can't be made.
-fn file_fault(alloc: Global, name: &str, fault: WriteFault) -> RunFault
-    ensures file { IsUnwrittenFile (Some name.now) result }
-    ensures named { IsNotPut name.now result }
+pub(crate) fn file_fault(alloc: Global, name: &str, fault: WriteFault) -> RunFault
+    ensures { IsNotPut name.now result }
 {
     match fault {
         WriteFault::Memory => RunFault::Memory,
@@ -110,29 +89,25 @@ pub(crate) type NamedOutputs<'r, R, F> = FileOutputs<
 /// # Errors
 ///
 /// `Unwritten` if one can't be made, or `Memory`.
-pub(crate) fn check_outputs<R: Files + AllocGlobal>(
-    rt: &R,
-    names: &OutputNames,
-) -> Result<(), RunFault>
-    ensures { IfErr result (IsUnwritten (written_names (option_map string_bytes names.now.paper)
-        (option_map string_bytes names.now.punch) (option_map string_bytes names.now.trace)
-        (option_map string_bytes names.now.image) names.now.reels.items)) }
+pub(crate) fn check_outputs<R: Files + AllocGlobal>(rt: &R, job: &Job) -> Result<(), RunFault>
+    ensures { IfErr result (IsNoStopOf job.now) }
 {
-    match check_if_named(rt, &names.paper) {
+    match check_if_named(rt, &job.paper) {
         Ok(()) => {}
         Err(fault) => return Err(fault),
     }
-    match check_if_named(rt, &names.punch) {
+    match check_if_named(rt, &job.punch) {
         Ok(()) => {}
         Err(fault) => return Err(fault),
     }
-    match check_if_named(rt, &names.trace) {
+    match check_if_named(rt, &job.trace) {
         Ok(()) => Ok(()),
         Err(fault) => Err(fault),
     }
 }
 
 /// Looks whether a file can be made, if one was named.
+#[tactic(auto, using(crate::proofs::FaultLemmas::named_file))]
 fn check_if_named<R: Files + AllocGlobal>(rt: &R, name: &Option<String>) -> Result<(), RunFault>
     ensures { IfErr result (IsUnwrittenFile (option_map string_bytes name.now)) }
 {
@@ -145,41 +120,18 @@ fn check_if_named<R: Files + AllocGlobal>(rt: &R, name: &Option<String>) -> Resu
     }
 }
 
-/// A file of a new reel that can't be made.
-struct Unmade<'a> {
-    name: &'a str,
-    why: WriteFault,
-}
-
-/// The file of a new reel, if it can't be made.
-fn unmade_file<'a, R: Files + AllocGlobal>(rt: &R, reel: &'a ReelSource) -> Option<Unmade<'a>>
-    ensures { IfSome result (λ unmade. IsWrittenTo reel.now unmade.name.now) }
+/// Looks whether the file of a new reel can be made.
+#[tactic(auto, using(crate::proofs::FaultLemmas::unmade))]
+fn check_new_reel<R: Files + AllocGlobal>(rt: &R, reel: &ReelSource) -> Result<(), RunFault>
+    ensures { IfErr result (IsUnmadeOf reel.now) }
 {
     match reel {
         ReelSource::New(name) => match check_new(rt, name.as_str()) {
-            Ok(()) => None,
-            Err(why) => Some(Unmade {
-                name: name.as_str(),
-                why,
-            }),
+            Ok(()) => Ok(()),
+            Err(why) => Err(file_fault(rt.alloc(), name.as_str(), why)),
         },
-        ReelSource::File(_) | ReelSource::Ringed(_) | ReelSource::Scratch => None,
+        ReelSource::File(_) | ReelSource::Ringed(_) | ReelSource::Scratch => Ok(()),
     }
-}
-
-/// The first file of a new reel that can't be made, if there is one.
-fn unmade_reel<'a, R: Files + AllocGlobal>(rt: &R, names: &'a OutputNames) -> Option<Unmade<'a>>
-    ensures { IfSome result (λ unmade. IsWrittenReel names.now.reels.items unmade.name.now) }
-{
-    let mut rest = names.reels.as_slice();
-    while let [first, beyond @ ..] = rest {
-        match unmade_file(rt, &first.reel) {
-            Some(unmade) => return Some(unmade),
-            None => {}
-        }
-        rest = beyond;
-    }
-    None
 }
 
 /// Looks at the file of each new reel, which is made when the job has ended: whether it can be made. None is left.
@@ -187,19 +139,18 @@ fn unmade_reel<'a, R: Files + AllocGlobal>(rt: &R, names: &'a OutputNames) -> Op
 /// # Errors
 ///
 /// `Unwritten` if one can't be made, or `Memory`.
-#[tactic(auto, using(crate::proofs::RunJobLemmas::unmade_unwritten))]
-pub(crate) fn check_new_reels<R: Files + AllocGlobal>(
-    rt: &R,
-    names: &OutputNames,
-) -> Result<(), RunFault>
-    ensures { IfErr result (IsUnwritten (written_names (option_map string_bytes names.now.paper)
-        (option_map string_bytes names.now.punch) (option_map string_bytes names.now.trace)
-        (option_map string_bytes names.now.image) names.now.reels.items)) }
+pub(crate) fn check_new_reels<R: Files + AllocGlobal>(rt: &R, job: &Job) -> Result<(), RunFault>
+    ensures { IfErr result (IsNoStopOf job.now) }
 {
-    match unmade_reel(rt, names) {
-        Some(Unmade { name, why }) => Err(file_fault(rt.alloc(), name, why)),
-        None => Ok(()),
+    let mut rest = job.reels.as_slice();
+    while let [first, beyond @ ..] = rest {
+        match check_new_reel(rt, &first.reel) {
+            Ok(()) => {}
+            Err(fault) => return Err(fault),
+        }
+        rest = beyond;
     }
+    Ok(())
 }
 
 /// New files, in place of those of these names; without a name for the paper it has none.
@@ -209,35 +160,33 @@ pub(crate) fn check_new_reels<R: Files + AllocGlobal>(
 /// `Unwritten` if one can't be made, or `Memory`.
 pub(crate) fn create_outputs<'r, R: Files + Print + AllocGlobal>(
     rt: &'r R,
-    names: &OutputNames,
+    job: &Job,
 ) -> Result<NamedOutputs<'r, R, R::File>, RunFault>
-    ensures { IfErr result (IsUnwritten (written_names (option_map string_bytes names.now.paper)
-        (option_map string_bytes names.now.punch) (option_map string_bytes names.now.trace)
-        (option_map string_bytes names.now.image) names.now.reels.items)) }
+    ensures { IfErr result (IsNoStopOf job.now) }
 {
-    let paper = match create_if_named(rt, &names.paper) {
+    let paper = match create_if_named(rt, &job.paper) {
         Ok(paper) => paper,
         Err(fault) => return Err(fault),
     };
-    let punch = match create_if_named(rt, &names.punch) {
+    let punch = match create_if_named(rt, &job.punch) {
         Ok(punch) => punch,
         Err(fault) => return Err(fault),
     };
-    let trace = match create_if_named(rt, &names.trace) {
-        Ok(trace) => trace,
-        Err(fault) => return Err(fault),
-    };
-    Ok(Outputs {
-        paper,
-        punch: PunchFile {
-            file: punch,
-            graphics: names.graphics,
-        },
-        trace: Trace::new(trace),
-    })
+    match create_if_named(rt, &job.trace) {
+        Ok(trace) => Ok(Outputs {
+            paper,
+            punch: PunchFile {
+                file: punch,
+                graphics: job.punch_graphics.unwrap_or(Graphics::Ours),
+            },
+            trace: Trace::new(trace),
+        }),
+        Err(fault) => Err(fault),
+    }
 }
 
 /// Creates or truncates the file, if one was named.
+#[tactic(auto, using(crate::proofs::FaultLemmas::named_file))]
 fn create_if_named<'r, R: Files + Print + AllocGlobal>(
     rt: &'r R,
     name: &Option<String>,
@@ -245,23 +194,10 @@ fn create_if_named<'r, R: Files + Print + AllocGlobal>(
     ensures { IfErr result (IsUnwrittenFile (option_map string_bytes name.now)) }
 {
     match name {
-        Some(name) => match create_named(rt, name.as_str()) {
+        Some(name) => match create(rt, name.as_str()) {
             Ok(file) => Ok(Some(file)),
-            Err(fault) => Err(fault),
+            Err(why) => Err(file_fault(rt.alloc(), name.as_str(), why)),
         },
         None => Ok(None),
-    }
-}
-
-/// Creates or truncates the file of this name.
-fn create_named<'r, R: Files + Print + AllocGlobal>(
-    rt: &'r R,
-    name: &str,
-) -> Result<OutputFile<R::File, Printer<'r, R>>, RunFault>
-    ensures { IfErr result (IsUnwrittenFile (Some name.now)) }
-{
-    match create(rt, name) {
-        Ok(file) => Ok(file),
-        Err(fault) => Err(file_fault(rt.alloc(), name, fault)),
     }
 }

@@ -55,7 +55,7 @@ pub fn program_of(
 /// # Errors
 ///
 /// `Memory` if there is no room for core storage.
-fn machine_of(alloc: Global, size: u16) -> Result<Machine, RunFault>
+pub(crate) fn machine_of(alloc: Global, size: u16) -> Result<Machine, RunFault>
     requires { is_core_size size ≡ true }
     ensures ok { IfOk result (λ machine. machine ≡ power_on size) }
     ensures err { OnErr result (result ≡ Err RunFault.Memory) }
@@ -100,9 +100,13 @@ pub fn loaded_machine(alloc: Global, image: &PackedImage) -> Result<Machine, Run
     ensures ok { IfOk result (λ machine. machine ≡ with_image image.now) }
     ensures err { OnErr result (result ≡ Err RunFault.Memory) }
 {
-    let mut machine = machine_of(alloc, image.size())?;
-    carry_image(&mut machine, image);
-    Ok(machine)
+    match machine_of(alloc, image.size()) {
+        Ok(mut machine) => {
+            carry_image(&mut machine, image);
+            Ok(machine)
+        }
+        Err(fault) => Err(fault),
+    }
 }
 
 /// The same of an image that is lent.
@@ -111,9 +115,13 @@ fn lent_machine(alloc: Global, image: &LentImage<'_>) -> Result<Machine, RunFaul
     ensures ok { IfOk result (λ machine. machine ≡ with_image image.now) }
     ensures err { OnErr result (result ≡ Err RunFault.Memory) }
 {
-    let mut machine = machine_of(alloc, image.size())?;
-    carry_each(&mut machine, LoadCommands::of_lent(image));
-    Ok(machine)
+    match machine_of(alloc, image.size()) {
+        Ok(mut machine) => {
+            carry_each(&mut machine, LoadCommands::of_lent(image));
+            Ok(machine)
+        }
+        Err(fault) => Err(fault),
+    }
 }
 
 /// A machine at power-on that has the cells of the image of a text, and begins at its entry. Of the image one segment is
@@ -127,9 +135,8 @@ pub fn image_machine(alloc: Global, text: &[u8]) -> Result<Machine, RunFault>
     ensures ok { IfOk result (IsImageMachine text.now) }
     ensures err { IfErr result (IsNoImage text.now) }
 {
-    let image = match lend_image(text) {
-        Ok(image) => image,
-        Err(fault) => return Err(RunFault::Image(fault)),
-    };
-    lent_machine(alloc, &image)
+    match lend_image(text) {
+        Ok(image) => lent_machine(alloc, &image),
+        Err(fault) => Err(RunFault::Image(fault)),
+    }
 }

@@ -44,16 +44,12 @@ fn read_reel(rt: &(impl Files + AllocGlobal), name: &str) -> Result<Reel, RunFau
     ensures reel { IfOk result IsReelText }
     ensures fault { IfErr result (IsOfReelFile name.now) }
 {
-    let Ok(label) = String::from_str(rt.alloc(), name) else {
-        return Err(RunFault::Memory);
-    };
-    let text = match read_reel_file(rt, label) {
-        Ok(text) => text,
-        Err(fault) => return Err(fault),
-    };
-    match read_tap(rt.alloc(), text.as_slice(), ROOM) {
-        Ok(reel) => Ok(reel),
-        Err(fault) => Err(refused_reel(rt.alloc(), name, fault)),
+    match read_reel_file(rt, name) {
+        Ok(text) => match read_tap(rt.alloc(), text.as_slice(), ROOM) {
+            Ok(reel) => Ok(reel),
+            Err(fault) => Err(refused_reel(rt.alloc(), name, fault)),
+        },
+        Err(fault) => Err(fault),
     }
 }
 

@@ -1,35 +1,34 @@
 //! What the subcommand `run` does.
-ghost use Rattle.std.specs.Prelude.{◌≡◌, ◌⊎◌, true, false, Err, IfOk, IfErr, OnOk, option_map, string_bytes};
+ghost use Rattle.std.specs.Prelude.{◌≡◌, ◌⊎◌, true, false, Err, IfOk, IfErr, OnOk};
 ghost use Rattle.job_runner.specs.Unattended.{taped_with_deck};
 ghost use Rattle.program_run.specs.RunDeck.{IsAtEndOf, started_job};
 ghost use Rattle.program_run.specs.Run.{job_outcome};
-ghost use Rattle.program_run.specs.RunFile.{IsFaultOf, IsOfRun, IsUnready, IsUnwritten, written_names};
-ghost use Rattle.program_run.specs.RunJob.{HasHalted, ReportsJob, ReportsStop, begun_with, report_on, set_up};
-ghost use Rattle.program_run.specs.RunJob.{with_switches};
-ghost use Rattle.program_run.specs.RunEnd.{EndsAs, EndsWith, IfStopped, IsHalt};
+ghost use Rattle.program_run.specs.RunFile.{IsFaultOf};
+ghost use Rattle.program_run.specs.RunJob.{HasHalted, ReportsJob, report_on, set_up, with_switches};
+ghost use Rattle.program_run.specs.RunEnd.{EndsAs, IfStopped, IsBegunFor, IsHalt, IsNoStopOf, IsReadFor, Ran};
 ghost use Rattle.program_run.specs.WrittenReels.{AreAllHandedOver};
 ghost use Rattle.program_call.specs.Sizes.{is_refused};
 
 use crate::deck_running::{Broken, run_started};
 use crate::ending::Ending;
 use crate::fault::{RunFault, job_outcome};
-use crate::inputs::{InputGraphics, Inputs, read_inputs};
+use crate::inputs::{Inputs, read_inputs};
 use crate::job_report::JobReport;
 use crate::loaded_image::store_image;
-use crate::one_file::{Clash, check_names};
+use crate::one_file::check_names;
 use crate::outputs::{
-    NamedOutputs, OutputNames, Outputs, check_new_reels, check_outputs, create_outputs,
+    NamedOutputs, Outputs, check_new_reels, check_outputs, create_outputs, fault_of,
 };
 use crate::reel_files::{NamedFiles, ReelFiles};
 use crate::reels::{read_reels, write_reels};
+use crate::stopped_at::RunSource;
 use crate::watching::{AboveLine, Shown, Unwatched};
 use bytes_streams::{Sink, ToWriter};
 use cpu_1401::{Machine, Stop};
 use job_runner::CardList;
-use machine_graphics::Graphics;
 use machine_panel::Features;
 use machine_tapes::{TapedMachine, Tapes};
-use program_call::{Job, Start, is_refused};
+use program_call::{Job, is_refused};
 use std::cell::Cell;
 use std::io;
 use std::rt::{Clock, Files};
@@ -61,49 +60,77 @@ pub(crate) fn set_up(machine: &mut Machine, features: Features, switches: &[bool
     set_switches(machine, switches);
 }
 
-/// Runs a machine with its cards, and shows how far it is if there is a line for that.
+/// What was read for a job.
+#[derive(Drop)]
+struct Begun {
+    /// A machine with the program, and tape units with the reels.
+    pub taped: TapedMachine,
+    /// The cards that follow those in its hopper.
+    pub cards: CardList,
+    /// The program's source, if it has one.
+    pub source: Option<RunSource>,
+}
+
+/// Runs what was read, and shows how far it is if there is a line for that.
 fn run_shown<R: Eprint + Clock + AllocGlobal, W: Sink, P: Sink, F: Sink>(
     rt: &R,
     line: Option<&Cell<bool>>,
-    taped: &mut TapedMachine,
-    cards: &CardList,
-    start: Start,
-    limit: u32,
+    job: &Job,
+    begun: &mut Begun,
     outputs: &mut Outputs<W, P, F>,
 ) -> Result<JobReport, Broken>
-    ensures report { IfOk result (λ report. report ≡ report_on start limit (taped_with_deck cards.now taped.old)) }
-    ensures end { OnOk result
-        (IsAtEndOf (started_job start limit (taped_with_deck cards.now taped.old)) taped.new) }
+    ensures report { IfOk result (λ report.
+        report ≡ report_on job.now.start job.now.limit (taped_with_deck begun.old.cards begun.old.taped)) }
+    ensures end { OnOk result (IsAtEndOf
+        (started_job job.now.start job.now.limit (taped_with_deck begun.old.cards begun.old.taped)) begun.new.taped) }
 {
     let alloc = rt.alloc();
+    let start = job.start;
+    let limit = job.limit;
+    let taped = &mut begun.taped;
     match line {
         Some(is_shown) => {
             let mut shown = Shown::new(rt, is_shown);
-            let ended = run_started(alloc, taped, cards, start, limit, outputs, &mut shown);
+            let ended = run_started(
+                alloc,
+                taped,
+                &begun.cards,
+                start,
+                limit,
+                outputs,
+                &mut shown,
+            );
             shown.end();
             ended
         }
         None => {
             let mut watch = Unwatched;
-            run_started(alloc, taped, cards, start, limit, outputs, &mut watch)
+            run_started(
+                alloc,
+                taped,
+                &begun.cards,
+                start,
+                limit,
+                outputs,
+                &mut watch,
+            )
         }
     }
 }
 
-/// Runs a machine with its cards, and writes where it is to. If standard error is a terminal, one line of it shows how
-/// far the machine is.
+/// Runs what was read, and writes where it is to. If standard error is a terminal, one line of it shows how far the
+/// machine is.
 fn run_into<'r, R: Files + Print + Eprint + Clock + AllocGlobal>(
     rt: &'r R,
     error_output: ErrorOutput,
-    taped: &mut TapedMachine,
-    cards: &CardList,
-    start: Start,
-    limit: u32,
+    job: &Job,
+    begun: &mut Begun,
     outputs: NamedOutputs<'r, R, R::File>,
 ) -> Result<JobReport, Broken>
-    ensures report { IfOk result (λ report. report ≡ report_on start limit (taped_with_deck cards.now taped.old)) }
-    ensures end { OnOk result
-        (IsAtEndOf (started_job start limit (taped_with_deck cards.now taped.old)) taped.new) }
+    ensures report { IfOk result (λ report.
+        report ≡ report_on job.now.start job.now.limit (taped_with_deck begun.old.cards begun.old.taped)) }
+    ensures end { OnOk result (IsAtEndOf
+        (started_job job.now.start job.now.limit (taped_with_deck begun.old.cards begun.old.taped)) begun.new.taped) }
 {
     let Outputs {
         paper,
@@ -122,7 +149,7 @@ fn run_into<'r, R: Files + Print + Eprint + Clock + AllocGlobal>(
                 punch,
                 trace,
             };
-            run_shown(rt, line, taped, cards, start, limit, &mut outputs)
+            run_shown(rt, line, job, begun, &mut outputs)
         }
         None => {
             let mut outputs = Outputs {
@@ -130,12 +157,12 @@ fn run_into<'r, R: Files + Print + Eprint + Clock + AllocGlobal>(
                 punch,
                 trace,
             };
-            run_shown(rt, line, taped, cards, start, limit, &mut outputs)
+            run_shown(rt, line, job, begun, &mut outputs)
         }
     }
 }
 
-/// Runs what was read, and writes to the files of these names.
+/// Runs what was read, and writes to the job's files.
 ///
 /// # Errors
 ///
@@ -143,26 +170,21 @@ fn run_into<'r, R: Files + Print + Eprint + Clock + AllocGlobal>(
 fn run_inputs<R: Files + Print + Eprint + Clock + AllocGlobal>(
     rt: &R,
     error_output: ErrorOutput,
-    taped: &mut TapedMachine,
-    cards: &CardList,
-    start: Start,
-    limit: u32,
-    names: &OutputNames,
+    job: &Job,
+    begun: &mut Begun,
 ) -> Result<JobReport, RunFault>
-    ensures report { IfOk result (λ report. report ≡ report_on start limit (taped_with_deck cards.now taped.old)) }
-    ensures end { OnOk result
-        (IsAtEndOf (started_job start limit (taped_with_deck cards.now taped.old)) taped.new) }
-    ensures fault { IfErr result (IsUnwritten (written_names (option_map string_bytes names.now.paper)
-        (option_map string_bytes names.now.punch) (option_map string_bytes names.now.trace)
-        (option_map string_bytes names.now.image) names.now.reels.items)) }
+    ensures report { IfOk result (λ report.
+        report ≡ report_on job.now.start job.now.limit (taped_with_deck begun.old.cards begun.old.taped)) }
+    ensures end { OnOk result (IsAtEndOf
+        (started_job job.now.start job.now.limit (taped_with_deck begun.old.cards begun.old.taped)) begun.new.taped) }
+    ensures fault { IfErr result (IsNoStopOf job.now) }
 {
-    let outputs = match create_outputs(rt, names) {
-        Ok(outputs) => outputs,
-        Err(fault) => return Err(fault),
-    };
-    match run_into(rt, error_output, taped, cards, start, limit, outputs) {
-        Ok(report) => Ok(report),
-        Err(broken) => Err(names.fault_of(rt.alloc(), broken)),
+    match create_outputs(rt, job) {
+        Ok(outputs) => match run_into(rt, error_output, job, begun, outputs) {
+            Ok(report) => Ok(report),
+            Err(broken) => Err(fault_of(rt.alloc(), job, broken)),
+        },
+        Err(fault) => Err(fault),
     }
 }
 
@@ -202,39 +224,23 @@ pub fn run_file<R: Files + Print + Eprint + Clock + AllocGlobal>(
 ///
 /// `Unwritten` if a file can't be made, or the image isn't written; `Unloaded` if there is no image of what the deck has
 /// loaded; or `Memory`. Files that were there are then as they were.
-#[tactic(auto, using(crate::proofs::RunJobLemmas::unwritten_unready, crate::proofs::RunJobLemmas::unstored_unready))]
 fn make_ready<R: Files + Print + AllocGlobal>(
     rt: &R,
-    names: &OutputNames,
-    start: Start,
+    job: &Job,
     cards: &CardList,
-    size: Option<u16>,
-    features: Features,
-    switches: &[bool; 7],
 ) -> Result<(), RunFault>
-    requires { is_refused size ≡ false }
-    ensures { IfErr result (IsUnready start (written_names (option_map string_bytes names.now.paper)
-        (option_map string_bytes names.now.punch) (option_map string_bytes names.now.trace)
-        (option_map string_bytes names.now.image) names.now.reels.items)) }
+    requires { is_refused job.now.size ≡ false }
+    ensures { IfErr result (IsNoStopOf job.now) }
 {
-    match check_outputs(rt, names) {
+    match check_outputs(rt, job) {
         Ok(()) => {}
         Err(fault) => return Err(fault),
     }
-    match check_new_reels(rt, names) {
+    match check_new_reels(rt, job) {
         Ok(()) => {}
         Err(fault) => return Err(fault),
     }
-    match store_image(rt, &names.image, start, cards, size, features, switches) {
-        Ok(()) => Ok(()),
-        Err(fault) => Err(fault),
-    }
-}
-
-/// What was read for a job: a machine with its program and deck, and tape units with its reels.
-struct Begun {
-    inputs: Inputs,
-    tapes: Tapes,
+    store_image(rt, job, cards)
 }
 
 /// Runs a program with its deck as `run_file` does, and hands its reels over to these files.
@@ -242,7 +248,6 @@ struct Begun {
 /// # Errors
 ///
 /// As of `run_file`.
-#[tactic(auto, using(crate::proofs::RunJobLemmas::unread_reports, crate::proofs::RunJobLemmas::unready_reports, crate::proofs::RunJobLemmas::unready_fault, crate::proofs::RunJobLemmas::run_halted, crate::proofs::RunJobLemmas::run_stopped, crate::proofs::ReelLemmas::unmounted_reports, crate::proofs::EndLemmas::unread_untold, crate::proofs::EndLemmas::unready_untold, crate::proofs::EndLemmas::unmounted_untold, crate::proofs::EndLemmas::job_halts, crate::proofs::EndLemmas::job_told))]
 pub fn run_job<R: Files + Print + Eprint + Clock + AllocGlobal, D: ReelFiles>(
     rt: &R,
     error_output: ErrorOutput,
@@ -263,99 +268,108 @@ pub fn run_job<R: Files + Print + Eprint + Clock + AllocGlobal, D: ReelFiles>(
     ensures handed { (D.handed files.new ≡ D.handed files.old)
         ⊎ AreAllHandedOver job.reels.items (D.handed files.old) (D.handed files.new) }
 {
-    let Job {
-        file,
-        start,
-        reels,
-        cards,
-        punch,
-        paper,
-        trace,
-        image,
-        language,
-        graphics,
-        source_graphics,
-        punch_graphics,
-        size,
-        limit,
-        switches,
-        features,
-    } = job;
-    if is_refused(size) {
+    run_lent(rt, error_output, &job, files)
+}
+
+/// The same of a job that is lent.
+fn run_lent<R: Files + Print + Eprint + Clock + AllocGlobal, D: ReelFiles>(
+    rt: &R,
+    error_output: ErrorOutput,
+    job: &Job,
+    files: &mut D,
+) -> Result<(), RunFault>
+    ensures size { is_refused job.now.size ≡ true → result ≡ Err RunFault.Size }
+    ensures ran { Ran job.now (D.handed files.old) (D.handed files.new) result }
+    ensures handed { (D.handed files.new ≡ D.handed files.old)
+        ⊎ AreAllHandedOver job.now.reels.items (D.handed files.old) (D.handed files.new) }
+{
+    if is_refused(job.size) {
         return Err(RunFault::Size);
     }
-    let names = OutputNames {
-        paper,
-        punch,
-        trace,
-        image,
-        reels,
-        graphics: punch_graphics.unwrap_or(Graphics::Ours),
-    };
-    match check_names(rt, file.as_str(), start, &cards, &names) {
-        Ok(()) => {}
-        Err(Clash::Memory) => return Err(RunFault::Memory),
-        Err(Clash::Names(first, second)) => return Err(RunFault::OneFile(first, second)),
+    match read_job(rt, job) {
+        Ok(mut begun) => run_begun(rt, error_output, job, &mut begun, files),
+        Err(fault) => Err(fault),
     }
-    let asked = InputGraphics {
-        source: source_graphics,
-        decks: graphics,
-    };
-    let mut inputs = match read_inputs(rt, file, start, language, asked, size, cards) {
+}
+
+/// What is read for a job: a machine with its program and deck, and tape units with its reels.
+fn read_job<R: Files + Eprint + AllocGlobal>(rt: &R, job: &Job) -> Result<Begun, RunFault>
+    requires { is_refused job.now.size ≡ false }
+    ensures read { IfOk result (IsReadFor job.now) }
+    ensures fault { IfErr result (IsNoStopOf job.now) }
+{
+    match check_names(rt, job) {
+        Ok(()) => {}
+        Err(fault) => return Err(fault),
+    }
+    let inputs = match read_inputs(rt, job) {
         Ok(inputs) => inputs,
         Err(fault) => return Err(fault),
     };
-    let tapes = match read_reels(rt, names.reels.as_slice()) {
-        Ok(tapes) => tapes,
-        Err(fault) => return Err(fault),
-    };
-    match make_ready(rt, &names, start, &inputs.cards, size, features, &switches) {
-        Ok(()) => {}
-        Err(fault) => return Err(fault),
+    match read_reels(rt, job.reels.as_slice()) {
+        Ok(tapes) => Ok(begun_with(inputs, tapes)),
+        Err(fault) => Err(fault),
     }
-    set_up(&mut inputs.machine, features, &switches);
-    let begun = Begun { inputs, tapes };
-    run_and_tell(rt, error_output, begun, start, limit, names, files)
 }
 
-/// Runs what was read, writes to the files of these names, hands its reels over, and reports how it ended.
-#[tactic(auto, using(crate::proofs::RunJobLemmas::unwritten_reports, crate::proofs::ReelLemmas::unwritten_reel_reports, crate::proofs::ReelLemmas::unwritten_of_run, crate::proofs::EndLemmas::unwritten_untold))]
-fn run_and_tell<R: Files + Print + Eprint + Clock + AllocGlobal, D: ReelFiles>(
-    rt: &R,
-    error_output: ErrorOutput,
-    begun: Begun,
-    start: Start,
-    limit: u32,
-    names: OutputNames,
-    files: &mut D,
-) -> Result<(), RunFault>
-    ensures halted { OnOk result
-        ((report_on start limit (begun_with begun.inputs.machine begun.tapes begun.inputs.cards)).stop ≡ Stop.Halt) }
-    ensures stopped { IfErr result
-        (ReportsStop (report_on start limit (begun_with begun.inputs.machine begun.tapes begun.inputs.cards))) }
-    ensures fault { IfErr result (IsOfRun (written_names (option_map string_bytes names.paper)
-        (option_map string_bytes names.punch) (option_map string_bytes names.trace)
-        (option_map string_bytes names.image) names.reels.items)) }
-    ensures ended { OnOk result (IsHalt (λ ending. EndsWith start limit
-        (begun_with begun.inputs.machine begun.tapes begun.inputs.cards) names.reels.items ending
-        (D.handed files.old) (D.handed files.new))) }
-    ensures told { IfErr result (IfStopped (λ ending. EndsWith start limit
-        (begun_with begun.inputs.machine begun.tapes begun.inputs.cards) names.reels.items ending
-        (D.handed files.old) (D.handed files.new))) }
-    ensures handed { AreAllHandedOver names.reels.items (D.handed files.old) (D.handed files.new) }
+/// What was read for a job, with these tape units.
+fn begun_with(inputs: Inputs, tapes: Tapes) -> Begun
+    ensures machine { result.taped.machine ≡ inputs.machine }
+    ensures tapes { result.taped.tapes ≡ tapes }
+    ensures cards { result.cards ≡ inputs.cards }
 {
-    let Begun { inputs, tapes } = begun;
     let Inputs {
         machine,
         cards,
         source,
     } = inputs;
-    let mut taped = TapedMachine { machine, tapes };
-    let ran = run_inputs(rt, error_output, &mut taped, &cards, start, limit, &names);
-    let written = write_reels(rt.alloc(), files, &taped.tapes, names.reels.as_slice());
+    Begun {
+        taped: TapedMachine { machine, tapes },
+        cards,
+        source,
+    }
+}
+
+/// Runs what was read for a job, if its files can be made.
+fn run_begun<R: Files + Print + Eprint + Clock + AllocGlobal, D: ReelFiles>(
+    rt: &R,
+    error_output: ErrorOutput,
+    job: &Job,
+    begun: &mut Begun,
+    files: &mut D,
+) -> Result<(), RunFault>
+    requires size { is_refused job.now.size ≡ false }
+    requires read { IsReadFor job.now begun.old }
+    ensures ran { Ran job.now (D.handed files.old) (D.handed files.new) result }
+    ensures handed { (D.handed files.new ≡ D.handed files.old)
+        ⊎ AreAllHandedOver job.now.reels.items (D.handed files.old) (D.handed files.new) }
+{
+    match make_ready(rt, job, &begun.cards) {
+        Ok(()) => {}
+        Err(fault) => return Err(fault),
+    }
+    set_up(&mut begun.taped.machine, job.features, &job.switches);
+    run_and_tell(rt, error_output, job, begun, files)
+}
+
+/// Runs what was read, writes to the job's files, hands its reels over, and reports how it ended.
+fn run_and_tell<R: Files + Print + Eprint + Clock + AllocGlobal, D: ReelFiles>(
+    rt: &R,
+    error_output: ErrorOutput,
+    job: &Job,
+    begun: &mut Begun,
+    files: &mut D,
+) -> Result<(), RunFault>
+    requires { IsBegunFor job.now begun.old }
+    ensures ran { Ran job.now (D.handed files.old) (D.handed files.new) result }
+    ensures handed { AreAllHandedOver job.now.reels.items (D.handed files.old) (D.handed files.new) }
+{
+    let ran = run_inputs(rt, error_output, job, begun);
+    let written = write_reels(rt.alloc(), files, &begun.taped.tapes, job.reels.as_slice());
     match ran {
         Ok(report) => {
-            let ending = Ending::of(rt.alloc(), report, &taped, start, source.as_ref());
+            let source = begun.source.as_ref();
+            let ending = Ending::of(rt.alloc(), report, &begun.taped, job.start, source);
             tell_both(rt, ending, written)
         }
         Err(fault) => {

@@ -20,20 +20,29 @@ fn report_lines(rt: &impl Eprint, lines: Result<String, AllocError>) {
     }
 }
 
-/// Reports each fault of the lines of a source of this name, a page after the other.
+/// Reports each fault of the lines of a source of this name.
 fn report_pages(
     rt: &(impl Eprint + AllocGlobal),
     name: &str,
     language: Language,
     source: &[u8],
     size: u16,
-) -> Result<(), AsmFault> {
-    let mut pages = FaultPages::new(rt.alloc(), language, source, size)?;
-    for _ in 0..pages.count() {
-        let lines = pages.next_page(rt.alloc(), name)?;
-        let _ = rt.eprint(lines);
+) {
+    if let Ok(mut pages) = FaultPages::new(rt.alloc(), language, source, size) {
+        report_each(rt, name, &mut pages);
     }
-    Ok(())
+}
+
+/// Reports a page after the other, until memory for one is refused.
+fn report_each(rt: &(impl Eprint + AllocGlobal), name: &str, pages: &mut FaultPages<'_>) {
+    for _ in 0..pages.count() {
+        match pages.next_page(rt.alloc(), name) {
+            Ok(lines) => {
+                let _ = rt.eprint(lines);
+            }
+            Err(_) => return,
+        }
+    }
 }
 
 /// Reports what isn't in core of a source of this name.
@@ -73,9 +82,7 @@ pub(crate) fn report_faults(
         | AsmKind::Undefined
         | AsmKind::Operand
         | AsmKind::NoEnd
-        | AsmKind::AfterEnd => {
-            let _ = report_pages(rt, name, language, source, size);
-        },
+        | AsmKind::AfterEnd => report_pages(rt, name, language, source, size),
     }
 }
 

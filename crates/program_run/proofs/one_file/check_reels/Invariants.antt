@@ -5,8 +5,8 @@ use Rattle.program_run.proofs.one_file.check_reels.Given as goal
 
 abbrev pub invariant-loop-rest : goal.invariant-loop-rest
 invariant-loop-rest g l = record {
-  read : (name : List ℕ) → IsReadReel l.rest name → IsReadReel l.names.reels.items name;
-  written : (name : List ℕ) → IsWrittenReel l.rest name → IsWrittenReel l.names.reels.items name;
+  read : (name : List ℕ) → IsReadReel l.rest name → IsReadReel l.job.reels.items name;
+  written : (name : List ℕ) → IsWrittenReel l.rest name → IsWrittenReel l.job.reels.items name;
 }
 
 abbrev pub decreases-loop-rest : goal.decreases-loop-rest

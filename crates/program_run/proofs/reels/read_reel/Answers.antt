@@ -1,8 +1,9 @@
--- It is the file of this name that isn't read.
-use Rattle.std.proofs.Common.{string_bytes}
+-- It is the reel of the file's text, or the file of this name isn't read.
 use Rattle.program_run.proofs.ReelLemmas.{unread_reel}
 use Rattle.program_run.proofs.reels.read_reel.Goals as goal
 
-pub returns-in-Err-clause-fault : goal.returns-in-Err-clause-fault
-returns-in-Err-clause-fault g c =
-    rw c.in-Ok.ensures.ok at (unread_reel (string_bytes c.in-Ok.label) c.in-Err.fault c.in-Err.ensures)
+pub returns-in-Ok-read_tap-clause-reel : goal.returns-in-Ok-read_tap-clause-reel
+returns-in-Ok-read_tap-clause-reel g c = (c.as_slice.result.now, c.in-Ok-read_tap.ensures.whole)
+
+pub returns-clause-fault : goal.returns-clause-fault
+returns-clause-fault g c = unread_reel c.args.name.now c.in-Err.fault c.in-Err.ensures
