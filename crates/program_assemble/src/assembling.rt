@@ -84,8 +84,10 @@ pub fn write_assembly<W: Sink>(
     ensures { AssembleDid language size source.now product (W.received writer.old) (W.received writer.new)
         (W.has_failed writer.new) result }
 {
-    let ready = ready_product(alloc, language, source, size, product)?;
-    write_ready_product(ready, source, writer)
+    match ready_product(alloc, language, source, size, product) {
+        Ok(ready) => write_ready_product(ready, source, writer),
+        Err(fault) => Err(fault),
+    }
 }
 
 /// What a source stands for, ready to be written: its image, its listing, or its tables.
@@ -107,18 +109,18 @@ pub(crate) fn ready_product(
     ensures err { IfErr result (IsWhyNotAssembled language size source.now) }
 {
     match product {
-        Product::Image => {
-            let image = source_image(alloc, language, source, size)?;
-            Ok(ReadyProduct::Image(image))
-        }
-        Product::Listing => {
-            let listing = source_listing(alloc, language, source, size)?;
-            Ok(ReadyProduct::Listing(listing))
-        }
-        Product::Tables(asked) => {
-            let tables = source_tables(alloc, language, source, size, asked)?;
-            Ok(ReadyProduct::Tables(tables))
-        }
+        Product::Image => match source_image(alloc, language, source, size) {
+            Ok(image) => Ok(ReadyProduct::Image(image)),
+            Err(fault) => Err(fault),
+        },
+        Product::Listing => match source_listing(alloc, language, source, size) {
+            Ok(listing) => Ok(ReadyProduct::Listing(listing)),
+            Err(fault) => Err(fault),
+        },
+        Product::Tables(asked) => match source_tables(alloc, language, source, size, asked) {
+            Ok(tables) => Ok(ReadyProduct::Tables(tables)),
+            Err(fault) => Err(fault),
+        },
     }
 }
 
@@ -219,10 +221,12 @@ fn source_image(
     ensures ready { IfOk result HasPages }
     ensures err { IfErr result (IsWhyNotAssembled language size source.now) }
 {
-    let image = packed_image(alloc, language, source, size)?;
-    match ReadyImage::reserve(alloc, image) {
-        Ok(ready) => Ok(ready),
-        Err(_) => Err(AssembleFault::Memory),
+    match packed_image(alloc, language, source, size) {
+        Ok(image) => match ReadyImage::reserve(alloc, image) {
+            Ok(ready) => Ok(ready),
+            Err(_) => Err(AssembleFault::Memory),
+        },
+        Err(fault) => Err(fault),
     }
 }
 
@@ -242,7 +246,10 @@ pub(crate) fn source_deck(
     ensures ok { IfOk result (λ text. IsDeckOf language size source.now text.items) }
     ensures err { IfErr result (IsWhyNoDeckOf language size source.now) }
 {
-    let image = image_of(alloc, language, source, size)?;
+    let image = match image_of(alloc, language, source, size) {
+        Ok(image) => image,
+        Err(fault) => return Err(fault),
+    };
     match write_deck(alloc, &image) {
         Ok(text) => Ok(text),
         Err(DeckFault::Memory) => Err(AssembleFault::Memory),
@@ -309,16 +316,18 @@ fn ready_tables(
         (text_for source.now made.listing) made.symbols.items made.references.items) }
     ensures ready { IfOk result (AreReadyFor source.now) }
 {
-    let rest = rest_text(
+    match rest_text(
         alloc,
         made.symbols.as_slice(),
         made.references.as_slice(),
         asked,
-    )?;
-    Ok(ReadyTables {
-        listing: listing_if(asked.listing, made.listing),
-        rest,
-    })
+    ) {
+        Ok(rest) => Ok(ReadyTables {
+            listing: listing_if(asked.listing, made.listing),
+            rest,
+        }),
+        Err(fault) => Err(fault),
+    }
 }
 
 /// The symbol table and the cross-reference, if they are asked for, an empty line between them.
@@ -387,8 +396,10 @@ fn write_with_listing<W: Sink>(
     ensures { Wrote (with_part (text_for source.now ready) rest.now) (W.received writer.old) (W.received writer.new)
         (W.has_failed writer.new) result }
 {
-    write_ready(ready, source, writer)?;
-    write_parts(separator(has_lines(source), rest), rest, writer)
+    match write_ready(ready, source, writer) {
+        Ok(()) => write_parts(separator(has_lines(source), rest), rest, writer),
+        Err(fault) => Err(fault),
+    }
 }
 
 /// Writes two texts, one after the other.
@@ -407,8 +418,7 @@ fn put_part(text: &mut Vec<u8>, part: &[u8]) -> Result<(), AllocError>
     if !text.is_empty() && !part.is_empty() {
         text.extend_from_slice(EMPTY_LINE)?;
     }
-    text.extend_from_slice(part)?;
-    Ok(())
+    text.extend_from_slice(part)
 }
 
 /// Writes a text.

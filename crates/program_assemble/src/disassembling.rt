@@ -33,8 +33,10 @@ pub fn write_disassembly<W: Sink>(
     ensures { DisassembleDid text.now (W.received writer.old) (W.received writer.new)
         (W.has_failed writer.new) result }
 {
-    let (image, room) = image_in_room(alloc, text)?;
-    write_image(room, &image, writer)
+    match image_in_room(alloc, text) {
+        Ok((image, room)) => write_image(room, &image, writer),
+        Err(fault) => Err(fault),
+    }
 }
 
 /// The image of a text, lent, and the room in which it is listed.
@@ -86,8 +88,10 @@ pub fn write_deck_listing<W: Sink>(
     ensures { DisassembledDeck size cards.now (W.received writer.old) (W.received writer.new)
         (W.has_failed writer.new) result }
 {
-    let lines = deck_listing(alloc, cards, size)?;
-    write_text(&lines, writer)
+    match deck_listing(alloc, cards, size) {
+        Ok(lines) => write_text(lines.as_slice(), writer),
+        Err(fault) => Err(fault),
+    }
 }
 
 /// The listing of what a deck loads.

@@ -35,9 +35,13 @@ pub fn disassemble_file<R: Files + Print + AllocGlobal>(
     rt: &R,
     file: String,
 ) -> Result<(), AssembleFault> {
-    let text = read_image_file(rt, file)?;
-    let mut writer = ToWriter::new(io::writer(rt));
-    write_disassembly(rt.alloc(), text.as_slice(), &mut writer)
+    match read_image_file(rt, file) {
+        Ok(text) => {
+            let mut writer = ToWriter::new(io::writer(rt));
+            write_disassembly(rt.alloc(), text.as_slice(), &mut writer)
+        }
+        Err(fault) => Err(fault),
+    }
 }
 
 /// Writes the listing of what a deck loads into core storage of this size to standard output.
@@ -51,7 +55,11 @@ pub fn disassemble_deck<R: Print + AllocGlobal>(
     cards: &CardList,
     size: u16,
 ) -> Result<(), AssembleFault> {
-    check_size(size)?;
-    let mut writer = ToWriter::new(io::writer(rt));
-    write_deck_listing(rt.alloc(), cards, size, &mut writer)
+    match check_size(size) {
+        Ok(()) => {
+            let mut writer = ToWriter::new(io::writer(rt));
+            write_deck_listing(rt.alloc(), cards, size, &mut writer)
+        }
+        Err(fault) => Err(fault),
+    }
 }

@@ -1,5 +1,8 @@
 //! The subcommand `assemble`, from the source's file to what is written.
+ghost use Rattle.std.specs.Prelude.{◌≡◌, false, true};
+ghost use Rattle.core_1401.specs.Storage.{is_core_size};
 ghost use Rattle.program_assemble.specs.ReadyTables.{IsReady};
+ghost use Rattle.program_call.specs.Sizes.{is_refused};
 
 use crate::assembling::{
     ReadyProduct, check_size, ready_product, source_deck, write_assembly, write_ready_product,
@@ -28,11 +31,18 @@ const PAGE: usize = 1_000;
 /// # Errors
 ///
 /// `Unread`, with the name as it was given; else `Memory`.
-fn read_source(rt: &(impl Files + AllocGlobal), name: String) -> Result<Vec<u8>, AssembleFault> {
-    match read_whole(rt, name.as_str()) {
+fn read_source(rt: &(impl Files + AllocGlobal), name: &str) -> Result<Vec<u8>, AssembleFault> {
+    match read_whole(rt, name) {
         Ok(bytes) => Ok(bytes),
-        Err(FileFault::Memory) => Err(AssembleFault::Memory),
-        Err(_) => Err(AssembleFault::Unread(name)),
+        Err(why) => Err(unread(rt.alloc(), name, why)),
+    }
+}
+
+/// The fault of a source of this name that can't be read.
+fn unread(alloc: Global, name: &str, why: FileFault) -> AssembleFault {
+    match (why, String::from_str(alloc, name)) {
+        (FileFault::Memory, _) | (_, Err(_)) => AssembleFault::Memory,
+        (_, Ok(name)) => AssembleFault::Unread(name),
     }
 }
 
@@ -72,37 +82,26 @@ fn one_file(alloc: Global, first: &str, second: &str) -> AssembleFault {
 /// # Errors
 ///
 /// `OneFile` if two of them lead to one file, or `Memory`.
-fn check_names<R: Files + AllocGlobal>(
-    rt: &R,
-    file: &str,
-    out: &Option<String>,
-    deck: &Option<String>,
-) -> Result<(), AssembleFault> {
-    check_pair(rt, file, out)?;
-    check_pair(rt, file, deck)?;
-    match out {
-        Some(out) => check_pair(rt, out.as_str(), deck),
+fn check_names<R: Files + AllocGlobal>(rt: &R, asked: &Assembling) -> Result<(), AssembleFault> {
+    match check_pair(rt, asked.file.as_str(), &asked.out) {
+        Ok(()) => {}
+        Err(fault) => return Err(fault),
+    }
+    match check_pair(rt, asked.file.as_str(), &asked.deck) {
+        Ok(()) => {}
+        Err(fault) => return Err(fault),
+    }
+    match &asked.out {
+        Some(out) => check_pair(rt, out.as_str(), &asked.deck),
         None => Ok(()),
     }
 }
 
-/// Writes a text to the file of this name, whole or not at all; or to standard output, if the name is its.
-fn put_file(
-    rt: &(impl Files + Print + AllocGlobal),
-    name: String,
-    text: &[u8],
-) -> Result<(), AssembleFault> {
-    match put_whole(rt, name.as_str(), text) {
-        Ok(()) => Ok(()),
-        Err(why) => Err(unwritten(name, why)),
-    }
-}
-
 /// The fault of a file of this name that isn't written.
-fn unwritten(name: String, why: WriteFault) -> AssembleFault {
-    match why {
-        WriteFault::Memory => AssembleFault::Memory,
-        WriteFault::Unwritten => AssembleFault::Unwritten(name),
+fn unwritten(alloc: Global, name: &str, why: WriteFault) -> AssembleFault {
+    match (why, String::from_str(alloc, name)) {
+        (WriteFault::Memory, _) | (_, Err(_)) => AssembleFault::Memory,
+        (WriteFault::Unwritten, Ok(name)) => AssembleFault::Unwritten(name),
     }
 }
 
@@ -110,66 +109,70 @@ fn unwritten(name: String, why: WriteFault) -> AssembleFault {
 /// standard output, if the name is its.
 fn put_product(
     rt: &(impl Files + Print + AllocGlobal),
-    name: String,
+    name: &str,
     ready: ReadyProduct,
     source: &[u8],
-) -> Result<(), AssembleFault>
+) -> Result<(), WriteFault>
     requires { IsReady source.now ready }
 {
-    let file = match begin_whole(rt, name.as_str()) {
-        Ok(file) => file,
-        Err(why) => return Err(unwritten(name, why)),
-    };
-    let mut writer = ToWriter::new(file);
-    let written = write_ready_product(ready, source, &mut writer);
-    match end_whole(rt, writer.into_inner(), written.is_ok()) {
-        Ok(()) => Ok(()),
-        Err(why) => Err(unwritten(name, why)),
+    match begin_whole(rt, name) {
+        Ok(file) => {
+            let mut writer = ToWriter::new(file);
+            let written = write_ready_product(ready, source, &mut writer);
+            end_whole(rt, writer.into_inner(), written.is_ok())
+        }
+        Err(why) => Err(why),
     }
 }
 
-/// Where the deck of a source is written to.
-#[derive(Drop)]
-struct DeckFile {
-    /// The name of the file.
-    name: String,
-    /// The chain whose graphics it has.
-    graphics: Option<Graphics>,
-}
-
-/// Writes the deck of a source to this file.
+/// Writes the deck of a source to the file of this name, whole or not at all; or to standard output, if the name is its.
 fn put_deck(
     rt: &(impl Files + Print + AllocGlobal),
-    language: Language,
+    name: &str,
+    asked: &Assembling,
     source: &[u8],
     size: u16,
-    deck: DeckFile,
-) -> Result<(), AssembleFault> {
-    check_size(size)?;
-    let text = source_deck(rt.alloc(), language, source, size)?;
-    let DeckFile { name, graphics } = deck;
-    let text = in_theirs(graphics, text);
-    put_file(rt, name, text.as_slice())
+) -> Result<(), AssembleFault>
+    requires { is_core_size size ≡ true }
+{
+    let text = match source_deck(rt.alloc(), asked.language, source, size) {
+        Ok(text) => in_theirs(asked.deck_graphics, text),
+        Err(fault) => return Err(fault),
+    };
+    match put_whole(rt, name, text.as_slice()) {
+        Ok(()) => Ok(()),
+        Err(why) => Err(unwritten(rt.alloc(), name, why)),
+    }
 }
 
-/// Writes what a source stands for to standard output, or to the file of this name.
+/// Writes what a source stands for to standard output, or to the file that is named.
 fn write_product<R: Files + Print + AllocGlobal>(
     rt: &R,
-    language: Language,
+    asked: &Assembling,
     source: &[u8],
     size: u16,
-    product: Product,
-    out: Option<String>,
-) -> Result<(), AssembleFault> {
-    check_size(size)?;
-    match out {
-        Some(name) => {
-            let ready = ready_product(rt.alloc(), language, source, size, product)?;
-            put_product(rt, name, ready, source)
-        }
+) -> Result<(), AssembleFault>
+    requires { is_core_size size ≡ true }
+{
+    let alloc = rt.alloc();
+    match &asked.out {
+        Some(name) => match ready_product(alloc, asked.language, source, size, asked.product) {
+            Ok(ready) => match put_product(rt, name.as_str(), ready, source) {
+                Ok(()) => Ok(()),
+                Err(why) => Err(unwritten(alloc, name.as_str(), why)),
+            },
+            Err(fault) => Err(fault),
+        },
         None => {
             let mut writer = ToWriter::new(io::writer(rt));
-            write_assembly(rt.alloc(), language, source, size, product, &mut writer)
+            write_assembly(
+                alloc,
+                asked.language,
+                source,
+                size,
+                asked.product,
+                &mut writer,
+            )
         }
     }
 }
@@ -178,21 +181,25 @@ fn write_product<R: Files + Print + AllocGlobal>(
 /// file for it is named.
 fn write_asked<R: Files + Print + AllocGlobal>(
     rt: &R,
-    language: Language,
+    asked: &Assembling,
     source: &[u8],
     size: u16,
-    product: Product,
-    out: Option<String>,
-    deck: Option<DeckFile>,
 ) -> Result<(), AssembleFault> {
-    let Some(deck) = deck else {
-        return write_product(rt, language, source, size, product, out);
+    match check_size(size) {
+        Ok(()) => {}
+        Err(fault) => return Err(fault),
+    }
+    let Some(deck) = &asked.deck else {
+        return write_product(rt, asked, source, size);
     };
-    put_deck(rt, language, source, size, deck)?;
-    if product == Product::Image && out.is_none() {
+    match put_deck(rt, deck.as_str(), asked, source, size) {
+        Ok(()) => {}
+        Err(fault) => return Err(fault),
+    }
+    if asked.product == Product::Image && asked.out.is_none() {
         return Ok(());
     }
-    write_product(rt, language, source, size, product, out)
+    write_product(rt, asked, source, size)
 }
 
 /// The fault of a source of this name with what isn't in core on a line of its own, in place of that fault.
@@ -225,10 +232,25 @@ fn tell_faults(
     source: &[u8],
     size: u16,
 ) -> Result<String, AsmFault> {
-    let mut pages = FaultPages::new(rt.alloc(), language, source, size)?;
+    match FaultPages::new(rt.alloc(), language, source, size) {
+        Ok(mut pages) => tell_pages(rt, name, &mut pages),
+        Err(fault) => Err(fault),
+    }
+}
+
+/// Reports all of these pages but the last, which is left.
+fn tell_pages(
+    rt: &(impl Eprint + AllocGlobal),
+    name: &str,
+    pages: &mut FaultPages<'_>,
+) -> Result<String, AsmFault> {
     for _ in 1..pages.count() {
-        let lines = pages.next_page(rt.alloc(), name)?;
-        let _ = rt.eprint(lines);
+        match pages.next_page(rt.alloc(), name) {
+            Ok(lines) => {
+                let _ = rt.eprint(lines);
+            }
+            Err(fault) => return Err(fault),
+        }
     }
     pages.next_page(rt.alloc(), name)
 }
@@ -304,52 +326,62 @@ pub fn assemble_file<R: Files + Print + Eprint + AllocGlobal>(
     rt: &R,
     asked: Assembling,
 ) -> Result<(), AssembleFault> {
-    let Assembling {
-        file,
-        language,
-        source_graphics,
-        deck_graphics,
-        size,
-        product,
-        out,
-        deck,
-        told,
-        features,
-    } = asked;
-    if is_refused(size) {
+    assemble_named(rt, &asked)
+}
+
+/// The same of what is lent.
+fn assemble_named<R: Files + Print + Eprint + AllocGlobal>(
+    rt: &R,
+    asked: &Assembling,
+) -> Result<(), AssembleFault> {
+    if is_refused(asked.size) {
         return Err(AssembleFault::Size);
     }
-    check_names(rt, file.as_str(), &out, &deck)?;
-    let Ok(name) = file.clone() else {
-        return Err(AssembleFault::Memory);
-    };
-    let text = read_source(rt, file)?;
-    let suggested = match (source_graphics, told) {
+    match check_names(rt, asked) {
+        Ok(()) => {}
+        Err(fault) => return Err(fault),
+    }
+    match read_source(rt, asked.file.as_str()) {
+        Ok(text) => assemble_text(rt, asked, text),
+        Err(fault) => Err(fault),
+    }
+}
+
+/// Assembles the text of a source.
+fn assemble_text<R: Files + Print + Eprint + AllocGlobal>(
+    rt: &R,
+    asked: &Assembling,
+    text: Vec<u8>,
+) -> Result<(), AssembleFault>
+    requires { is_refused asked.now.size ≡ false }
+{
+    let suggested = match (asked.source_graphics, asked.told) {
         (None, Reported::First) => None,
-        _ => suggest_for_source(source_graphics, text.as_slice()),
+        _ => suggest_for_source(asked.source_graphics, text.as_slice()),
     };
-    let source = in_ours(source_graphics, text);
-    let size = size_for(size, language, source.as_slice());
-    let deck = deck.map(|name| {
-        DeckFile {
-            name,
-            graphics: deck_graphics,
-        }
-    });
-    let outcome = write_asked(rt, language, source.as_slice(), size, product, out, deck);
-    report_suggestion(rt, name.as_str(), suggested, &outcome);
-    match (outcome, told) {
+    let source = in_ours(asked.source_graphics, text);
+    assemble_source(rt, asked, source.as_slice(), suggested)
+}
+
+/// Assembles a source in this machine's graphics, and reports what is to be reported of it.
+fn assemble_source<R: Files + Print + Eprint + AllocGlobal>(
+    rt: &R,
+    asked: &Assembling,
+    source: &[u8],
+    suggested: Option<Suggestion>,
+) -> Result<(), AssembleFault>
+    requires { is_refused asked.now.size ≡ false }
+{
+    let name = asked.file.as_str();
+    let language = asked.language;
+    let size = size_for(asked.size, language, source);
+    let outcome = write_asked(rt, asked, source, size);
+    report_suggestion(rt, name, suggested, &outcome);
+    match (outcome, asked.told) {
         (Err(AssembleFault::Source(first)), Reported::All) if first.kind != AsmKind::Memory => Err(
-            all_told(rt, name.as_str(), language, source.as_slice(), size, first),
+            all_told(rt, name, language, source, size, first),
         ),
-        (Ok(()), Reported::All) => tell_warnings(
-            rt,
-            name.as_str(),
-            language,
-            source.as_slice(),
-            size,
-            features,
-        ),
+        (Ok(()), Reported::All) => tell_warnings(rt, name, language, source, size, asked.features),
         (outcome, Reported::First | Reported::All) => outcome,
     }
 }

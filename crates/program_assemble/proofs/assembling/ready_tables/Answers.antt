@@ -7,17 +7,17 @@ use Rattle.program_assemble.specs.ReadyTables.{listing_in}
 use Rattle.program_assemble.proofs.TablesLemmas.{listing_is, parts_of_tables}
 use Rattle.program_assemble.proofs.assembling.ready_tables.Goals as goal
 
-pub returns-clause-text : goal.returns-clause-text
-returns-clause-text c =
+pub returns-in-Ok-clause-text : goal.returns-in-Ok-clause-text
+returns-in-Ok-clause-text c =
     let asked = c.args.asked in
     let source = c.args.source.now in
     let listing = text_for source c.args.made.listing in
     let symbols = c.args.made.symbols.items in
-    ap (λ (found : Option ReadyListing). with_part (listing_in source found) c.in_ok-rest.rest.items) c.listing_if.ensures
-    ∙ ap (λ (first : List ℕ). with_part first c.in_ok-rest.rest.items)
+    ap (λ (found : Option ReadyListing). with_part (listing_in source found) c.in-Ok.rest.items) c.listing_if.ensures
+    ∙ ap (λ (first : List ℕ). with_part first c.in-Ok.rest.items)
     (listing_is asked.listing source c.args.made.listing)
     ∙ ap (λ (rest : List ℕ). with_part (with_part_if asked.listing [] listing) rest)
-    (c.in_ok-rest.ensures
+    (c.in-Ok.ensures
     ∙ ap (λ (table : List ℕ). with_part_if asked.references (with_part_if asked.symbols [] table) c.as_slice-2.result.now)
     c.as_slice.ensures.value
     ∙ ap (λ (table : List ℕ). with_part_if asked.references (with_part_if asked.symbols [] symbols) table)
