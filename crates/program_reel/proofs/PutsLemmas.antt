@@ -23,11 +23,18 @@ puts_then old between new failed page first next more less (Err _) one other =
     (part_then old between new page first next more one other.0, other.1)
 
 -- a write failed at the first part
-pub puts_failed : (old new : Option (List ℕ)) (failed : Bool) (page first more less : List ℕ)
-    (outcome : Result ⊤ Failed) (why : Failed) → outcome ≡ Err why
-    → AppendsPart old new (page ++ first) × IsTrue failed → Puts old new failed (page ++ (first ++ more)) less outcome
-puts_failed old new failed page first more less outcome why is part =
-    rw is (rw (← append_assoc page first more) (part_before old new (page ++ first) more part.0), part.1)
+pub part_failed : (old new : Option (List ℕ)) (failed : Bool) (page first more : List ℕ)
+    → AppendsPart old new (page ++ first) × IsTrue failed
+    → AppendsPart old new (page ++ (first ++ more)) × IsTrue failed
+part_failed old new failed page first more part =
+    (rw (← append_assoc page first more) (part_before old new (page ++ first) more part.0), part.1)
+
+-- or at the second
+pub part_then_failed : (old between new : Option (List ℕ)) (failed : Bool) (page first next more : List ℕ)
+    → Sent old between (page ++ first) next → AppendsPart between new (next ++ more) × IsTrue failed
+    → AppendsPart old new (page ++ (first ++ more)) × IsTrue failed
+part_then_failed old between new failed page first next more one other =
+    (part_then old between new page first next more one other.0, other.1)
 
 -- one part more was put of a text, and this was left of it
 pub step_sent : (old between new : Option (List ℕ)) (whole page first rest more next : List ℕ)
@@ -40,18 +47,16 @@ step_sent old between new whole page first rest more next sent split one =
     (sent_before between new (page ++ first) next more one))
 
 -- a write failed at that part
-pub step_failed : (old between new : Option (List ℕ)) (failed : Bool) (whole page first rest more less : List ℕ)
-    (outcome : Result ⊤ Failed) (why : Failed) → outcome ≡ Err why → Sent old between whole (page ++ rest)
-    → rest ≡ first ++ more → AppendsPart between new (page ++ first) × IsTrue failed
-    → Puts old new failed whole less outcome
-step_failed old between new failed whole page first rest more less outcome why is sent split part =
-    rw is (
-      sent_part old between new whole (page ++ rest) sent
-          (subst (λ text. AppendsPart between new text)
-          (append_assoc page first more ∙ ap (λ text. page ++ text) (sym split))
-          (part_before between new (page ++ first) more part.0)),
-      part.1,
-    )
+pub step_failed : (old between new : Option (List ℕ)) (failed : Bool) (whole page first rest more : List ℕ)
+    → Sent old between whole (page ++ rest) → rest ≡ first ++ more
+    → AppendsPart between new (page ++ first) × IsTrue failed → AppendsPart old new whole × IsTrue failed
+step_failed old between new failed whole page first rest more sent split part = (
+  sent_part old between new whole (page ++ rest) sent
+      (subst (λ text. AppendsPart between new text)
+      (append_assoc page first more ∙ ap (λ text. page ++ text) (sym split))
+      (part_before between new (page ++ first) more part.0)),
+  part.1,
+)
 
 -- nothing more was left
 pub step_end : (old new : Option (List ℕ)) (whole page rest : List ℕ) → Sent old new whole (page ++ rest) → rest ≡ []

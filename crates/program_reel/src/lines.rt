@@ -65,9 +65,13 @@ pub(crate) fn put_number<W: Sink>(
         (page.old.items ++ (words.now ++ digits_in width number)) page.new.items result }
     ensures capacity { vec_capacity page.old ≤ vec_capacity page.new }
 {
-    make_room(page, NUMBER_BYTES, writer)?;
-    put_in_room(page, words, width, number);
-    Ok(())
+    match make_room(page, NUMBER_BYTES, writer) {
+        Ok(()) => {
+            put_in_room(page, words, width, number);
+            Ok(())
+        }
+        Err(failed) => Err(failed),
+    }
 }
 
 /// What precedes the character with this index.
@@ -101,9 +105,11 @@ fn put_char<W: Sink>(
         (page.old.items ++ char_text parity at char) page.new.items result }
     ensures capacity { vec_capacity page.old ≤ vec_capacity page.new }
 {
-    put_text(page, before_char(at), writer)?;
-    let graphic = graphic_of(parity, char);
-    put_text(page, &graphic, writer)
+    match put_text(page, before_char(at), writer) {
+        Ok(()) => {}
+        Err(failed) => return Err(failed),
+    }
+    put_text(page, &graphic_of(parity, char), writer)
 }
 
 /// Puts the characters of a record.
@@ -119,7 +125,10 @@ fn put_chars<W: Sink>(
     ensures capacity { vec_capacity page.old ≤ vec_capacity page.new }
 {
     for i in 0..tape_record.len() {
-        put_char(page, parity, i, tape_record.char(i), writer)?;
+        match put_char(page, parity, i, tape_record.char(i), writer) {
+            Ok(()) => {}
+            Err(failed) => return Err(failed),
+        }
     }
     Ok(())
 }
@@ -136,8 +145,10 @@ fn put_body<W: Sink>(
         (page.old.items ++ (chars_text parity 0 tape_record.now ++ codes "\n")) page.new.items result }
     ensures capacity { vec_capacity page.old ≤ vec_capacity page.new }
 {
-    put_chars(page, parity, tape_record, writer)?;
-    put_text(page, b"\n", writer)
+    match put_chars(page, parity, tape_record, writer) {
+        Ok(()) => put_text(page, b"\n", writer),
+        Err(failed) => Err(failed),
+    }
 }
 
 /// Puts the number of a record and its length.
@@ -152,7 +163,10 @@ fn put_front<W: Sink>(
         (page.old.items ++ front_text number tape_record.now) page.new.items result }
     ensures capacity { vec_capacity page.old ≤ vec_capacity page.new }
 {
-    put_number(page, b"", 6, number, writer)?;
+    match put_number(page, b"", 6, number, writer) {
+        Ok(()) => {}
+        Err(failed) => return Err(failed),
+    }
     put_number(page, b" ", 5, tape_record.len() as u64, writer)
 }
 
@@ -169,8 +183,10 @@ fn put_data<W: Sink>(
         (page.old.items ++ data_lines parity number tape_record.now) page.new.items result }
     ensures capacity { vec_capacity page.old ≤ vec_capacity page.new }
 {
-    put_front(page, number, tape_record, writer)?;
-    put_body(page, parity, tape_record, writer)
+    match put_front(page, number, tape_record, writer) {
+        Ok(()) => put_body(page, parity, tape_record, writer),
+        Err(failed) => Err(failed),
+    }
 }
 
 /// Puts the line of a tape mark.
@@ -180,8 +196,10 @@ fn put_mark<W: Sink>(page: &mut Vec<u8>, number: u64, writer: &mut W) -> Result<
         (page.old.items ++ mark_line number) page.new.items result }
     ensures capacity { vec_capacity page.old ≤ vec_capacity page.new }
 {
-    put_number(page, b"", 6, number, writer)?;
-    put_text(page, b" TAPE MARK\n", writer)
+    match put_number(page, b"", 6, number, writer) {
+        Ok(()) => put_text(page, b" TAPE MARK\n", writer),
+        Err(failed) => Err(failed),
+    }
 }
 
 /// Puts the lines of a record.
@@ -219,7 +237,10 @@ pub(crate) fn put_records<W: Sink>(
     let mut number: u64 = 1;
     let mut rest = records.again();
     while let Some((first, beyond)) = rest.split_first() {
-        put_record(page, parity, number, &first, writer)?;
+        match put_record(page, parity, number, &first, writer) {
+            Ok(()) => {}
+            Err(failed) => return Err(failed),
+        }
         number += 1;
         rest = beyond;
     }

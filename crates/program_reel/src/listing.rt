@@ -35,10 +35,12 @@ fn reel_in_room(alloc: Global, text: &[u8]) -> Result<(Reel, Vec<u8>), ReelFault
     ensures room { IfOk result (λ found. most_in_page ≤ vec_capacity found.1) }
     ensures err { IfErr result (IsWhyNoReel text.now) }
 {
-    let reel = reel_of(alloc, text)?;
-    match Vec::with_capacity(alloc, PAGE) {
-        Ok(page) => Ok((reel, page)),
-        Err(_) => Err(ReelFault::Memory),
+    match reel_of(alloc, text) {
+        Ok(reel) => match Vec::with_capacity(alloc, PAGE) {
+            Ok(page) => Ok((reel, page)),
+            Err(_) => Err(ReelFault::Memory),
+        },
+        Err(fault) => Err(fault),
     }
 }
 
@@ -49,8 +51,10 @@ fn put_last_count<W: Sink>(page: &mut Vec<u8>, count: u64, writer: &mut W) -> Re
         (page.old.items ++ ((codes " CHARACTERS " ++ digits_in 1 count) ++ codes "\n")) page.new.items result }
     ensures capacity { vec_capacity page.old ≤ vec_capacity page.new }
 {
-    put_number(page, b" CHARACTERS ", 1, count, writer)?;
-    put_text(page, b"\n", writer)
+    match put_number(page, b" CHARACTERS ", 1, count, writer) {
+        Ok(()) => put_text(page, b"\n", writer),
+        Err(failed) => Err(failed),
+    }
 }
 
 /// Puts the numbers of tape marks and of characters.
@@ -66,8 +70,10 @@ fn put_more_counts<W: Sink>(
         ++ ((codes " CHARACTERS " ++ digits_in 1 count) ++ codes "\n"))) page.new.items result }
     ensures capacity { vec_capacity page.old ≤ vec_capacity page.new }
 {
-    put_number(page, b" TAPE MARKS ", 1, marks, writer)?;
-    put_last_count(page, count, writer)
+    match put_number(page, b" TAPE MARKS ", 1, marks, writer) {
+        Ok(()) => put_last_count(page, count, writer),
+        Err(failed) => Err(failed),
+    }
 }
 
 /// Puts a last line with these numbers.
@@ -83,8 +89,10 @@ fn put_all_counts<W: Sink>(
         (page.old.items ++ counts_text others marks characters) page.new.items result }
     ensures capacity { vec_capacity page.old ≤ vec_capacity page.new }
 {
-    put_number(page, b"RECORDS ", 1, others, writer)?;
-    put_more_counts(page, marks, characters, writer)
+    match put_number(page, b"RECORDS ", 1, others, writer) {
+        Ok(()) => put_more_counts(page, marks, characters, writer),
+        Err(failed) => Err(failed),
+    }
 }
 
 /// Puts the last line: how many records, tape marks and characters there are.
@@ -116,8 +124,10 @@ fn put_listing<W: Sink>(
         (page.old.items ++ (lines_from parity 1 records.now ++ counts_line records.now)) page.new.items result }
     ensures capacity { vec_capacity page.old ≤ vec_capacity page.new }
 {
-    put_records(page, parity, records, writer)?;
-    put_counts(page, records, writer)
+    match put_records(page, parity, records, writer) {
+        Ok(()) => put_counts(page, records, writer),
+        Err(failed) => Err(failed),
+    }
 }
 
 /// Writes the listing of records by way of a page in which there is nothing.
@@ -166,6 +176,8 @@ pub fn write_reel_listing<W: Sink>(
     ensures { ReelListed parity text.now (W.received writer.old) (W.received writer.new)
         (W.has_failed writer.new) result }
 {
-    let (reel, page) = reel_in_room(alloc, text)?;
-    write_listing(page, parity, &reel.ahead(), writer)
+    match reel_in_room(alloc, text) {
+        Ok((reel, page)) => write_listing(page, parity, &reel.ahead(), writer),
+        Err(fault) => Err(fault),
+    }
 }

@@ -79,9 +79,14 @@ fn put_reel_file(
     name: &str,
     text: ReelText<'_>,
 ) -> Result<(), WriteFault> {
-    let mut writer = ToWriter::new(begin_whole(rt, name)?);
-    let written = text.write(&mut writer);
-    end_whole(rt, writer.into_inner(), written.is_ok())
+    match begin_whole(rt, name) {
+        Ok(file) => {
+            let mut writer = ToWriter::new(file);
+            let written = text.write(&mut writer);
+            end_whole(rt, writer.into_inner(), written.is_ok())
+        }
+        Err(fault) => Err(fault),
+    }
 }
 
 /// Writes the listing of the reel of a file to standard output.
@@ -95,9 +100,13 @@ pub fn list_reel<R: Files + Print + AllocGlobal>(
     file: String,
     parity: Parity,
 ) -> Result<(), ReelFault> {
-    let text = read_reel_file(rt, file)?;
-    let mut writer = ToWriter::new(io::writer(rt));
-    write_reel_listing(rt.alloc(), text.as_slice(), parity, &mut writer)
+    match read_reel_file(rt, file) {
+        Ok(text) => {
+            let mut writer = ToWriter::new(io::writer(rt));
+            write_reel_listing(rt.alloc(), text.as_slice(), parity, &mut writer)
+        }
+        Err(fault) => Err(fault),
+    }
 }
 
 /// Writes the deck of the reel of a file, in the graphics of the chain that is asked for, to the file named `out`.
@@ -113,11 +122,30 @@ pub fn write_reel_deck<R: Files + Print + AllocGlobal>(
     asked: Option<Graphics>,
     parity: Parity,
 ) -> Result<(), ReelFault> {
-    check_names(rt, file.as_str(), out.as_str())?;
-    let text = read_reel_file(rt, file)?;
-    let deck = reel_deck(rt.alloc(), text.as_slice(), parity)?;
-    let deck = in_theirs(asked, deck);
-    put_file(rt, out, deck.as_slice())
+    match check_names(rt, file.as_str(), out.as_str()) {
+        Ok(()) => {}
+        Err(fault) => return Err(fault),
+    }
+    match deck_of_file(rt, file, asked, parity) {
+        Ok(deck) => put_file(rt, out, deck.as_slice()),
+        Err(fault) => Err(fault),
+    }
+}
+
+/// The deck of the reel of a file, in the graphics of the chain that is asked for.
+fn deck_of_file<R: Files + AllocGlobal>(
+    rt: &R,
+    file: String,
+    asked: Option<Graphics>,
+    parity: Parity,
+) -> Result<Vec<u8>, ReelFault> {
+    match read_reel_file(rt, file) {
+        Ok(text) => match reel_deck(rt.alloc(), text.as_slice(), parity) {
+            Ok(deck) => Ok(in_theirs(asked, deck)),
+            Err(fault) => Err(fault),
+        },
+        Err(fault) => Err(fault),
+    }
 }
 
 /// Writes the reel of a deck to the file of this name.
@@ -131,9 +159,11 @@ pub fn write_reel<R: Files + Print + AllocGlobal>(
     out: String,
     parity: Parity,
 ) -> Result<(), ReelFault> {
-    let text = ReelText::new(rt.alloc(), cards, parity)?;
-    match put_reel_file(rt, out.as_str(), text) {
-        Ok(()) => Ok(()),
-        Err(fault) => Err(unwritten(out, fault)),
+    match ReelText::new(rt.alloc(), cards, parity) {
+        Ok(text) => match put_reel_file(rt, out.as_str(), text) {
+            Ok(()) => Ok(()),
+            Err(fault) => Err(unwritten(out, fault)),
+        },
+        Err(fault) => Err(fault),
     }
 }

@@ -64,8 +64,14 @@ fn put_card<W: Sink>(
 {
     let characters = card_record(parity, card);
     let length = length_text(CARD_COLUMNS);
-    put_text(page, &length, writer)?;
-    put_text(page, &characters, writer)?;
+    match put_text(page, &length, writer) {
+        Ok(()) => {}
+        Err(failed) => return Err(failed),
+    }
+    match put_text(page, &characters, writer) {
+        Ok(()) => {}
+        Err(failed) => return Err(failed),
+    }
     put_text(page, &length, writer)
 }
 
@@ -96,7 +102,10 @@ fn put_deck<W: Sink>(
 {
     let mut deck = Deck::new(cards);
     while let Some(card) = next_card(&mut deck) {
-        put_card(page, parity, card, writer)?;
+        match put_card(page, parity, card, writer) {
+            Ok(()) => {}
+            Err(failed) => return Err(failed),
+        }
     }
     Ok(())
 }
@@ -115,9 +124,13 @@ fn put_reel<W: Sink>(
     ensures whole { OnOk result (are_whole cards.now ≡ true) }
     ensures capacity { vec_capacity page.old ≤ vec_capacity page.new }
 {
-    put_deck(page, parity, cards, writer)?;
-    let mark = length_text(0);
-    put_text(page, &mark, writer)
+    match put_deck(page, parity, cards, writer) {
+        Ok(()) => {
+            let mark = length_text(0);
+            put_text(page, &mark, writer)
+        }
+        Err(failed) => Err(failed),
+    }
 }
 
 /// Writes the text of the reel of a deck by way of a page in which there is nothing.

@@ -1,17 +1,15 @@
 -- Two parts are put as one.
 use Rattle.std.proofs.Common.{ℕ, ◌++◌, length, subst}
-use Rattle.std.proofs.lemmas.Result.{err_from_is_err_and}
 use Rattle.std.specs.Prelude.{codes}
 use Rattle.machine_notation.specs.Digits.{digits_in}
 use Rattle.program_reel.specs.Writing.{Puts}
-use Rattle.program_reel.proofs.PutsLemmas.{puts_failed, puts_then}
+use Rattle.program_reel.proofs.PutsLemmas.{part_failed, puts_then}
 use Rattle.program_reel.proofs.lines.put_front.Goals as goal
 
-pub returns-in_err-put_number-clause-puts : goal.returns-in_err-put_number-clause-puts
-returns-in_err-put_number-clause-puts g c =
-    let why = err_from_is_err_and c.from_residual.result c.from_residual.ensures.1 in
-    puts_failed _ _ _ c.args.page.now.items (digits_in 6 c.args.number) (codes " " ++ digits_in 5 (length
-    c.args.tape_record.now)) _ _ why.0 why.1 c.in_err-put_number.ensures.puts
+pub returns-in-Err-clause-puts : goal.returns-in-Err-clause-puts
+returns-in-Err-clause-puts g c =
+    part_failed _ _ _ c.args.page.now.items (digits_in 6 c.args.number) (codes " " ++ digits_in 5 (length
+    c.args.tape_record.now)) c.in-Err.ensures.puts
 
 pub returns-clause-puts : goal.returns-clause-puts
 returns-clause-puts g c =
@@ -20,4 +18,4 @@ returns-clause-puts g c =
     (c.args.page.now.items ++ ((digits_in 6 c.args.number) ++ (codes " " ++ digits_in 5 n)))
     c.put_number-2.new.page.items c.put_number-2.result) c.len.ensures.value
     (puts_then _ _ _ _ c.args.page.now.items (digits_in 6 c.args.number) _ (codes " " ++ digits_in 5 c.len.result) _
-    _ c.in_ok-put_number.ensures.puts c.put_number-2.ensures.puts)
+    _ c.in-Ok.ensures.puts c.put_number-2.ensures.puts)

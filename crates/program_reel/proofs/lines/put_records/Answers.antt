@@ -1,6 +1,5 @@
 -- The lines of one record more, or of no more.
 use Rattle.std.proofs.Common.{List, ℕ, ◌+◌, ◌++◌, ◌∙◌, ap, length, sym, subst, arith}
-use Rattle.std.proofs.lemmas.Result.{err_from_is_err_and}
 use Rattle.bytes_pages.specs.Page.{Sent}
 use Rattle.bytes_pages.proofs.SentLemmas.{sent_none}
 use Rattle.program_reel.specs.ReelListing.{lines_from, record_lines}
@@ -26,16 +25,15 @@ loop-first-init g c =
       capacity = omega arith;
     }
 
-pub returns-in_err-put_record-clause-puts : goal.returns-in_err-put_record-clause-puts
-returns-in_err-put_record-clause-puts g c =
-    let why = err_from_is_err_and c.from_residual.result c.from_residual.ensures.1 in
+pub returns-in-Err-clause-puts : goal.returns-in-Err-clause-puts
+returns-in-Err-clause-puts g c =
     let at = c.loop-first in
     let beyond : List (List ℕ) = c.in-Some.beyond in
     step_failed _ _ _ _ (c.args.page.now.items ++ lines_from c.args.parity 1 c.args.records.now) at.page.items
     (record_lines c.args.parity at.number c.in-Some.first) (lines_from c.args.parity at.number at.rest)
-    (lines_from c.args.parity (at.number + 1) beyond) _ _ why.0 why.1 at.invariant.sent
+    (lines_from c.args.parity (at.number + 1) beyond) at.invariant.sent
     (ap (λ (records : List (List ℕ)). lines_from c.args.parity at.number records) c.in-Some.ensures.first
-    ∙ lines_from-first c.args.parity at.number c.in-Some.first beyond) c.in_err-put_record.ensures.puts
+    ∙ lines_from-first c.args.parity at.number c.in-Some.first beyond) c.in-Err.ensures.puts
 
 pub loop-first-preserved : goal.loop-first-preserved
 loop-first-preserved g c =
@@ -46,9 +44,9 @@ loop-first-preserved g c =
           (record_lines c.args.parity at.number c.in-Some.first) (lines_from c.args.parity at.number at.rest)
           (lines_from c.args.parity (at.number + 1) beyond) c.put_record.new.page.items at.invariant.sent
           (ap (λ (records : List (List ℕ)). lines_from c.args.parity at.number records) c.in-Some.ensures.first
-          ∙ lines_from-first c.args.parity at.number c.in-Some.first beyond) c.in_ok-put_record.ensures.puts;
+          ∙ lines_from-first c.args.parity at.number c.in-Some.first beyond) c.in-Ok.ensures.puts;
       few = omega (arith, at.invariant.few, ap length c.in-Some.ensures.first);
-      capacity = omega (arith, at.invariant.capacity, c.in_ok-put_record.ensures.capacity);
+      capacity = omega (arith, at.invariant.capacity, c.in-Ok.ensures.capacity);
     }
 
 pub returns-clause-puts : goal.returns-clause-puts

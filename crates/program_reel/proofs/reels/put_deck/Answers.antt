@@ -1,7 +1,6 @@
 -- The record of one card more, or of no more.
 use Rattle.std.proofs.Common.{◌≡◌, ℕ, List, ◌++◌, true, map, ◌∙◌, sym, ap, subst, arith}
 use Rattle.std.proofs.lemmas.Bool.{and_from}
-use Rattle.std.proofs.lemmas.Result.{err_from_is_err_and}
 use Rattle.std.specs.List.{list_all}
 use Rattle.bytes_pages.specs.Page.{Sent}
 use Rattle.bytes_pages.proofs.SentLemmas.{sent_none}
@@ -29,17 +28,16 @@ loop-card-init g c =
       capacity = omega arith;
     }
 
-pub returns-in_err-put_card-clause-puts : goal.returns-in_err-put_card-clause-puts
-returns-in_err-put_card-clause-puts g c =
-    let why = err_from_is_err_and c.from_residual.result c.from_residual.ensures.1 in
+pub returns-in-Err-clause-puts : goal.returns-in-Err-clause-puts
+returns-in-Err-clause-puts g c =
     let at = c.loop-card in
     let text : List Card → List ℕ = λ cards. tap_text (map (card_record c.args.parity) cards) in
     let chars = card_record c.args.parity c.in-Some.card in
     let beyond : List Card = c.next_card.new.deck in
     step_failed _ _ _ _ (c.args.page.now.items ++ text c.args.cards.now) at.page.items (record_text chars)
-    (text at.deck) (text beyond) _ _ why.0 why.1 at.invariant.sent
+    (text at.deck) (text beyond) at.invariant.sent
     (ap text c.in-Some.ensures.card ∙ tap_text-first chars (map (card_record c.args.parity) beyond))
-    c.in_err-put_card.ensures.puts
+    c.in-Err.ensures.puts
 
 pub loop-card-preserved : goal.loop-card-preserved
 loop-card-preserved g c =
@@ -53,14 +51,14 @@ loop-card-preserved g c =
     record {
       sent = step_sent _ _ _ (c.args.page.now.items ++ text c.args.cards.now) at.page.items (record_text chars)
           (text at.deck) (text beyond) c.put_card.new.page.items s.sent
-          (ap text is ∙ tap_text-first chars (map (card_record c.args.parity) beyond)) c.in_ok-put_card.ensures.puts;
+          (ap text is ∙ tap_text-first chars (map (card_record c.args.parity) beyond)) c.in-Ok.ensures.puts;
       good = λ good. s.good (subst
           (λ (cards : List Card). list_all is_record (map (card_record c.args.parity) cards) ≡ true) (sym is)
           (and_from (is_record chars) (list_all is_record (map (card_record c.args.parity) beyond))
-          c.in_ok-put_card.ensures.good good));
+          c.in-Ok.ensures.good good));
       whole = λ whole. s.whole (subst (λ (cards : List Card). are_whole cards ≡ true) (sym is)
           (more_whole card beyond c.in-Some.ensures.whole whole));
-      capacity = omega (arith, s.capacity, c.in_ok-put_card.ensures.capacity);
+      capacity = omega (arith, s.capacity, c.in-Ok.ensures.capacity);
     }
 
 pub returns-clause-puts : goal.returns-clause-puts

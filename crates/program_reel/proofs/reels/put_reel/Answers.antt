@@ -1,29 +1,28 @@
 -- The tape mark is put after the records of the cards.
 use Rattle.std.proofs.Common.{List, ℕ, ◌++◌, ◌∙◌, ap, map, subst}
-use Rattle.std.proofs.lemmas.Result.{err_from_is_err_and}
+use Rattle.std.specs.Prelude.{IsTrue}
+use Rattle.bytes_streams.specs.Sink.{AppendsPart}
 use Rattle.machine_reels.specs.TapText.{length_text, tap_text}
 use Rattle.program_reel.specs.Decks.{card_record}
 use Rattle.program_reel.specs.Writing.{Puts}
-use Rattle.program_reel.proofs.PutsLemmas.{puts_failed, puts_then}
+use Rattle.program_reel.proofs.PutsLemmas.{part_failed, puts_then}
 use Rattle.program_reel.proofs.ReelTextLemmas.{mark_after}
 use Rattle.program_reel.proofs.reels.put_reel.Goals as goal
 
-pub returns-in_err-put_deck-clause-puts : goal.returns-in_err-put_deck-clause-puts
-returns-in_err-put_deck-clause-puts g c =
-    let why = err_from_is_err_and c.from_residual.result c.from_residual.ensures.1 in
+pub returns-in-Err-clause-puts : goal.returns-in-Err-clause-puts
+returns-in-Err-clause-puts g c =
     let records : List (List ℕ) = map (card_record c.args.parity) c.args.cards.now in
-    subst (λ (text : List ℕ). Puts (g.W.Sink.received c.args.writer.now) (g.W.Sink.received c.put_deck.new.writer)
-    (g.W.Sink.has_failed c.put_deck.new.writer) (c.args.page.now.items ++ text) c.put_deck.new.page.items
-    c.from_residual.result) (mark_after records)
-    (puts_failed _ _ _ c.args.page.now.items (tap_text records) (length_text 0) _ _ why.0 why.1
-    c.in_err-put_deck.ensures.puts)
+    subst (λ (text : List ℕ). AppendsPart (g.W.Sink.received c.args.writer.now)
+    (g.W.Sink.received c.put_deck.new.writer) (c.args.page.now.items ++ text)
+    × IsTrue (g.W.Sink.has_failed c.put_deck.new.writer)) (mark_after records)
+    (part_failed _ _ _ c.args.page.now.items (tap_text records) (length_text 0) c.in-Err.ensures.puts)
 
-pub returns-clause-puts : goal.returns-clause-puts
-returns-clause-puts g c =
+pub returns-in-Ok-clause-puts : goal.returns-in-Ok-clause-puts
+returns-in-Ok-clause-puts g c =
     let records : List (List ℕ) = map (card_record c.args.parity) c.args.cards.now in
     subst (λ (text : List ℕ). Puts (g.W.Sink.received c.args.writer.now) (g.W.Sink.received c.put_text.new.writer)
     (g.W.Sink.has_failed c.put_text.new.writer) (c.args.page.now.items ++ text) c.put_text.new.page.items
     c.put_text.result)
     (ap (λ (mark : List ℕ). tap_text records ++ mark) c.length_text-mark.ensures ∙ mark_after records)
     (puts_then _ _ _ _ c.args.page.now.items (tap_text records) c.put_deck.new.page.items c.length_text-mark.result _ _
-    c.in_ok-put_deck.ensures.puts c.put_text.ensures.puts)
+    c.in-Ok.ensures.puts c.put_text.ensures.puts)
