@@ -122,11 +122,11 @@ pub(crate) fn assemble_call(
     ensures { IfOk result (λ call. IsAssembled (found_of matches.now) file.now call) }
 {
     if names_one_file(matches) {
-        return Err(refusal(alloc, assemble(), "-o and --deck name the same file")?);
+        return Err(refusal(alloc, assemble(), "-o and --deck name the same file"));
     }
     match features_in(matches) {
         Some(features) => Ok(Call::Assemble(assembling_in(alloc, matches, file, features)?)),
-        None => Err(refusal(alloc, assemble(), NAMED_TWICE)?),
+        None => Err(refusal(alloc, assemble(), NAMED_TWICE)),
     }
 }
 

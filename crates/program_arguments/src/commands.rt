@@ -90,18 +90,11 @@ fn groups_of<'a>(alloc: Global, session: Session) -> Result<Vec<ArgGroup<'a>>, A
 
 /// The command of a subcommand, without arguments.
 fn bare<'a>(alloc: Global, of: &Subcommand) -> Command<'a> {
+    let command = Command::new(alloc, of.name).about(of.about);
     match of.session {
-        Session::Nothing => Command::new(alloc, of.name).about(of.about),
-        Session::Orders => {
-            Command::new(alloc, of.name)
-                .about(of.about)
-                .after_help(ORDERS)
-        },
-        Session::Lines | Session::LinesOrPorts | Session::Ports => {
-            Command::new(alloc, of.name)
-                .about(of.about)
-                .after_help(LINES)
-        },
+        Session::Nothing => command,
+        Session::Orders => command.after_help(ORDERS),
+        Session::Lines | Session::LinesOrPorts | Session::Ports => command.after_help(LINES),
     }
 }
 
@@ -135,8 +128,16 @@ fn refusal_of(
     command.error(ErrorKind::ValueValidation, text)
 }
 
-/// A refusal of what a subcommand is asked for.
-pub(crate) fn refusal(alloc: Global, of: &Subcommand, text: &str) -> Result<Error, AllocError> {
+/// The same, of what a subcommand is asked for.
+fn refusal_in(alloc: Global, of: &Subcommand, text: &str) -> Result<Error, AllocError> {
     let sizes = SizeTexts::new(alloc)?;
     refusal_of(command_of(alloc, &sizes, of), of.whole_name, text)
+}
+
+/// A refusal of what a subcommand is asked for; or want of memory, if there is none for its text.
+pub(crate) fn refusal(alloc: Global, of: &Subcommand, text: &str) -> Error {
+    match refusal_in(alloc, of, text) {
+        Ok(refusal) => refusal,
+        Err(fault) => Error::from(fault),
+    }
 }

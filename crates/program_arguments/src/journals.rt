@@ -8,8 +8,7 @@ ghost use Rattle.program_arguments.specs.Calls.{IsShown};
 use crate::commands::{Session, Subcommand, refusal};
 use crate::options::{ANY_U8, ANY_U32, Argument, FREE, Kind, TEXT, name_in};
 use crate::serving::{
-    ORIGIN, PAGE, PORT, RENEW_AFTER, SEATS, operators_in, origin_in, origin_refusal, pages_refused,
-    seating_in,
+    ORIGIN, PAGE, PORT, RENEW_AFTER, SEATS, operators_in, origin_in, pages_refused, seating_in,
 };
 use clap::{ArgMatches, Error};
 use program_call::{Call, NewJournal, Opening, Resuming, Showing};
@@ -197,18 +196,16 @@ fn without_in<'a>(matches: &ArgMatches<'a>) -> &'a str
 fn resuming_refused(matches: &ArgMatches<'_>) -> Option<&'static str> {
     let without = without_in(matches);
     if !are_numbers(without) {
-        return Some("--without takes numbers separated by commas");
+        Some("--without takes numbers separated by commas")
+    } else if matches.get_str("journal").is_some() {
+        None
+    } else if !without.is_empty() {
+        Some("--without makes a new journal: name its file with --journal")
+    } else if matches.get_flag("sync") && until_in(matches).is_some() {
+        Some("--until records nothing without --journal, so --sync has nothing to write")
+    } else {
+        None
     }
-    if matches.get_str("journal").is_some() {
-        return None;
-    }
-    if !without.is_empty() {
-        return Some("--without makes a new journal: name its file with --journal");
-    }
-    if matches.get_flag("sync") && until_in(matches).is_some() {
-        return Some("--until records nothing without --journal, so --sync has nothing to write");
-    }
-    None
 }
 
 /// The journal that the options of `resume` name, and how it is taken up.
@@ -240,12 +237,9 @@ pub(crate) fn resume_call(
 ) -> Result<Call, Error>
     ensures { IfOk result (λ call. IsResumed (found_of matches.now) file.now call) }
 {
-    let origin = match origin_in(alloc, matches) {
-        Ok(origin) => origin,
-        Err(fault) => return Err(origin_refusal(alloc, resume(), matches, fault)?),
-    };
+    let origin = origin_in(alloc, resume(), matches)?;
     match resume_refused(matches, origin.as_ref()) {
-        Some(text) => Err(refusal(alloc, resume(), text)?),
+        Some(text) => Err(refusal(alloc, resume(), text)),
         None => Ok(resumed_call(alloc, matches, file, origin)?),
     }
 }

@@ -102,9 +102,10 @@ fn file_name(alloc: Global, name: &str) -> Result<String, MountFault>
     ensures { IfOk result (λ owned. (string_bytes owned ≡ name.now) × (name.now ≢ [])) }
 {
     if name.is_empty() {
-        return Err(MountFault::Name);
+        Err(MountFault::Name)
+    } else {
+        Ok(String::from_str(alloc, name)?)
     }
-    Ok(String::from_str(alloc, name)?)
 }
 
 /// The reel that this text names.

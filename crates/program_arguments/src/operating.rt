@@ -9,7 +9,7 @@ use crate::features::{FIT, NAMED_TWICE, features_in};
 use crate::graphics::{GRAPHICS, SOURCE_GRAPHICS, graphics_by, graphics_in};
 use crate::journals::{JOURNAL, NEW_SYNC, new_journal_in};
 use crate::languages::{LANGUAGE, language_in};
-use crate::options::{Argument, FREE, Kind, TEXT, name_in};
+use crate::options::{Argument, FREE, Kind, TEXT, put_name};
 use crate::running::{LIMIT, limit_in};
 use crate::sizes::{SIZE, named_size_in};
 use crate::switches::{NO_LETTERS, SWITCHES, switches_in};
@@ -96,8 +96,8 @@ pub(crate) fn operate_call(alloc: Global, matches: &ArgMatches<'_>) -> Result<Ca
         (Some(switches), Some(features)) => {
             Ok(Call::Operate(operating_in(alloc, matches, switches, features)?))
         }
-        (None, _) => Err(refusal(alloc, operate(), NO_LETTERS)?),
-        (Some(_), None) => Err(refusal(alloc, operate(), NAMED_TWICE)?),
+        (None, _) => Err(refusal(alloc, operate(), NO_LETTERS)),
+        (Some(_), None) => Err(refusal(alloc, operate(), NAMED_TWICE)),
     }
 }
 
@@ -147,9 +147,8 @@ fn name_files(
       script = asked.new.script;
     }) }
 {
-    asked.file = name_in(alloc, matches, "file")?;
-    asked.cards = name_in(alloc, matches, "cards")?;
-    asked.resumed = name_in(alloc, matches, "resume")?;
-    asked.script = name_in(alloc, matches, "do")?;
-    Ok(())
+    put_name(alloc, matches, "file", &mut asked.file)?;
+    put_name(alloc, matches, "cards", &mut asked.cards)?;
+    put_name(alloc, matches, "resume", &mut asked.resumed)?;
+    put_name(alloc, matches, "do", &mut asked.script)
 }

@@ -1,5 +1,5 @@
 //! The kinds of arguments that the subcommands have.
-ghost use Rattle.std.specs.Prelude.{IfOk};
+ghost use Rattle.std.specs.Prelude.{IfOk, OnOk};
 ghost use Rattle.clap.specs.Words.{found_of};
 ghost use Rattle.program_arguments.specs.Options.{IsNameIn};
 
@@ -115,10 +115,11 @@ fn alone<'a>(alloc: Global, sizes: &'a SizeTexts, of: &Argument) -> Arg<'a> {
 /// An argument that has to be there, or one of those in its place.
 fn required<'a>(arg: Arg<'a>, of: &Argument) -> Result<Arg<'a>, AllocError> {
     if of.instead.is_empty() {
-        return Ok(arg.required(of.is_required));
+        Ok(arg.required(of.is_required))
+    } else {
+        arg.required_unless_present_any(of.instead)?
+            .conflicts_with_all(of.instead)
     }
-    arg.required_unless_present_any(of.instead)?
-        .conflicts_with_all(of.instead)
 }
 
 /// An argument among others.
@@ -170,4 +171,17 @@ pub(crate) fn name_in(
         Some(name) => Ok(Some(String::from_str(alloc, name)?)),
         None => Ok(None),
     }
+}
+
+/// Puts the value of an option there, if it is named, or else none.
+pub(crate) fn put_name(
+    alloc: Global,
+    matches: &ArgMatches<'_>,
+    option: &str,
+    name: &mut Option<String>,
+) -> Result<(), AllocError>
+    ensures { OnOk result (IsNameIn (found_of matches.now) option.now name.new) }
+{
+    *name = name_in(alloc, matches, option)?;
+    Ok(())
 }

@@ -135,7 +135,7 @@ fn put_each<'a>(
         show_journal(),
         resume(),
     ];
-    for each in subcommands {
+    for each in &subcommands {
         put(commands, command_of(alloc, sizes, each))?;
     }
     Ok(())
@@ -245,7 +245,7 @@ fn console_call(alloc: Global, matches: &ArgMatches<'_>) -> Result<Call, Error>
     let size = size_in(matches);
     match features_in(matches) {
         Some(features) => Ok(session_call(alloc, matches, Opening::PowerOn(size, features))?),
-        None => Err(refusal(alloc, console(), NAMED_TWICE)?),
+        None => Err(refusal(alloc, console(), NAMED_TWICE)),
     }
 }
 
@@ -256,6 +256,6 @@ fn load_call(alloc: Global, matches: &ArgMatches<'_>, file: &str) -> Result<Call
     let file = String::from_str(alloc, file)?;
     match features_in(matches) {
         Some(features) => Ok(session_call(alloc, matches, Opening::Image(file, features))?),
-        None => Err(refusal(alloc, load(), NAMED_TWICE)?),
+        None => Err(refusal(alloc, load(), NAMED_TWICE)),
     }
 }

@@ -114,9 +114,10 @@ pub(crate) fn reel_call(alloc: Global, matches: &ArgMatches<'_>, file: &str) -> 
     ensures { IfOk result (λ call. IsReel (found_of matches.now) file.now call) }
 {
     if lacks_deck(matches) {
-        return Err(refusal(alloc, reel(), "--graphics needs --deck or --from-deck")?);
+        Err(refusal(alloc, reel(), "--graphics needs --deck or --from-deck"))
+    } else {
+        Ok(Call::Reel(reeling_in(alloc, matches, file)?))
     }
-    Ok(Call::Reel(reeling_in(alloc, matches, file)?))
 }
 
 /// What the options of `reel` ask to be done with this file.

@@ -12,7 +12,7 @@ use crate::languages::{LANGUAGE, language_in};
 use crate::mounting::{
     LOAD_TAPE, MountRefusal, TAPE, fitted_for, program_file, reels_in, start_in,
 };
-use crate::options::{ANY_U32, Argument, FREE, Kind, TEXT, name_in};
+use crate::options::{ANY_U32, Argument, FREE, Kind, TEXT, put_name};
 use crate::sizes::{SIZE, named_size_in};
 use crate::switches::{NO_LETTERS, SWITCHES, switches_in};
 use clap::{ArgMatches, Error};
@@ -115,10 +115,10 @@ pub(crate) fn run_call(alloc: Global, matches: &ArgMatches<'_>, file: &str) -> R
     ensures { IfOk result (λ call. IsRun (found_of matches.now) file.now call) }
 {
     let Some(switches) = switches_in(matches) else {
-        return Err(refusal(alloc, run(), NO_LETTERS)?);
+        return Err(refusal(alloc, run(), NO_LETTERS));
     };
     let Some(features) = features_in(matches) else {
-        return Err(refusal(alloc, run(), NAMED_TWICE)?);
+        return Err(refusal(alloc, run(), NAMED_TWICE));
     };
     run_on(alloc, matches, file, switches, features)
 }
@@ -136,7 +136,7 @@ fn run_on(
     match reels_in(alloc, matches) {
         Ok(reels) => Ok(Call::Run(job_in(alloc, matches, file, switches, features, reels)?)),
         Err(MountRefusal::Memory) => Err(Error::from(AllocError)),
-        Err(MountRefusal::Value(text)) => Err(refusal(alloc, run(), text.as_str())?),
+        Err(MountRefusal::Value(text)) => Err(refusal(alloc, run(), text.as_str())),
     }
 }
 
@@ -192,10 +192,9 @@ fn name_files(alloc: Global, matches: &ArgMatches<'_>, job: &mut Job) -> Result<
       image = job.new.image;
     }) }
 {
-    job.cards = name_in(alloc, matches, "cards")?;
-    job.punch = name_in(alloc, matches, "punch")?;
-    job.paper = name_in(alloc, matches, "paper")?;
-    job.trace = name_in(alloc, matches, "trace")?;
-    job.image = name_in(alloc, matches, "image")?;
-    Ok(())
+    put_name(alloc, matches, "cards", &mut job.cards)?;
+    put_name(alloc, matches, "punch", &mut job.punch)?;
+    put_name(alloc, matches, "paper", &mut job.paper)?;
+    put_name(alloc, matches, "trace", &mut job.trace)?;
+    put_name(alloc, matches, "image", &mut job.image)
 }

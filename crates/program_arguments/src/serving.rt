@@ -130,56 +130,64 @@ pub(crate) fn operators_in(matches: &ArgMatches<'_>) -> Option<Operators>
     }
 }
 
-/// The origin outside that the options name, if they name one.
+/// The origin outside that the options of a subcommand name, if they name one.
 pub(crate) fn origin_in(
-    alloc: Global,
-    matches: &ArgMatches<'_>,
-) -> Result<Option<Origin>, OriginFault>
-    ensures { IfOk result (λ origin. IsOriginIn (found_of matches.now) origin) }
-{
-    match matches.get_str("origin") {
-        Some(text) => Ok(Some(read_origin(alloc, text)?)),
-        None => Ok(None),
-    }
-}
-
-/// The refusal of an origin of a subcommand that can't be read. If memory was refused for it, that is the error.
-pub(crate) fn origin_refusal(
     alloc: Global,
     of: &Subcommand,
     matches: &ArgMatches<'_>,
-    fault: OriginFault,
-) -> Result<Error, AllocError> {
+) -> Result<Option<Origin>, Error>
+    ensures { IfOk result (λ origin. IsOriginIn (found_of matches.now) origin) }
+{
+    let Some(text) = matches.get_str("origin") else {
+        return Ok(None);
+    };
+    match read_origin(alloc, text) {
+        Ok(origin) => Ok(Some(origin)),
+        Err(fault) => Err(origin_refusal(alloc, of, text, fault)),
+    }
+}
+
+/// Why an origin of a subcommand can't be read, as a text.
+fn origin_fault(alloc: Global, origin: &str, fault: OriginFault) -> Result<String, AllocError> {
     if fault == OriginFault::Memory {
         return Err(AllocError);
     }
-    let word = matches.get_str("origin").unwrap_or("");
-    let text = format!(in alloc; "invalid value '{word}' for '--origin <ORIGIN>': {fault}")?;
-    refusal(alloc, of, text.as_str())
+    format!(in alloc; "invalid value '{origin}' for '--origin <ORIGIN>': {fault}")
+}
+
+/// The refusal of an origin of a subcommand that can't be read. If memory was refused for it, that is the error.
+fn origin_refusal(alloc: Global, of: &Subcommand, origin: &str, fault: OriginFault) -> Error {
+    match origin_fault(alloc, origin, fault) {
+        Ok(text) => refusal(alloc, of, text.as_str()),
+        Err(fault) => Error::from(fault),
+    }
 }
 
 /// Why there can't be pages for these operators, if there can't: here, or where a proxy brings them.
 pub(crate) fn pages_refused(operators: Operators, origin: Option<&Origin>) -> Option<&'static str> {
     let first = operators.page?;
     let further = u16::from(operators.seats).saturating_sub(1);
-    let Some(last) = first.checked_add(further) else {
-        return Some("the pages of all seats need ports beyond 65535");
-    };
-    if first <= UNNAMED_PORT && UNNAMED_PORT <= last {
-        return Some("no page can be at port 80, which browsers leave out of what they send");
+    match first.checked_add(further) {
+        None => Some("the pages of all seats need ports beyond 65535"),
+        Some(last) if first <= UNNAMED_PORT && UNNAMED_PORT <= last => {
+            Some("no page can be at port 80, which browsers leave out of what they send")
+        }
+        Some(last) => origin_refused(first, last, further, origin?),
     }
-    origin_refused(first, last, further, origin?)
 }
 
 /// Why a proxy can't bring the pages at the ports from the first to the last to others, if it can't.
 fn origin_refused(first: u16, last: u16, further: u16, origin: &Origin) -> Option<&'static str> {
-    let Some(outside) = origin.port.checked_add(further) else {
-        return Some("the pages of all seats need ports of --origin beyond 65535");
-    };
-    if origin.host.as_str() == "127.0.0.1" && origin.port <= last && first <= outside {
-        return Some("--origin names ports of 127.0.0.1 at which the pages already are");
+    match origin.port.checked_add(further) {
+        None => Some("the pages of all seats need ports of --origin beyond 65535"),
+        Some(outside) => {
+            if origin.host.as_str() == "127.0.0.1" && origin.port <= last && first <= outside {
+                Some("--origin names ports of 127.0.0.1 at which the pages already are")
+            } else {
+                None
+            }
+        }
     }
-    None
 }
 
 /// What the options of `serve` ask for.
@@ -190,17 +198,14 @@ pub(crate) fn serve_call(
 ) -> Result<Call, Error>
     ensures { IfOk result (λ call. IsRoom (found_of matches.now) operators call) }
 {
-    let origin = match origin_in(alloc, matches) {
-        Ok(origin) => origin,
-        Err(fault) => return Err(origin_refusal(alloc, serve(), matches, fault)?),
-    };
+    let origin = origin_in(alloc, serve(), matches)?;
     match (
         pages_refused(operators, origin.as_ref()),
         features_in(matches),
     ) {
-        (Some(text), _) => Err(refusal(alloc, serve(), text)?),
+        (Some(text), _) => Err(refusal(alloc, serve(), text)),
         (None, Some(features)) => Ok(room_call(alloc, matches, operators, origin, features)?),
-        (None, None) => Err(refusal(alloc, serve(), NAMED_TWICE)?),
+        (None, None) => Err(refusal(alloc, serve(), NAMED_TWICE)),
     }
 }
 
