@@ -17,7 +17,7 @@ pub(crate) struct Argument {
     pub kind: Kind,
     /// Whether it has to be there.
     pub is_required: bool,
-    /// What may be there in its place, and can't be there with it.
+    /// If there are any of these, one of them has to be there, or it itself.
     pub instead: &'static [&'static str],
     /// What has to be there with it: other arguments, or one of a group.
     pub needs: &'static [&'static str],
@@ -112,26 +112,20 @@ fn alone<'a>(alloc: Global, sizes: &'a SizeTexts, of: &Argument) -> Arg<'a> {
     }
 }
 
-/// An argument that has to be there, or one of those in its place.
-fn required<'a>(arg: Arg<'a>, of: &Argument) -> Result<Arg<'a>, AllocError> {
-    if of.instead.is_empty() {
-        Ok(arg.required(of.is_required))
-    } else {
-        arg.required_unless_present_any(of.instead)?
-            .conflicts_with_all(of.instead)
-    }
-}
-
 /// An argument among others.
 fn among<'a>(arg: Arg<'a>, of: &Argument) -> Result<Arg<'a>, AllocError> {
-    required(arg, of)?
+    arg.required(of.is_required)
+        .required_unless_present_any(of.instead)?
         .requires_all(of.needs)?
         .conflicts_with_all(of.excludes)
 }
 
-/// Adds an argument, if there was room for it.
-fn put<'a>(args: &mut Vec<Arg<'a>>, arg: Result<Arg<'a>, AllocError>) -> Result<(), AllocError> {
-    args.push(arg?)?;
+/// Adds an argument or a command, if there was room for it.
+pub(crate) fn put<T: Drop>(
+    all: &mut Vec<T>,
+    each: Result<T, AllocError>,
+) -> Result<(), AllocError> {
+    all.push(each?)?;
     Ok(())
 }
 

@@ -11,7 +11,7 @@ use crate::journals::{
     JOURNAL, NEW_SYNC, journal_call, resume, resume_call, session_call, show_journal,
 };
 use crate::operating::{operate, operate_call};
-use crate::options::{Argument, FREE, Kind};
+use crate::options::{Argument, FREE, Kind, put};
 use crate::reeling::{reel, reel_call};
 use crate::running::{run, run_call};
 use crate::serving::{operators_in, serve, serve_call};
@@ -106,15 +106,6 @@ fn disassemble() -> &'static Subcommand {
 pub fn read_call(alloc: Global, words: &[impl AsStr]) -> Result<Call, Error> {
     let sizes = SizeTexts::new(alloc)?;
     call_with(alloc, words, &sizes)
-}
-
-/// Adds a command, if there was room for it.
-fn put<'a>(
-    commands: &mut Vec<Command<'a>>,
-    command: Result<Command<'a>, AllocError>,
-) -> Result<(), AllocError> {
-    commands.push(command?)?;
-    Ok(())
 }
 
 /// Adds the commands of the subcommands. In the help they have this order.

@@ -84,6 +84,7 @@ const RUNNING: &[Argument] = &[
         name: "file",
         kind: Kind::File,
         instead: &["load-tape"],
+        excludes: &["load-tape"],
         help: "The file: a source, an image or a deck; - is a name like any other",
         ..FREE
     },
