@@ -20,7 +20,8 @@ use std::process::Abort;
 
 /// Compares what a call gives with what it should. If they differ, the call is named.
 fn expect_same<T: PartialEq + Debug>(rt: &impl Abort, call: &str, found: &T, wanted: &T) {
-    assert_eq!(rt; *found, *wanted, "{call}");
+    let is_same = *found == *wanted;
+    assert!(rt; is_same, "{call}: {found:?} in place of {wanted:?}");
 }
 
 /// Compares bytes with a text. If they differ, both are shown.

@@ -58,10 +58,9 @@ fn five_and_five(rt: &(impl Abort + AllocGlobal)) -> Image {
 /// Compares an image with five and five.
 pub(super) fn expect_image(rt: &(impl Abort + AllocGlobal), call: &str, image: &Image) {
     let wanted = five_and_five(rt);
-    let found = (image.size, image.start);
-    expect_same(rt, call, &found, &(wanted.size, wanted.start));
+    let found = (image.size, image.start, image.segments.as_slice());
     let segments = wanted.segments.as_slice();
-    expect_same(rt, call, &image.segments.as_slice(), &segments);
+    expect_same(rt, call, &found, &(wanted.size, wanted.start, segments));
 }
 
 /// The same of an image in few bytes.
@@ -94,58 +93,81 @@ fn an_image_is_read_and_written(rt: HostRuntime) {
     expect_text(&rt, "write_image", text.as_slice(), IMAGE);
 }
 
-/// Compares the fault of a source.
-fn expect_fault(rt: &(impl Abort + AllocGlobal), source: &str, line: u64, kind: AsmKind) {
-    let found = assemble(rt.alloc(), source.as_bytes(), 4_000).err();
-    expect_same(rt, source, &found, &Some(AsmFault { line, kind }));
-}
+/// Sources that aren't assembled, and why.
+const FAULTY: &[(&str, AsmFault)] = &[
+    (
+        "",
+        AsmFault {
+            line: 1,
+            kind: AsmKind::NoEnd,
+        },
+    ),
+    (
+        "               MU",
+        AsmFault {
+            line: 1,
+            kind: AsmKind::Operation,
+        },
+    ),
+    (
+        "               END  9999",
+        AsmFault {
+            line: 1,
+            kind: AsmKind::OutOfCore,
+        },
+    ),
+];
 
 #[test]
 fn faults_of_sources(rt: HostRuntime) {
-    expect_fault(&rt, "", 1, AsmKind::NoEnd);
-    expect_fault(&rt, "               MU", 1, AsmKind::Operation);
-    expect_fault(&rt, "               END  9999", 1, AsmKind::OutOfCore);
+    for (source, fault) in FAULTY {
+        let found = assemble(rt.alloc(), source.as_bytes(), 4_000).err();
+        expect_same(&rt, source, &found, &Some(*fault));
+    }
 }
+
+/// Kinds of faults, and their numbers.
+const KINDS: &[(AsmKind, u8)] = &[
+    (AsmKind::Memory, 1),
+    (AsmKind::LongLine, 2),
+    (AsmKind::Graphic, 3),
+    (AsmKind::Label, 4),
+    (AsmKind::DoubleLabel, 5),
+    (AsmKind::Operation, 6),
+    (AsmKind::Undefined, 7),
+    (AsmKind::Operand, 8),
+    (AsmKind::OutOfCore, 9),
+    (AsmKind::NoEnd, 10),
+    (AsmKind::AfterEnd, 11),
+];
 
 #[test]
 fn numbers_of_kinds(rt: HostRuntime) {
-    let kinds = [
-        AsmKind::Memory.number(),
-        AsmKind::LongLine.number(),
-        AsmKind::Graphic.number(),
-        AsmKind::Label.number(),
-        AsmKind::DoubleLabel.number(),
-        AsmKind::Operation.number(),
-        AsmKind::Undefined.number(),
-        AsmKind::Operand.number(),
-        AsmKind::OutOfCore.number(),
-        AsmKind::NoEnd.number(),
-        AsmKind::AfterEnd.number(),
-    ];
-    let numbers = [1, 2, 3, 4, 5, 6, 7, 8, 9, 10, 11];
-    expect_same(&rt, "number", &kinds, &numbers);
+    for (kind, number) in KINDS {
+        expect_same(&rt, "number", &kind.number(), number);
+    }
 }
 
-/// Compares the fault of a text that is no image.
-fn expect_refused(rt: &(impl Abort + AllocGlobal), text: &str, wanted: ImageFault) {
-    let found = read_image(rt.alloc(), text.as_bytes()).err();
-    expect_same(rt, text, &found, &Some(wanted));
-}
+/// Texts that are no image, why, and the number of that.
+const REFUSED: &[(&str, ImageFault, u8)] = &[
+    ("", ImageFault::Truncated, 5),
+    ("IMAGE1 4001\n", ImageFault::Header, 2),
+    (
+        "IMAGE1 4000\n0400 25 ~?423420~A423420~.414~   ~HI~E\nEND 0400\n",
+        ImageFault::BadRecord,
+        3,
+    ),
+    ("IMAGE1 1400\n1399 02 AB\nEND 0000\n", ImageFault::Range, 4),
+];
 
 #[test]
 fn faults_of_images(rt: HostRuntime) {
-    expect_refused(&rt, "", ImageFault::Truncated);
-    expect_refused(&rt, "IMAGE1 4001\n", ImageFault::Header);
-    let short = "IMAGE1 4000\n0400 25 ~?423420~A423420~.414~   ~HI~E\nEND 0400\n";
-    expect_refused(&rt, short, ImageFault::BadRecord);
-    let outside = "IMAGE1 1400\n1399 02 AB\nEND 0000\n";
-    expect_refused(&rt, outside, ImageFault::Range);
-    let faults = [
-        ImageFault::Memory.number(),
-        ImageFault::Header.number(),
-        ImageFault::BadRecord.number(),
-        ImageFault::Range.number(),
-        ImageFault::Truncated.number(),
-    ];
-    expect_same(&rt, "number", &faults, &[1, 2, 3, 4, 5]);
+    for (text, fault, number) in REFUSED {
+        let found = (
+            read_image(rt.alloc(), text.as_bytes()).err(),
+            fault.number(),
+        );
+        expect_same(&rt, text, &found, &(Some(*fault), *number));
+    }
+    expect_same(&rt, "number", &ImageFault::Memory.number(), &1);
 }

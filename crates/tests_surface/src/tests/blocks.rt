@@ -7,12 +7,11 @@ use std::process::Abort;
 
 #[test]
 fn sizes_and_bounds(rt: HostRuntime) {
-    let sizes = [1_400, 2_000, 4_000, 8_000, 12_000, 16_000];
-    expect_same(&rt, "SIZES", &SIZES, &sizes);
-    let bounds = (LEAST_SIZE, ADDRESSES, MOST_CELLS);
-    expect_same(&rt, "bounds", &bounds, &(1_400, 16_000, 40));
     let are_sizes = [Core::is_size(1_400), Core::is_size(1_401)];
-    expect_same(&rt, "is_size", &are_sizes, &[true, false]);
+    let found = (SIZES, [LEAST_SIZE, ADDRESSES], MOST_CELLS, are_sizes);
+    let sizes = [1_400, 2_000, 4_000, 8_000, 12_000, 16_000];
+    let wanted = (sizes, [1_400, 16_000], 40, [true, false]);
+    expect_same(&rt, "SIZES, bounds, is_size", &found, &wanted);
 }
 
 /// Core storage with the cells of a text at 600.
@@ -24,20 +23,17 @@ fn core_with(rt: &(impl Abort + AllocGlobal), text: &str) -> Core {
 
 /// Copies the characters at 600 and 601, and the field at 603, ten places up.
 fn copy_up(rt: &impl Abort, core: &mut Core) {
-    assert!(rt; core.in_core(601) && core.in_core(611));
+    assert!(rt; core.in_core(611));
     core.copy_chars(601, 611, 2);
-    assert!(rt; core.in_core(603) && core.in_core(613));
-    match core.field_len(603) {
-        Some(len) => core.copy_field(603, 613, len),
-        None => panic!(rt; "no field"),
-    }
+    assert!(rt; core.in_core(613));
+    let len = core.field_len(603).expect(rt, "a field");
+    core.copy_field(603, 613, len);
 }
 
 /// Clears the characters at 600 and 601, and the word marks up to 603.
 fn clear(rt: &impl Abort, core: &mut Core) {
-    assert!(rt; core.in_core(601));
-    core.clear(601, 2);
     assert!(rt; core.in_core(603));
+    core.clear(601, 2);
     core.clear_marks(603, 4);
 }
 
@@ -46,9 +42,7 @@ fn places_are_copied_and_cleared(rt: HostRuntime) {
     let mut core = core_with(&rt, "AB~CD");
     copy_up(&rt, &mut core);
     expect_cells(&rt, "copy_chars, copy_field", &core, 610, "AB~CD");
-    assert!(rt; core.in_core(603) && core.in_core(613));
-    let differ = core.chars_differ(603, 613, 4);
-    expect_same(&rt, "chars_differ", &differ, &false);
+    assert!(rt; core.in_core(613) && !core.chars_differ(603, 613, 4));
     clear(&rt, &mut core);
     expect_cells(&rt, "clear, clear_marks", &core, 600, "  CD");
 }
@@ -67,23 +61,20 @@ fn eight_cells_are_two_numbers(rt: HostRuntime) {
     let core = core_with(&rt, "AB~CD");
     assert!(rt; core.in_core(607));
     let (codes, marks) = (0x3433_3231, 0b100);
-    expect_same(
-        &rt,
-        "eight_cells",
-        &core.eight_cells(600),
-        &EightCells { codes, marks },
+    let found = (
+        core.eight_cells(600),
+        core.eight_codes(600),
+        core.next_mark(600, 64),
     );
-    expect_same(&rt, "eight_codes", &core.eight_codes(600), &codes);
-    expect_same(&rt, "next_mark", &core.next_mark(600, 64), &2);
+    let wanted = (EightCells { codes, marks }, codes, 2);
+    expect_same(&rt, "eight_cells, eight_codes, next_mark", &found, &wanted);
 }
 
 #[test]
 fn characters_are_lent(rt: HostRuntime) {
     let mut core = core_with(&rt, "AB");
     let char = char_of(&rt, b'K');
-    if let Some(place) = core.chars_mut().get_mut(601) {
-        *place = char;
-    }
+    core.chars_mut().fill(char);
     expect_same(&rt, "chars", &core.chars().get(601), &Some(&char));
 }
 
@@ -92,8 +83,8 @@ fn an_address_is_indexed(rt: HostRuntime) {
     let mut core = core_with(&rt, "IZI");
     deposit(&rt, &mut core, 87, "003");
     assert!(rt; core.in_core(602));
-    expect_same(&rt, "decode_at", &core.decode_at(600), &(15_999, 1));
-    expect_same(&rt, "indexed", &core.indexed(15_999, 1), &2);
+    let found = (core.decode_at(600), core.indexed(15_999, 1));
+    expect_same(&rt, "decode_at, indexed", &found, &((15_999, 1), 2));
 }
 
 /// Compares what a set says of 600, of the 50 places up to 650, and of the 64 up to 700.

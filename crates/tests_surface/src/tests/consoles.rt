@@ -2,16 +2,16 @@
 ghost use Rattle.std.specs.Prelude.{◌≡◌, ◌<◌};
 
 use super::assembler::IMAGE;
-use super::devices::card_of;
-use super::{cells_of, char_of, expect_same, expect_text};
+use super::{cells_of, expect_same, expect_text};
 use autocoder_1401::{LentImage, lend_image, read_image};
+use bcd_1401::Char;
 use console_1401::{
     Door, Failed, FromReader, Line, LineFault, OpenDoor, ServeFault, Served, SessionEnd, Sink,
     Source, ToWriter, Unanswered, ahead_of, answer_line, attend, parse_line, put_image,
     put_lent_image, reply_text, serve, session,
 };
 use cpu_1401::{Machine, Stop};
-use devices_1401::PrintLine;
+use devices_1401::{Card, PrintLine};
 use room_1401::{Answer, Command, Opened, Refusal, Room, RoomId, Seat, SharedRoom};
 use std::io::{Read, Write};
 use std::marker::Brand;
@@ -21,22 +21,24 @@ use std::sync::Wait;
 use std::thread::Threads;
 use std::time::Clock;
 
-/// Compares what a line says.
-fn expect_said(rt: &impl Abort, line: &str, wanted: Result<Line, LineFault>) {
-    expect_same(rt, line, &parse_line(line.as_bytes()), &wanted);
-}
+/// Lines and what they say.
+const LINES: [(&str, Result<Line, LineFault>); 9] = [
+    ("", Ok(Line::Empty)),
+    ("REGS", Ok(Line::Command(Command::Registers))),
+    ("GLANCE 0500", Ok(Line::Glance(500))),
+    ("QUIT", Ok(Line::Quit)),
+    ("HELLO", Err(LineFault::Word)),
+    ("EXAMINE", Err(LineFault::Number)),
+    ("DEPOSIT 0500 a", Err(LineFault::Graphic)),
+    ("DEPOSIT 0500", Err(LineFault::Length)),
+    ("REGS X", Err(LineFault::Extra)),
+];
 
 #[test]
 fn what_lines_say(rt: HostRuntime) {
-    expect_said(&rt, "", Ok(Line::Empty));
-    expect_said(&rt, "REGS", Ok(Line::Command(Command::Registers)));
-    expect_said(&rt, "GLANCE 0500", Ok(Line::Glance(500)));
-    expect_said(&rt, "QUIT", Ok(Line::Quit));
-    expect_said(&rt, "HELLO", Err(LineFault::Word));
-    expect_said(&rt, "EXAMINE", Err(LineFault::Number));
-    expect_said(&rt, "DEPOSIT 0500 a", Err(LineFault::Graphic));
-    expect_said(&rt, "DEPOSIT 0500", Err(LineFault::Length));
-    expect_said(&rt, "REGS X", Err(LineFault::Extra));
+    for (line, said) in &LINES {
+        expect_same(&rt, line, &parse_line(line.as_bytes()), said);
+    }
 }
 
 #[test]
@@ -48,7 +50,6 @@ fn numbers_of_faults_and_ends(rt: HostRuntime) {
         LineFault::Length.number(),
         LineFault::Extra.number(),
     ];
-    expect_same(&rt, "number", &of_lines, &[1, 2, 3, 4, 5]);
     let of_sessions = [
         SessionEnd::Quit.number(),
         SessionEnd::EndOfInput.number(),
@@ -58,37 +59,48 @@ fn numbers_of_faults_and_ends(rt: HostRuntime) {
         SessionEnd::Memory.number(),
         SessionEnd::Unkept.number(),
     ];
-    expect_same(&rt, "number", &of_sessions, &[1, 2, 3, 4, 5, 6, 7]);
     let of_services = [ServeFault::Accept.number(), ServeFault::Thread.number()];
-    expect_same(&rt, "number", &of_services, &[1, 2]);
+    let found = (of_lines, of_sessions, of_services);
+    let wanted = ([1, 2, 3, 4, 5], [1, 2, 3, 4, 5, 6, 7], [1, 2]);
+    expect_same(&rt, "number", &found, &wanted);
     assert!(rt; Unanswered::Memory != Unanswered::Unkept);
 }
 
 /// Compares the text of an answer.
-fn expect_reply(rt: &(impl Abort + AllocGlobal), answer: Answer, wanted: &str) {
-    let text = reply_text(rt.alloc(), &answer).expect(rt, "room");
+fn expect_reply(rt: &(impl Abort + AllocGlobal), answer: &Answer, wanted: &str) {
+    let text = reply_text(rt.alloc(), answer).expect(rt, "room");
     expect_text(rt, "reply_text", text.as_slice(), wanted);
 }
 
+/// Answers without cells, and their texts.
+const REPLIES: [(Answer, &str); 5] = [
+    (Answer::Done, "OK"),
+    (
+        Answer::Ran {
+            steps: 7,
+            stop: Stop::Reader,
+            i: 41,
+        },
+        "STOP 03 READER STEPS 7 I 00041",
+    ),
+    (
+        Answer::Line(PrintLine {
+            form: 1,
+            line: 4,
+            text: [Char::BLANK; 132],
+        }),
+        "LINE 0001 04 ",
+    ),
+    (Answer::Card(Card([Char::BLANK; 80])), "CARD "),
+    (Answer::Refused(Refusal::Address), "REFUSED 1 ADDRESS"),
+];
+
 #[test]
 fn the_texts_of_answers(rt: HostRuntime) {
-    let (form, line, text) = (1, 4, [char_of(&rt, b' '); 132]);
-    let (steps, stop, i) = (7, Stop::Reader, 41);
-    let refused = Answer::Refused(Refusal::Address);
-    expect_reply(&rt, Answer::Done, "OK");
-    expect_reply(&rt, Answer::Cells(cells_of(&rt, "~0K")), "~0K");
-    expect_reply(
-        &rt,
-        Answer::Ran { steps, stop, i },
-        "STOP 03 READER STEPS 7 I 00041",
-    );
-    expect_reply(
-        &rt,
-        Answer::Line(PrintLine { form, line, text }),
-        "LINE 0001 04 ",
-    );
-    expect_reply(&rt, Answer::Card(card_of(&rt, b' ')), "CARD ");
-    expect_reply(&rt, refused, "REFUSED 1 ADDRESS");
+    for (answer, text) in &REPLIES {
+        expect_reply(&rt, answer, text);
+    }
+    expect_reply(&rt, &Answer::Cells(cells_of(&rt, "~0K")), "~0K");
 }
 
 #[test]
@@ -96,7 +108,7 @@ fn the_text_of_the_registers(rt: HostRuntime) {
     let machine = Machine::power_on(rt.alloc(), 4_000).expect(&rt, "a machine");
     let wanted = "I=00000 A=00000 B=00000 UNEQUAL=0 LOW=0 HIGH=0 OVERFLOW=0 SWITCHES=------- \
                   HOPPER=000 STACKER=000 PAPER=000 FORM=0001 LINE=01";
-    expect_reply(&rt, Answer::Regs(machine.regs()), wanted);
+    expect_reply(&rt, &Answer::Regs(machine.regs()), wanted);
 }
 
 #[test]
@@ -104,59 +116,61 @@ fn a_source_gives_byte_after_byte(rt: HostRuntime) {
     let mut reader = FromReader::new(b"Q".as_slice());
     let first = reader.next_byte().expect(&rt, "a byte");
     let second = reader.next_byte().expect(&rt, "an end");
-    expect_same(&rt, "next_byte", &(first, second), &(Some(b'Q'), None));
-    expect_same(&rt, "has_failed", &Source::has_failed(&reader), &false);
+    let found = (first, second, Source::has_failed(&reader));
+    expect_same(
+        &rt,
+        "next_byte, has_failed",
+        &found,
+        &(Some(b'Q'), None, false),
+    );
 }
 
 #[test]
 fn a_connection_is_read_ahead(rt: HostRuntime) {
     let mut reader = FromReader::new(ahead_of(rt.alloc(), b"Q".as_slice()));
-    let first = reader.next_byte().expect(&rt, "a byte");
-    expect_same(&rt, "ahead_of", &first, &Some(b'Q'));
+    expect_same(&rt, "ahead_of", &reader.next_byte(), &Ok(Some(b'Q')));
 }
 
 #[test]
 fn a_sink_takes_bytes(rt: HostRuntime) {
     let mut writer = ToWriter::new(Vec::new(rt.alloc()));
     let taken: Result<usize, Failed> = writer.put(b"BYE");
-    expect_same(&rt, "put", &taken, &Ok(3));
-    expect_same(&rt, "has_failed", &Sink::has_failed(&writer), &false);
+    let found = (taken, Sink::has_failed(&writer));
+    expect_same(&rt, "put, has_failed", &found, &(Ok(3), false));
     expect_text(&rt, "put", writer.into_inner().as_slice(), "BYE");
 }
 
-/// Holds a session in a room, and compares what it wrote.
-fn expect_session(rt: &(impl Abort + AllocGlobal), room: &mut Room, lines: &str, replies: &str) {
+/// Holds a session in a room, and compares what it wrote, and the length of the journal afterwards.
+fn expect_session(
+    rt: &(impl Abort + AllocGlobal),
+    room: &mut Room,
+    lines: &str,
+    replies: &str,
+    entries: usize,
+) {
     let mut reader = FromReader::new(lines.as_bytes());
     let mut writer = ToWriter::new(Vec::new(rt.alloc()));
     let end = session(rt.alloc(), room, &mut reader, &mut writer);
     expect_text(rt, lines, writer.into_inner().as_slice(), replies);
-    expect_same(rt, lines, &end, &SessionEnd::Quit);
-}
-
-#[test]
-fn a_session(rt: HostRuntime) {
-    let mut room = Room::power_on(rt.alloc(), 4_000).expect(&rt, "a room");
-    let lines = "DEPOSIT 0500 ~0K\nEXAMINE 0500 2\nQUIT\n";
-    expect_session(&rt, &mut room, lines, "OK\n~0K\nBYE\n");
+    let found = (end, room.journal().len());
+    expect_same(rt, lines, &found, &(SessionEnd::Quit, entries));
 }
 
 #[test]
 fn an_image_is_put_into_a_room(rt: HostRuntime) {
     let image = read_image(rt.alloc(), IMAGE.as_bytes()).expect(&rt, "an image");
     let mut room = Room::power_on(rt.alloc(), image.size).expect(&rt, "a room");
-    expect_same(&rt, "put_image", &put_image(&mut room, &image), &Ok(()));
-    let lines = "RUN 10\nEXAMINE 0418 3\nQUIT\n";
-    let replies = "STOP 02 HALT STEPS 3 I 00414\n~01?\nBYE\n";
-    expect_session(&rt, &mut room, lines, replies);
-    expect_same(&rt, "journal", &room.journal().len(), &4);
+    put_image(&mut room, &image).expect(&rt, "put_image");
+    let lines = "DEPOSIT 0500 ~0K\nEXAMINE 0500 2\nRUN 10\nEXAMINE 0418 3\nQUIT\n";
+    let replies = "OK\n~0K\nSTOP 02 HALT STEPS 3 I 00414\n~01?\nBYE\n";
+    expect_session(&rt, &mut room, lines, replies, 6);
 }
 
 #[test]
 fn an_image_that_is_lent_is_put_into_a_room(rt: HostRuntime) {
     let image: LentImage = lend_image(IMAGE.as_bytes()).expect(&rt, "an image");
     let mut room = Room::power_on(rt.alloc(), image.size()).expect(&rt, "a room");
-    let put = put_lent_image(&mut room, &image);
-    expect_same(&rt, "put_lent_image", &put, &Ok(()));
+    put_lent_image(&mut room, &image).expect(&rt, "put_lent_image");
     expect_same(&rt, "journal", &room.journal().len(), &2);
 }
 
@@ -214,6 +228,31 @@ fn served<J: RoomId + Send + Sync, R: Threads + Wait + Clock + Abort + AllocGlob
     serve(rt.alloc(), rt, room, seats, listener, &OpenDoor)
 }
 
+/// A connection to this listener that has sent these lines, and sends nothing more.
+fn connected<R: Abort + Net<Listener = TcpListener, Stream = TcpStream>>(
+    rt: &R,
+    listener: &TcpListener,
+    lines: &str,
+) -> TcpStream {
+    let address = listener.local_addr().expect(rt, "an address");
+    let mut stream = TcpStream::connect(rt, address).expect(rt, "a connection");
+    stream.write_all(lines.as_bytes()).expect(rt, "a write");
+    stream.shutdown(Shutdown::Write).expect(rt, "an end");
+    stream
+}
+
+/// Compares what was sent back on a connection.
+fn expect_sent(
+    rt: &(impl Abort + AllocGlobal),
+    stream: &mut TcpStream,
+    lines: &str,
+    replies: &str,
+) {
+    let mut sent = Vec::new(rt.alloc());
+    stream.read_to_end(&mut sent).expect(rt, "a read");
+    expect_text(rt, lines, sent.as_slice(), replies);
+}
+
 /// Serves one console at a new room of this size, and compares what is left, and the replies.
 fn expect_served<
     R: Threads
@@ -227,10 +266,7 @@ fn expect_served<
     requires { 0 < seats }
 {
     let listener = TcpListener::bind(rt, (Ipv4Addr::LOCALHOST, 0)).expect(rt, "a port");
-    let address = listener.local_addr().expect(rt, "an address");
-    let mut stream = TcpStream::connect(rt, address).expect(rt, "a connection");
-    stream.write_all(lines.as_bytes()).expect(rt, "a write");
-    stream.shutdown(Shutdown::Write).expect(rt, "an end");
+    let mut stream = connected(rt, &listener, lines);
     let opened = Opened::new(seats);
     let Served {
         room,
@@ -239,9 +275,7 @@ fn expect_served<
     } = served::<Brand, R>(rt, size, seats, opened, &listener);
     let found = (consoles, fault, room.journal().len());
     expect_same(rt, "serve", &found, &(1, None, 1));
-    let mut sent = Vec::new(rt.alloc());
-    stream.read_to_end(&mut sent).expect(rt, "a read");
-    expect_text(rt, lines, sent.as_slice(), replies);
+    expect_sent(rt, &mut stream, lines, replies);
 }
 
 #[test]

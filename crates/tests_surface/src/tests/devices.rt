@@ -25,16 +25,15 @@ fn devices_of(rt: &(impl Abort + AllocGlobal)) -> Devices {
     made.expect(rt, "devices")
 }
 
-/// Compares how many cards and lines there are, and where the carriage is.
-fn expect_counts(rt: &impl Abort, devices: &Devices, counts: [u16; 4], line: u8) {
-    let found = [
+/// How many cards and lines there are, and where the carriage is.
+fn counts_of(devices: &Devices) -> [u16; 5] {
+    [
         devices.hopper(),
         devices.stacker(),
         devices.paper(),
         devices.form(),
-    ];
-    expect_same(rt, "hopper, stacker, paper, form", &found, &counts);
-    expect_same(rt, "line", &devices.line(), &line);
+        u16::from(devices.line()),
+    ]
 }
 
 #[test]
@@ -42,14 +41,11 @@ fn columns_of_a_card(rt: HostRuntime) {
     let columns = [2_304; 80];
     expect_same(&rt, "columns", &card_of(&rt, b'A').columns(), &columns);
     let card = card_of(&rt, b'A');
-    expect_same(
-        &rt,
-        "from_columns",
-        &Card::from_columns(&columns),
-        &Some(card),
+    let found = (
+        Card::from_columns(&columns),
+        Card::from_columns(&[3_072; 80]),
     );
-    let unread = Card::from_columns(&[3_072; 80]);
-    expect_same(&rt, "from_columns", &unread, &None);
+    expect_same(&rt, "from_columns", &found, &(Some(card), None));
 }
 
 /// Feeds a card of the graphic A.
@@ -70,19 +66,19 @@ fn expect_print(rt: &impl Abort, devices: &mut Devices, wanted: Result<(), Forms
 #[test]
 fn cards_go_through(rt: HostRuntime) {
     let mut devices = devices_of(&rt);
-    expect_counts(&rt, &devices, [0, 0, 0, 1], 1);
-    expect_same(&rt, "read", &devices.read(), &Err(ReaderEmpty));
-    expect_feed(&rt, &mut devices, Ok(()));
-    expect_punch(&rt, &mut devices, Ok(()));
-    expect_counts(&rt, &devices, [1, 1, 0, 1], 1);
-    expect_same(&rt, "read", &devices.read(), &Ok(card_of(&rt, b'A')));
+    let first = (counts_of(&devices), devices.read());
     expect_same(
         &rt,
-        "take_card",
-        &devices.take_card(),
-        &Some(card_of(&rt, b'A')),
+        "counts, read",
+        &first,
+        &([0, 0, 0, 1, 1], Err(ReaderEmpty)),
     );
-    expect_same(&rt, "take_card", &devices.take_card(), &None);
+    expect_feed(&rt, &mut devices, Ok(()));
+    expect_punch(&rt, &mut devices, Ok(()));
+    expect_same(&rt, "counts", &counts_of(&devices), &[1, 1, 0, 1, 1]);
+    let found = (devices.read(), devices.take_card(), devices.take_card());
+    let wanted = (Ok(card_of(&rt, b'A')), Some(card_of(&rt, b'A')), None);
+    expect_same(&rt, "read, take_card", &found, &wanted);
 }
 
 /// Fills the hopper, the stacker and the paper.
@@ -103,19 +99,17 @@ fn each_ring_holds_500(rt: HostRuntime) {
     expect_print(&rt, &mut devices, Err(FormsFull));
 }
 
-/// Compares how the carriage is controlled.
-fn expect_control(rt: &impl Abort, devices: &mut Devices, d: u8, wanted: Result<(), ControlFault>) {
-    expect_same(rt, "control", &devices.control(char_of(rt, d)), &wanted);
-}
-
 #[test]
 fn a_line_is_printed_at_channel_1(rt: HostRuntime) {
     let mut devices = devices_of(&rt);
-    expect_same(&rt, "at_channel", &devices.at_channel(1), &false);
-    expect_control(&rt, &mut devices, b'1', Ok(()));
-    expect_same(&rt, "at_channel", &devices.at_channel(1), &true);
-    expect_control(&rt, &mut devices, b'2', Err(ControlFault::Carriage));
-    expect_control(&rt, &mut devices, b'M', Err(ControlFault::DChar));
+    let before = devices.at_channel(1);
+    let skipped = devices.control(char_of(&rt, b'1'));
+    let found = (before, skipped, devices.at_channel(1));
+    expect_same(&rt, "at_channel, control", &found, &(false, Ok(()), true));
+    let (two, m) = (char_of(&rt, b'2'), char_of(&rt, b'M'));
+    let found = [devices.control(two), devices.control(m)];
+    let wanted = [Err(ControlFault::Carriage), Err(ControlFault::DChar)];
+    expect_same(&rt, "control", &found, &wanted);
     expect_print(&rt, &mut devices, Ok(()));
     let (form, line, text) = (1, 4, text_of(&rt, b'A'));
     let wanted = PrintLine { form, line, text };
@@ -123,45 +117,47 @@ fn a_line_is_printed_at_channel_1(rt: HostRuntime) {
 }
 
 #[test]
-fn numbers_of_control_faults(rt: HostRuntime) {
-    let numbers = [
+fn sizes_numbers_counts_and_lines(rt: HostRuntime) {
+    let faults = [
         ControlFault::DChar.number(),
         ControlFault::Carriage.number(),
     ];
-    expect_same(&rt, "number", &numbers, &[1, 2]);
-}
-
-/// Compares what is pending after this control.
-fn expect_pending(rt: &impl Abort, devices: &mut Devices, d: u8, wanted: Option<Movement>) {
-    expect_control(rt, devices, d, Ok(()));
-    expect_same(rt, "pending_movement", &devices.pending_movement(), &wanted);
-}
-
-#[test]
-fn movements_wait_for_the_next_print(rt: HostRuntime) {
-    let mut devices = devices_of(&rt);
-    for (d, spaces) in [
-        (b'/', Spaces::One),
-        (b'S', Spaces::Two),
-        (b'T', Spaces::Three),
-    ] {
-        expect_pending(&rt, &mut devices, d, Some(Movement::SpaceBy(spaces)));
-    }
-    for (d, hole) in [
-        (b'A', Hole::First),
-        (b'I', Hole::Ninth),
-        (b')', Hole::Twelfth),
-    ] {
-        expect_pending(&rt, &mut devices, d, Some(Movement::SkipTo(hole)));
-    }
     let counts = [
         Spaces::One.count(),
         Spaces::Two.count(),
         Spaces::Three.count(),
     ];
-    expect_same(&rt, "count", &counts, &[1, 2, 3]);
     let lines = [Hole::First.line(), Hole::Ninth.line(), Hole::Twelfth.line()];
-    expect_same(&rt, "line", &lines, &[4, 60, 63]);
+    let found = (faults, counts, lines, [CARD_COLUMNS, MOST_HELD]);
+    let wanted = ([1, 2], [1, 2, 3], [4, 60, 63], [80, 500]);
+    expect_same(&rt, "number, count, line, sizes", &found, &wanted);
+}
+
+/// What each of these controls leaves for the next print.
+const MOVEMENTS: &[(u8, Movement)] = &[
+    (b'/', Movement::SpaceBy(Spaces::One)),
+    (b'S', Movement::SpaceBy(Spaces::Two)),
+    (b'T', Movement::SpaceBy(Spaces::Three)),
+    (b'A', Movement::SkipTo(Hole::First)),
+    (b'I', Movement::SkipTo(Hole::Ninth)),
+    (b')', Movement::SkipTo(Hole::Twelfth)),
+];
+
+#[test]
+fn movements_wait_for_the_next_print(rt: HostRuntime) {
+    let mut devices = devices_of(&rt);
+    for (d, movement) in MOVEMENTS {
+        let found = (
+            devices.control(char_of(&rt, *d)),
+            devices.pending_movement(),
+        );
+        expect_same(
+            &rt,
+            "control, pending_movement",
+            &found,
+            &(Ok(()), Some(*movement)),
+        );
+    }
 }
 
 /// Compares what is at the front of the hopper, at the back of the stacker, and on the paper.
@@ -177,7 +173,6 @@ fn expect_ends(rt: &impl Abort, devices: &Devices) {
 
 #[test]
 fn what_is_held_is_seen_and_copied(rt: HostRuntime) {
-    expect_same(&rt, "sizes", &(CARD_COLUMNS, MOST_HELD), &(80, 500));
     let mut devices = devices_of(&rt);
     expect_feed(&rt, &mut devices, Ok(()));
     expect_punch(&rt, &mut devices, Ok(()));

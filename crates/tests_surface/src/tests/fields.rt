@@ -13,7 +13,7 @@ use fields_1401::{
 use std::process::Abort;
 
 /// An operation at an A and a B address.
-#[derive(Clone, Copy, Debug)]
+#[derive(Clone, Copy)]
 enum Operation {
     Add,
     Subtract,
@@ -84,219 +84,183 @@ impl Operation {
 /// Cells from a place on.
 type Cells = (u16, &'static str);
 
+/// The registers afterwards, and whether the B field is higher; or why nothing was done.
+type Left = Result<(u16, u16, bool), FieldStop>;
+
 /// An operation at two addresses, the cells at two places before it, what it leaves, and cells afterwards.
-type Row = (
-    Operation,
-    (u16, u16),
-    [Cells; 2],
-    Result<Done, FieldStop>,
-    Cells,
-);
+type Row = (Operation, (u16, u16), (Cells, Cells), Left, Cells);
 
-/// The registers afterwards, and no indicator.
-const fn left(a: u16, b: u16) -> Result<Done, FieldStop> {
+/// What a call gives that leaves this.
+fn done_of(left: Left) -> Result<Done, FieldStop> {
+    let (a, b, is_higher) = left?;
     Ok(Done {
         a,
         b,
         overflow: false,
-        unequal: false,
+        unequal: is_higher,
         low: false,
-        high: false,
-    })
-}
-
-/// The registers afterwards, and a B field that is higher.
-const fn left_high(a: u16, b: u16) -> Result<Done, FieldStop> {
-    Ok(Done {
-        a,
-        b,
-        overflow: false,
-        unequal: true,
-        low: false,
-        high: true,
+        high: is_higher,
     })
 }
 
 /// Core storage with cells at two places.
-fn core_with(rt: &(impl Abort + AllocGlobal), [one, two]: [Cells; 2]) -> Core {
+fn core_with(rt: &(impl Abort + AllocGlobal), (one, two): (Cells, Cells)) -> Core {
     let mut core = core_of(rt, rt.alloc(), 4_000);
     deposit(rt, &mut core, one.0, one.1);
     deposit(rt, &mut core, two.0, two.1);
     core
 }
 
-/// Makes the calls of a row, and compares what each leaves.
-fn expect_row(rt: &(impl Abort + AllocGlobal), row: &Row) {
-    let (operation, (a, b), before, wanted, (from, text)) = *row;
+/// Makes one of the two calls of a row, and compares what it leaves.
+fn expect_left(rt: &(impl Abort + AllocGlobal), row: &Row, within: bool) {
+    let (operation, (a, b), before, left, (from, text)) = *row;
     let mut core = core_with(rt, before);
-    let found = operation.call(rt, &mut core, a, b);
-    expect_same(rt, text, &found, &wanted);
-    expect_cells(rt, text, &core, from, text);
-    let mut core = core_with(rt, before);
-    let found = operation.call_within(rt, &mut core, a, b);
-    expect_same(rt, text, &found, &wanted);
+    let found = if within {
+        operation.call_within(rt, &mut core, a, b)
+    } else {
+        operation.call(rt, &mut core, a, b)
+    };
+    expect_same(rt, text, &found, &done_of(left));
     expect_cells(rt, text, &core, from, text);
 }
 
-/// The same for each of these.
-fn expect_rows(rt: &(impl Abort + AllocGlobal), rows: &[Row]) {
-    for row in rows {
-        expect_row(rt, row);
+/// Sums and stops, comparison and editing, moves and marks.
+const ROWS: &[Row] = &[
+    (
+        Operation::Add,
+        (700, 710),
+        ((700, "~P"), (709, "~05")),
+        Ok((699, 708, false)),
+        (709, "~0K"),
+    ),
+    (
+        Operation::Subtract,
+        (700, 710),
+        ((700, "~5"), (710, "~E")),
+        Ok((699, 709, false)),
+        (710, "~?"),
+    ),
+    (
+        Operation::ZeroAdd,
+        (701, 713),
+        ((700, "~1K"), (710, "~0000")),
+        Ok((699, 709, false)),
+        (710, "~001K"),
+    ),
+    (
+        Operation::ZeroSubtract,
+        (701, 713),
+        ((700, "~1K"), (710, "~0000")),
+        Ok((699, 709, false)),
+        (710, "~001B"),
+    ),
+    (
+        Operation::Add,
+        (700, 710),
+        ((700, "5"), (710, "5")),
+        Err(FieldStop::Address),
+        (710, "5"),
+    ),
+    (
+        Operation::Add,
+        (711, 710),
+        ((700, "5"), (709, "~123")),
+        Err(FieldStop::Overlap),
+        (709, "~123"),
+    ),
+    (
+        Operation::Compare,
+        (701, 712),
+        ((700, "~12"), (710, "~012")),
+        Ok((699, 710, true)),
+        (710, "~012"),
+    ),
+    (
+        Operation::Edit,
+        (707, 732),
+        ((700, "~00257426"), (720, "~   ,  0.  &CR")),
+        Ok((699, 719, false)),
+        (720, "  2,574.26   "),
+    ),
+    (
+        Operation::Suppress,
+        (704, 724),
+        ((700, "~0012P"), (720, "     ")),
+        Ok((699, 725, false)),
+        (720, "  127"),
+    ),
+    (
+        Operation::MoveChars,
+        (510, 509),
+        ((500, "~ABCDEFGHIJX"), (600, "5")),
+        Ok((500, 499, false)),
+        (500, "~XXXXXXXXXXX"),
+    ),
+    (
+        Operation::LoadChars,
+        (501, 511),
+        ((500, "~AB"), (509, "~1~2~3")),
+        Ok((499, 509, false)),
+        (509, "~1~AB"),
+    ),
+    (
+        Operation::MoveDigit,
+        (500, 510),
+        ((500, "L"), (510, "AA")),
+        Ok((499, 509, false)),
+        (510, "CA"),
+    ),
+    (
+        Operation::MoveZone,
+        (500, 511),
+        ((500, "L"), (510, "CA")),
+        Ok((499, 510, false)),
+        (510, "CJ"),
+    ),
+    (
+        Operation::SetMarks,
+        (500, 511),
+        ((500, "AB"), (510, "CD")),
+        Ok((499, 510, false)),
+        (510, "C~D"),
+    ),
+    (
+        Operation::ClearMarks,
+        (500, 511),
+        ((500, "~AB"), (510, "C~D")),
+        Ok((499, 510, false)),
+        (510, "CD"),
+    ),
+    (
+        Operation::ClearDown,
+        (0, 799),
+        ((600, "5"), (798, "~XY~Z")),
+        Ok((799, 699, false)),
+        (798, "  ~Z"),
+    ),
+];
+
+#[test]
+fn each_operation_on_fields(rt: HostRuntime) {
+    for row in ROWS {
+        expect_left(&rt, row, false);
+        expect_left(&rt, row, true);
     }
 }
 
 #[test]
-fn sums_and_stops(rt: HostRuntime) {
-    expect_rows(
-        &rt,
-        &[
-            (
-                Operation::Add,
-                (700, 710),
-                [(700, "~P"), (709, "~05")],
-                left(699, 708),
-                (709, "~0K"),
-            ),
-            (
-                Operation::Subtract,
-                (700, 710),
-                [(700, "~5"), (710, "~E")],
-                left(699, 709),
-                (710, "~?"),
-            ),
-            (
-                Operation::ZeroAdd,
-                (701, 713),
-                [(700, "~1K"), (710, "~0000")],
-                left(699, 709),
-                (710, "~001K"),
-            ),
-            (
-                Operation::ZeroSubtract,
-                (701, 713),
-                [(700, "~1K"), (710, "~0000")],
-                left(699, 709),
-                (710, "~001B"),
-            ),
-            (
-                Operation::Add,
-                (700, 710),
-                [(700, "5"), (710, "5")],
-                Err(FieldStop::Address),
-                (710, "5"),
-            ),
-            (
-                Operation::Add,
-                (711, 710),
-                [(700, "5"), (709, "~123")],
-                Err(FieldStop::Overlap),
-                (709, "~123"),
-            ),
-        ],
-    );
-}
-
-#[test]
-fn comparison_and_editing(rt: HostRuntime) {
-    expect_rows(
-        &rt,
-        &[
-            (
-                Operation::Compare,
-                (701, 712),
-                [(700, "~12"), (710, "~012")],
-                left_high(699, 710),
-                (710, "~012"),
-            ),
-            (
-                Operation::Edit,
-                (707, 732),
-                [(700, "~00257426"), (720, "~   ,  0.  &CR")],
-                left(699, 719),
-                (720, "  2,574.26   "),
-            ),
-            (
-                Operation::Suppress,
-                (704, 724),
-                [(700, "~0012P"), (720, "     ")],
-                left(699, 725),
-                (720, "  127"),
-            ),
-        ],
-    );
-}
-
-#[test]
-fn moves_and_marks(rt: HostRuntime) {
-    expect_rows(
-        &rt,
-        &[
-            (
-                Operation::MoveChars,
-                (510, 509),
-                [(500, "~ABCDEFGHIJX"), (600, "5")],
-                left(500, 499),
-                (500, "~XXXXXXXXXXX"),
-            ),
-            (
-                Operation::LoadChars,
-                (501, 511),
-                [(500, "~AB"), (509, "~1~2~3")],
-                left(499, 509),
-                (509, "~1~AB"),
-            ),
-            (
-                Operation::MoveDigit,
-                (500, 510),
-                [(500, "L"), (510, "AA")],
-                left(499, 509),
-                (510, "CA"),
-            ),
-            (
-                Operation::MoveZone,
-                (500, 511),
-                [(500, "L"), (510, "CA")],
-                left(499, 510),
-                (510, "CJ"),
-            ),
-            (
-                Operation::SetMarks,
-                (500, 511),
-                [(500, "AB"), (510, "CD")],
-                left(499, 510),
-                (510, "C~D"),
-            ),
-            (
-                Operation::ClearMarks,
-                (500, 511),
-                [(500, "~AB"), (510, "C~D")],
-                left(499, 510),
-                (510, "CD"),
-            ),
-            (
-                Operation::ClearDown,
-                (0, 799),
-                [(600, "5"), (798, "~XY~Z")],
-                left(799, 699),
-                (798, "  ~Z"),
-            ),
-        ],
-    );
-}
-
-#[test]
-fn numbers_of_field_stops(rt: HostRuntime) {
-    let numbers = [FieldStop::Address.number(), FieldStop::Overlap.number()];
-    expect_same(&rt, "number", &numbers, &[1, 2]);
-}
-
-#[test]
 fn registers_signs_and_control_words(rt: HostRuntime) {
-    expect_same(&rt, "step_down", &step_down(0, 1), &15_999);
     assert!(rt; Sign::Plus != Sign::Minus);
     let mut core = core_of(&rt, rt.alloc(), 4_000);
     deposit(&rt, &mut core, 720, "~   ,  0.  &CR");
     assert!(rt; core.in_core(732));
     let count = count_replaceable(&core, 732, 13);
-    expect_same(&rt, "count_replaceable", &count, &8);
+    let (address, overlap) = (FieldStop::Address.number(), FieldStop::Overlap.number());
+    let found = (address, overlap, step_down(0, 1), count);
+    expect_same(
+        &rt,
+        "number, step_down, count_replaceable",
+        &found,
+        &(1, 2, 15_999, 8),
+    );
 }

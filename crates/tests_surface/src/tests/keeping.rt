@@ -44,28 +44,34 @@ impl Keeper for OneEntry {
 #[test]
 fn nothing_is_kept(rt: HostRuntime) {
     let mut keeper = NoKeeper;
-    expect_same(&rt, "has_failed", &keeper.has_failed(), &false);
     let entry = Entry::new(0, &Command::Registers, &Answer::Done);
-    expect_same(&rt, "keep", &keeper.keep(1, &entry), &Ok(()));
+    let found = (keeper.has_failed(), keeper.keep(1, &entry));
+    expect_same(&rt, "has_failed, keep", &found, &(false, Ok(())));
 }
 
-/// Gives three commands: the keeper takes the first entry, fails at the second, and isn't asked for the third.
+/// What is answered to three commands: the keeper takes the first entry, fails at the second, and isn't asked for the
+/// third.
+const GIVEN: [Result<Carried, RoomFault>; 3] = [
+    Ok(Carried {
+        answer: Answer::Done,
+        kept: true,
+    }),
+    Ok(Carried {
+        answer: Answer::Done,
+        kept: false,
+    }),
+    Err(RoomFault::Unkept),
+];
+
+/// Gives these commands.
 fn give_three<J: RoomId, R: Wait + Abort + AllocGlobal>(
     rt: &R,
     room: &SharedRoom<J, &R, OneEntry>,
     seat: &mut Seat<J>,
 ) {
-    let kept = Carried {
-        answer: Answer::Done,
-        kept: true,
-    };
-    let unkept = Carried {
-        answer: Answer::Done,
-        kept: false,
-    };
-    for wanted in [Ok(kept), Ok(unkept), Err(RoomFault::Unkept)] {
+    for wanted in &GIVEN {
         let given = room.command_kept(rt, seat, Command::SetI { address: 0 });
-        expect_same(rt, "command_kept", &given, &wanted);
+        expect_same(rt, "command_kept", &given, wanted);
     }
     expect_same(rt, "len", &seat.len(), &1);
 }
@@ -74,15 +80,27 @@ fn give_three<J: RoomId, R: Wait + Abort + AllocGlobal>(
 fn expect_picture<J: RoomId>(rt: &impl Abort, seat: &mut Seat<J>) {
     let (core, paper) = (0, 0);
     let picture: Picture = seat.picture(Window { core, paper }).expect(rt, "a picture");
-    let found = (picture.after, picture.size, picture.regs.i, picture.core);
-    expect_same(rt, "picture", &found, &(1, 4_000, 0, 0));
-    let blank = cell_of(rt, b' ', false);
-    expect_same(rt, "cells", &picture.cells, &[blank; WINDOW_CELLS]);
     let lines: &PaperLines = &picture.lines;
-    expect_same(rt, "lines", &lines.as_slice().len(), &0);
+    let numbers = (picture.after, picture.size, picture.regs.i, picture.core);
+    let found = (numbers, lines.as_slice().len(), picture.cells);
+    let blank = cell_of(rt, b' ', false);
+    let wanted = ((1, 4_000, 0, 0), 0, [blank; WINDOW_CELLS]);
+    expect_same(rt, "picture", &found, &wanted);
     let core = 3_401;
     let fault = seat.picture(Window { core, paper }).err();
     expect_same(rt, "picture", &fault, &Some(GlanceFault::Range));
+}
+
+/// What an operator does and sees.
+fn use_seats<J: RoomId, R: Wait + Abort + AllocGlobal>(
+    rt: &R,
+    room: &SharedRoom<J, &R, OneEntry>,
+    seats: &mut [Seat<J>],
+) {
+    if let [seat] = seats {
+        give_three(rt, room, seat);
+        expect_picture(rt, seat);
+    }
 }
 
 /// The room and its keeper once it is closed, or else abandoned.
@@ -120,13 +138,10 @@ fn keep<J: RoomId, R: Wait + Abort + AllocGlobal>(
         rt, alloc, size, seats, opened, keeper,
     );
     let (room, mut seats) = started.expect(rt, "a room");
-    if let Some(seat) = seats.first_mut() {
-        give_three(rt, &room, seat);
-        expect_picture(rt, seat);
-    }
+    use_seats(rt, &room, seats.as_mut_slice());
     let (room, keeper) = ended(rt, room, seats, closes);
-    expect_same(rt, "journal", &room.journal().len(), &2);
-    expect_same(rt, "has_failed", &keeper.has_failed(), &true);
+    let found = (room.journal().len(), keeper.has_failed());
+    expect_same(rt, "journal, has_failed", &found, &(2, true));
 }
 
 /// The same, with names for the room.
@@ -141,16 +156,20 @@ fn a_journal_is_kept_until_a_write_fails(rt: HostRuntime) {
     expect_kept(&rt, 4_000, 1, false);
 }
 
+/// Has a command carried out on a copy of a new room's machine, which then becomes the room's.
+fn expect_taken_over(rt: &(impl Abort + AllocGlobal), room: &mut Room, command: Command) {
+    let mut machine = room.machine().copy(rt.alloc()).expect(rt, "a machine");
+    let answer = carry_out(&mut machine, &command);
+    room.reserve().expect(rt, "an entry");
+    room.take_over(1, command, answer, &mut machine);
+    let entry = Entry::new(1, &command, &Answer::Done);
+    let registers = [room.machine().regs().i, machine.regs().i];
+    let found = (room.journal().first(), registers);
+    expect_same(rt, "take_over", &found, &(Some(&entry), [600, 0]));
+}
+
 #[test]
 fn a_command_is_carried_out_elsewhere(rt: HostRuntime) {
     let mut room = Room::power_on(rt.alloc(), 4_000).expect(&rt, "a room");
-    let command = Command::SetI { address: 600 };
-    let mut machine = room.machine().copy(rt.alloc()).expect(&rt, "a machine");
-    let answer = carry_out(&mut machine, &command);
-    room.reserve().expect(&rt, "an entry");
-    room.take_over(1, command, answer, &mut machine);
-    let entry = Entry::new(1, &command, &Answer::Done);
-    expect_same(&rt, "take_over", &room.journal().first(), &Some(&entry));
-    let found = [room.machine().regs().i, machine.regs().i];
-    expect_same(&rt, "take_over", &found, &[600, 0]);
+    expect_taken_over(&rt, &mut room, Command::SetI { address: 600 });
 }

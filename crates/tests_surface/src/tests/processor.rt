@@ -24,23 +24,28 @@ fn machine_with(rt: &(impl Abort + AllocGlobal), from: u16, text: &str) -> Machi
     machine
 }
 
+/// Steps and runs from 600 and from 604 on.
+fn expect_steps(rt: &impl Abort, machine: &mut Machine) {
+    let stopped = machine.step();
+    assert!(rt; machine.core().in_core(604));
+    machine.set_i(604);
+    let found = (stopped, machine.step(), machine.run(2), machine.step());
+    let (steps, stop) = (1, Stop::Halt);
+    let wanted = (Some(Stop::Address), None, Ran { steps, stop }, Some(stop));
+    expect_same(rt, "step, run", &found, &wanted);
+    assert!(rt; machine.core().in_core(600));
+    expect_same(
+        rt,
+        "core",
+        &machine.core().get(600),
+        &cell_of(rt, b',', true),
+    );
+}
+
 #[test]
 fn steps_and_runs(rt: HostRuntime) {
     let mut machine = machine_with(&rt, 600, "~,I9I~,600~.~.~.");
-    expect_same(&rt, "step", &machine.step(), &Some(Stop::Address));
-    assert!(rt; machine.core().in_core(604));
-    machine.set_i(604);
-    expect_same(&rt, "step", &machine.step(), &None);
-    let (steps, stop) = (1, Stop::Halt);
-    expect_same(&rt, "run", &machine.run(2), &Ran { steps, stop });
-    expect_same(&rt, "step", &machine.step(), &Some(Stop::Halt));
-    assert!(rt; machine.core().in_core(600));
-    expect_same(
-        &rt,
-        "core",
-        &machine.core().get(600),
-        &cell_of(&rt, b',', true),
-    );
+    expect_steps(&rt, &mut machine);
 }
 
 #[test]
@@ -62,38 +67,51 @@ fn registers_and_switches(rt: HostRuntime) {
         form: 1,
         line: 1,
     };
-    expect_same(&rt, "regs", &machine.regs(), &wanted);
     let fault = Machine::power_on(rt.alloc(), 100).err();
-    expect_same(&rt, "power_on", &fault, &Some(CoreFault::Size));
+    let wanted = (wanted, Some(CoreFault::Size));
+    expect_same(&rt, "regs, power_on", &(machine.regs(), fault), &wanted);
+}
+
+/// Places of a card that the load key has read, and whether they have a word mark.
+const READ_PLACES: &[(u16, bool)] = &[(1, true), (2, false), (80, false)];
+
+/// Presses the load key without a card, and with one.
+fn expect_loaded(rt: &impl Abort, machine: &mut Machine) {
+    let empty = machine.load_key();
+    let fed = machine.feed(card_of(rt, b'A'));
+    let found = (empty, fed, machine.load_key());
+    expect_same(
+        rt,
+        "load_key, feed",
+        &found,
+        &(Err(ReaderEmpty), Ok(()), Ok(())),
+    );
+    let Regs { i, hopper, .. } = machine.regs();
+    expect_same(rt, "I and the hopper", &(i, hopper), &(1, 0));
+    for (place, mark) in READ_PLACES {
+        assert!(rt; machine.core().in_core(*place));
+        let cell = cell_of(rt, b'A', *mark);
+        expect_same(rt, "core", &machine.core().get(*place), &cell);
+    }
 }
 
 #[test]
 fn the_load_key_reads_a_card(rt: HostRuntime) {
     let mut machine = Machine::power_on(rt.alloc(), 4_000).expect(&rt, "a machine");
-    expect_same(&rt, "load_key", &machine.load_key(), &Err(ReaderEmpty));
-    expect_same(&rt, "feed", &machine.feed(card_of(&rt, b'A')), &Ok(()));
-    expect_same(&rt, "load_key", &machine.load_key(), &Ok(()));
-    let Regs { i, hopper, .. } = machine.regs();
-    expect_same(&rt, "I and the hopper", &(i, hopper), &(1, 0));
-    for (place, mark) in [(1, true), (2, false), (80, false)] {
-        assert!(rt; machine.core().in_core(place));
-        let cell = cell_of(&rt, b'A', mark);
-        expect_same(&rt, "core", &machine.core().get(place), &cell);
-    }
+    expect_loaded(&rt, &mut machine);
 }
 
 #[test]
 fn a_line_and_a_card_are_taken(rt: HostRuntime) {
     let mut machine = machine_with(&rt, 600, "~2~4~.~.");
-    expect_same(&rt, "take_line", &machine.take_line(), &None);
-    expect_same(&rt, "take_card", &machine.take_card(), &None);
+    let none = (machine.take_line(), machine.take_card());
+    expect_same(&rt, "take_line, take_card", &none, &(None, None));
+    let found = (machine.run(3), machine.take_line(), machine.take_card());
     let (steps, stop) = (3, Stop::Halt);
-    expect_same(&rt, "run", &machine.run(3), &Ran { steps, stop });
     let (form, line, text) = (1, 1, [char_of(&rt, b' '); 132]);
     let printed = PrintLine { form, line, text };
-    expect_same(&rt, "take_line", &machine.take_line(), &Some(printed));
-    let punched = Some(card_of(&rt, b' '));
-    expect_same(&rt, "take_card", &machine.take_card(), &punched);
+    let wanted = (Ran { steps, stop }, Some(printed), Some(card_of(&rt, b' ')));
+    expect_same(&rt, "run, take_line, take_card", &found, &wanted);
 }
 
 /// Compares the cells of an instruction.
@@ -101,13 +119,30 @@ fn expect_instruction(rt: &(impl Abort + AllocGlobal), call: &str, found: &[Cell
     expect_same(rt, call, &found, &cells_of(rt, text).as_slice());
 }
 
+/// Compares the instruction that is next, and the one at 604.
+fn expect_instructions(rt: &(impl Abort + AllocGlobal), machine: &Machine) {
+    let next: InstructionCells = machine.next_instruction().expect(rt, "a word mark");
+    expect_instruction(rt, "next_instruction", next.as_slice(), "~,I9I");
+    let found = instruction_cells(machine.core(), 604);
+    expect_instruction(rt, "instruction_cells", found.as_slice(), "~.       ");
+}
+
 #[test]
 fn the_instruction_that_is_next(rt: HostRuntime) {
     let machine = machine_with(&rt, 600, "~,I9I~.");
-    let next: InstructionCells = machine.next_instruction().expect(&rt, "a word mark");
-    expect_instruction(&rt, "next_instruction", next.as_slice(), "~,I9I");
-    let found = instruction_cells(machine.core(), 604);
-    expect_instruction(&rt, "instruction_cells", found.as_slice(), "~.       ");
+    expect_instructions(&rt, &machine);
+}
+
+/// Compares a copy with its machine, which then goes on, and is copied again.
+fn expect_copied(rt: &impl Abort, machine: &mut Machine, copy: &mut Machine) {
+    let found = (copy.pending_movement(), machine.step());
+    let pending = Some(Movement::SkipTo(Hole::Ninth));
+    expect_same(rt, "copy, step", &found, &(pending, Some(Stop::Halt)));
+    assert!(rt; copy.core().size() == machine.core().size());
+    copy.copy_from(machine);
+    let found = (copy.regs(), copy.read_area(), copy.devices().line());
+    let wanted = (machine.regs(), card_of(rt, b' '), 1);
+    expect_same(rt, "copy_from, read_area, devices", &found, &wanted);
 }
 
 #[test]
@@ -116,14 +151,7 @@ fn a_machine_is_copied(rt: HostRuntime) {
     step_law();
     expect_same(&rt, "step", &machine.step(), &None);
     let mut copy = machine.copy(rt.alloc()).expect(&rt, "a copy");
-    let pending = Some(Movement::SkipTo(Hole::Ninth));
-    expect_same(&rt, "copy", &copy.pending_movement(), &pending);
-    expect_same(&rt, "step", &machine.step(), &Some(Stop::Halt));
-    assert!(rt; copy.core().size() == machine.core().size());
-    copy.copy_from(&machine);
-    expect_same(&rt, "copy_from", &copy.regs(), &machine.regs());
-    expect_same(&rt, "read_area", &copy.read_area(), &card_of(&rt, b' '));
-    expect_same(&rt, "devices", &copy.devices().line(), &1);
+    expect_copied(&rt, &mut machine, &mut copy);
 }
 
 /// Whether threads may share what is lent, and hand it over: true, if this compiles.
@@ -132,36 +160,39 @@ fn is_shared<T: Send + Sync>(_lent: &T) -> bool {
 }
 
 #[test]
-fn a_machine_may_be_handed_to_another_thread(rt: HostRuntime) {
-    assert!(rt; is_shared(&machine_with(&rt, 600, "~.")));
-}
-
-#[test]
-fn a_machine_is_fitted(rt: HostRuntime) {
+fn a_machine_is_fitted_and_may_be_shared(rt: HostRuntime) {
     let mut machine = machine_with(&rt, 600, "~. ~.");
     let lengths = Features::NONE.with(Feature::Lengths);
     machine.fit(lengths);
-    expect_same(&rt, "features", &machine.features(), &lengths);
-    expect_same(&rt, "step", &machine.step(), &Some(Stop::Halt));
+    let found = (is_shared(&machine), machine.features(), machine.step());
+    expect_same(
+        &rt,
+        "fit, features, step",
+        &found,
+        &(true, lengths, Some(Stop::Halt)),
+    );
 }
+
+/// Stops and their numbers.
+const STOPS: &[(Stop, u8)] = &[
+    (Stop::Limit, 1),
+    (Stop::Halt, 2),
+    (Stop::Reader, 3),
+    (Stop::Forms, 4),
+    (Stop::Stacker, 5),
+    (Stop::NoMark, 6),
+    (Stop::OpCode, 7),
+    (Stop::Length, 8),
+    (Stop::Address, 9),
+    (Stop::Overlap, 10),
+    (Stop::Carriage, 11),
+    (Stop::NotFitted, 12),
+    (Stop::DChar, 13),
+];
 
 #[test]
 fn numbers_of_stops(rt: HostRuntime) {
-    let stops = [
-        Stop::Limit.number(),
-        Stop::Halt.number(),
-        Stop::Reader.number(),
-        Stop::Forms.number(),
-        Stop::Stacker.number(),
-        Stop::NoMark.number(),
-        Stop::OpCode.number(),
-        Stop::Length.number(),
-        Stop::Address.number(),
-        Stop::Overlap.number(),
-        Stop::Carriage.number(),
-        Stop::NotFitted.number(),
-        Stop::DChar.number(),
-    ];
-    let numbers = [1, 2, 3, 4, 5, 6, 7, 8, 9, 10, 11, 12, 13];
-    expect_same(&rt, "number", &stops, &numbers);
+    for (stop, number) in STOPS {
+        expect_same(&rt, "number", &stop.number(), number);
+    }
 }

@@ -52,7 +52,6 @@ fn the_rows_of_a_listing(rt: HostRuntime) {
         rows,
         symbols,
     } = made.expect(&rt, "a program");
-    expect_same(&rt, "symbols", &symbols.len(), &3);
     expect_packed(&rt, "assemble_program", &image);
     let (number, address, characters) = (2, 400, *b"?423420 ");
     let wanted = Row {
@@ -60,9 +59,14 @@ fn the_rows_of_a_listing(rt: HostRuntime) {
         address,
         characters,
     };
-    expect_same(&rt, "rows", &rows.as_slice().get(1), &Some(&wanted));
     let line = placing_line(&rt, &rows, 407, "~A423420");
-    expect_same(&rt, "line_of", &line, &Some(3));
+    let found = (symbols.len(), rows.as_slice().get(1), line);
+    expect_same(
+        &rt,
+        "symbols, rows, line_of",
+        &found,
+        &(3, Some(&wanted), Some(3)),
+    );
 }
 
 #[test]
@@ -162,29 +166,26 @@ fn the_warnings_of_a_source(rt: HostRuntime) {
     expect_text(&rt, "warning_lines", lines.as_bytes(), wanted);
 }
 
-/// Compares the columns at which warnings are reported.
-fn expect_columns(rt: &impl Abort, rows: &[(WarningKind, u8)]) {
-    for (kind, column) in rows {
-        expect_same(rt, "warning_column", &warning_column(*kind), column);
-    }
-}
-
 /// Whether a warning names another line, or what isn't read of its own.
 fn has_more(kind: WarningKind) -> bool {
     matches!(kind, WarningKind::Overlaps(_) | WarningKind::Loses(_))
 }
 
+/// Warnings, and the columns at which they are reported.
+const COLUMNS: &[(WarningKind, u8)] = &[
+    (WarningKind::NotFitted, 16),
+    (WarningKind::UnusedLabel, 6),
+    (WarningKind::UnsetIndicator, 16),
+    (WarningKind::UnlikeSigns, 21),
+    (WarningKind::NeverBranches, 16),
+    (WarningKind::StartsNothing, 16),
+    (WarningKind::ReadOn(400), 16),
+];
+
 #[test]
 fn the_columns_of_warnings(rt: HostRuntime) {
-    let rows = [
-        (WarningKind::NotFitted, 16),
-        (WarningKind::UnusedLabel, 6),
-        (WarningKind::UnsetIndicator, 16),
-        (WarningKind::UnlikeSigns, 21),
-        (WarningKind::NeverBranches, 16),
-        (WarningKind::StartsNothing, 16),
-        (WarningKind::ReadOn(400), 16),
-    ];
-    expect_columns(&rt, rows.as_slice());
-    assert!(rt; !has_more(WarningKind::NotFitted));
+    for (kind, column) in COLUMNS {
+        let found = (warning_column(*kind), has_more(*kind));
+        expect_same(&rt, "warning_column", &found, &(*column, false));
+    }
 }

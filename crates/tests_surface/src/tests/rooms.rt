@@ -2,10 +2,11 @@
 ghost use Rattle.std.specs.Prelude.{◌≡◌};
 
 use super::consoles::attended;
-use super::devices::card_of;
 use super::{cell_of, cells_of, expect_same};
+use bcd_1401::Char;
 use core_1401::CoreFault;
 use cpu_1401::{Features, Stop};
+use devices_1401::Card;
 use room_1401::{
     Answer, CloseFault, Command, Entry, Glance, GlanceFault, Opened, Refusal, Room, RoomFault,
     RoomId, Seat, SharedRoom, StartFault, SwitchName, Told,
@@ -14,78 +15,99 @@ use std::marker::Brand;
 use std::process::Abort;
 use std::sync::Wait;
 
-/// Each command, and its answer at a new room.
-fn commands(rt: &(impl Abort + AllocGlobal)) -> [(Command, Answer); 13] {
-    let cells = cells_of(rt, "~.~.");
-    let (address, card) = (600, card_of(rt, b'A'));
-    let (n, on) = (SwitchName::A, false);
-    let refused = Answer::Refused(Refusal::Limit);
-    let (steps, stop, i) = (1, Stop::Halt, 601);
-    [
-        (Command::Deposit { address, cells }, Answer::Done),
-        (Command::Examine { address, count: 2 }, Answer::Cells(cells)),
-        (
-            Command::Examine { address, count: 41 },
-            Answer::Refused(Refusal::Count),
-        ),
-        (Command::SetI { address }, Answer::Done),
-        (
-            Command::SetI { address: 4_000 },
-            Answer::Refused(Refusal::Address),
-        ),
-        (Command::Switch { n, on }, Answer::Done),
-        (Command::Run { limit: 0 }, refused),
-        (Command::Run { limit: 1 }, Answer::Ran { steps, stop, i }),
-        (Command::LoadKey, Answer::Refused(Refusal::Reader)),
-        (Command::Feed { card }, Answer::Done),
-        (Command::TakeLine, Answer::Refused(Refusal::Empty)),
-        (Command::TakeCard, Answer::Refused(Refusal::Empty)),
-        (Command::Fit(Features::ALL), Answer::Done),
-    ]
+/// Commands after a halt was deposited at 600 and 601, and their answers.
+const COMMANDS: [(Command, Answer); 11] = [
+    (
+        Command::Examine {
+            address: 600,
+            count: 41,
+        },
+        Answer::Refused(Refusal::Count),
+    ),
+    (Command::SetI { address: 600 }, Answer::Done),
+    (
+        Command::SetI { address: 4_000 },
+        Answer::Refused(Refusal::Address),
+    ),
+    (
+        Command::Switch {
+            n: SwitchName::A,
+            on: false,
+        },
+        Answer::Done,
+    ),
+    (Command::Run { limit: 0 }, Answer::Refused(Refusal::Limit)),
+    (
+        Command::Run { limit: 1 },
+        Answer::Ran {
+            steps: 1,
+            stop: Stop::Halt,
+            i: 601,
+        },
+    ),
+    (Command::LoadKey, Answer::Refused(Refusal::Reader)),
+    (
+        Command::Feed {
+            card: Card([Char::BLANK; 80]),
+        },
+        Answer::Done,
+    ),
+    (Command::TakeLine, Answer::Refused(Refusal::Empty)),
+    (Command::TakeCard, Answer::Refused(Refusal::Empty)),
+    (Command::Fit(Features::ALL), Answer::Done),
+];
+
+/// Gives a command, and compares its answer.
+fn expect_answer(rt: &impl Abort, room: &mut Room, command: &Command, answer: Answer) {
+    let given = room.carry(0, *command);
+    expect_same(rt, "carry", &given, &Ok(answer));
 }
 
-/// Gives each of these commands, and compares its answer.
-fn expect_answers(rt: &impl Abort, room: &mut Room, rows: &[(Command, Answer)]) {
-    for (command, answer) in rows {
-        let given = room.carry(0, *command);
-        expect_same(rt, "carry", &given, &Ok(*answer));
+/// Gives each command, with its answer at a new room. Returns the entry of the first one.
+fn expect_answers(rt: &(impl Abort + AllocGlobal), room: &mut Room) -> Entry {
+    let (address, count, cells) = (600, 2, cells_of(rt, "~.~."));
+    let deposit = Command::Deposit { address, cells };
+    let examine = Command::Examine { address, count };
+    expect_answer(rt, room, &deposit, Answer::Done);
+    expect_answer(rt, room, &examine, Answer::Cells(cells));
+    for (command, answer) in &COMMANDS {
+        expect_answer(rt, room, command, *answer);
     }
-}
-
-/// Compares the first entry of a journal.
-fn expect_first(rt: &impl Abort, journal: &[Entry], (command, answer): (Command, Answer)) {
-    let seat = 0;
-    let wanted = Entry {
+    let regs = Answer::Regs(room.machine().regs());
+    expect_answer(rt, room, &Command::Registers, regs);
+    let (seat, command, answer) = (0, deposit, Answer::Done);
+    Entry {
         seat,
         command,
         answer,
-    };
-    expect_same(rt, "journal", &journal.first(), &Some(&wanted));
+    }
 }
 
 #[test]
 fn each_command_is_answered(rt: HostRuntime) {
     let mut room = Room::power_on(rt.alloc(), 4_000).expect(&rt, "a room");
-    let rows = commands(&rt);
-    expect_same(&rt, "reserve", &room.reserve(), &Ok(()));
-    expect_answers(&rt, &mut room, rows.as_slice());
-    expect_same(&rt, "journal", &room.journal().len(), &13);
-    expect_first(&rt, room.journal(), rows[0]);
-    let regs = Answer::Regs(room.machine().regs());
-    expect_same(&rt, "carry", &room.carry(0, Command::Registers), &Ok(regs));
+    let reserved = room.reserve();
+    let first = expect_answers(&rt, &mut room);
+    let journal = room.journal();
+    let found = (reserved, journal.len(), journal.first());
+    expect_same(&rt, "reserve, journal", &found, &(Ok(()), 14, Some(&first)));
 }
+
+/// Refusals and their numbers.
+const REFUSALS: &[(Refusal, u8)] = &[
+    (Refusal::Address, 1),
+    (Refusal::Hopper, 2),
+    (Refusal::Reader, 3),
+    (Refusal::Empty, 4),
+    (Refusal::Limit, 5),
+    (Refusal::Count, 6),
+];
 
 #[test]
 fn numbers_of_refusals(rt: HostRuntime) {
-    let refusals = [
-        Refusal::Address.number(),
-        Refusal::Hopper.number(),
-        Refusal::Reader.number(),
-        Refusal::Empty.number(),
-        Refusal::Limit.number(),
-        Refusal::Count.number(),
-    ];
-    expect_same(&rt, "number", &refusals, &[1, 2, 3, 4, 5, 6]);
+    for (refusal, number) in REFUSALS {
+        expect_same(&rt, "number", &refusal.number(), number);
+    }
     let fault = Room::power_on(rt.alloc(), 100).err();
     expect_same(&rt, "power_on", &fault, &Some(CoreFault::Size));
 }
@@ -98,19 +120,18 @@ fn numbers_of_faults(rt: HostRuntime) {
         RoomFault::NoReading.number(),
         RoomFault::Unkept.number(),
     ];
-    expect_same(&rt, "number", &of_rooms, &[1, 2, 3, 4]);
     let of_glances = [GlanceFault::Range.number(), GlanceFault::Gone.number()];
-    expect_same(&rt, "number", &of_glances, &[1, 2]);
     let of_starts = [
         StartFault::Memory.number(),
         StartFault::Size.number(),
         StartFault::Seats.number(),
         StartFault::NoReader.number(),
     ];
-    expect_same(&rt, "number", &of_starts, &[1, 2, 3, 4]);
     let unreturned = CloseFault::Unreturned { back: 1, total: 2 };
     let of_closings = [unreturned.number(), CloseFault::NoReading.number()];
-    expect_same(&rt, "number", &of_closings, &[1, 2]);
+    let found = (of_rooms, of_glances, of_starts, of_closings);
+    let wanted = ([1, 2, 3, 4], [1, 2], [1, 2, 3, 4], [1, 2]);
+    expect_same(&rt, "number", &found, &wanted);
 }
 
 #[test]
@@ -137,15 +158,19 @@ fn deposit_and_tell<J: RoomId, R: Wait + Abort + AllocGlobal>(
 ) {
     let (address, cells) = (500, cells_of(rt, "K"));
     let given = room.command(rt, one, Command::Deposit { address, cells });
-    expect_same(rt, "command", &given, &Ok(Answer::Done));
     let told: Told<J> = room.tell(rt, one).expect(rt, "a note");
     two.learn(told);
+    let glances = [two.glance(500), two.glance(4_000)];
     let (after, cell) = (1, cell_of(rt, b'K', false));
-    expect_same(rt, "glance", &two.glance(500), &Ok(Glance { after, cell }));
-    expect_same(rt, "glance", &two.glance(4_000), &Err(GlanceFault::Range));
-    let found = [one.made(), two.made()];
-    expect_same(rt, "made", &found, &[1, 0]);
-    expect_same(rt, "number", &[one.number(), two.number()], &[1, 2]);
+    let wanted = [Ok(Glance { after, cell }), Err(GlanceFault::Range)];
+    expect_same(
+        rt,
+        "command, glance",
+        &(given, glances),
+        &(Ok(Answer::Done), wanted),
+    );
+    let found = [(one.number(), one.made()), (two.number(), two.made())];
+    expect_same(rt, "number, made", &found, &[(1, 1), (2, 0)]);
 }
 
 /// What both seats do.

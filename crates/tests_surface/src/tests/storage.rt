@@ -39,57 +39,58 @@ pub(super) fn expect_cells(
 }
 
 #[test]
-fn sizes_of_core(rt: HostRuntime) {
-    expect_same(&rt, "size", &core_of(&rt, rt.alloc(), 1_400).size(), &1_400);
+fn sizes_and_faults_of_core(rt: HostRuntime) {
+    let size = core_of(&rt, rt.alloc(), 1_400).size();
     let fault = Core::power_on(rt.alloc(), 1_401).err();
-    expect_same(&rt, "power_on", &fault, &Some(CoreFault::Size));
-}
-
-#[test]
-fn numbers_of_core_faults(rt: HostRuntime) {
     let numbers = [CoreFault::Memory.number(), CoreFault::Size.number()];
-    expect_same(&rt, "number", &numbers, &[1, 2]);
+    let wanted = (1_400, Some(CoreFault::Size), [1, 2]);
+    expect_same(
+        &rt,
+        "size, power_on, number",
+        &(size, fault, numbers),
+        &wanted,
+    );
 }
 
-/// The lengths that are found with a word mark at 63 alone.
-fn expect_lengths(rt: &impl Abort, core: &Core) {
-    assert!(rt; core.in_core(127) && core.in_core(64) && core.in_core(0));
-    expect_same(rt, "field_len", &core.field_len(64), &Some(2));
-    expect_same(rt, "field_len", &core.field_len(0), &None);
-    expect_same(rt, "pair_len", &core.pair_len(64, 127), &Some(2));
-    let words = core.mark_words();
-    expect_same(rt, "mark_words", &words.len(), &63);
-    expect_same(rt, "mark_words", &words.first().copied(), &Some(1 << 63));
+/// Core storage of 4,000 places with one word mark, at 63.
+fn marked_core(rt: &(impl Abort + AllocGlobal)) -> Core {
+    let mut core = core_of(rt, rt.alloc(), 4_000);
+    deposit(rt, &mut core, 63, "~K");
+    core
 }
 
 #[test]
 fn cells_and_lengths(rt: HostRuntime) {
-    let mut core = core_of(&rt, rt.alloc(), 4_000);
-    let cell = cell_of(&rt, b'K', true);
-    assert!(rt; core.in_core(63) && !core.in_core(4_000));
-    core.put_char(63, cell.char);
-    core.put_mark(63, cell.mark);
-    let Cell { char, mark } = core.get(63);
-    expect_same(&rt, "get", &(char, mark), &(cell.char, true));
-    expect_lengths(&rt, &core);
+    let core = marked_core(&rt);
+    assert!(rt; core.in_core(127) && !core.in_core(4_000));
+    let Cell { char, mark } = cell_of(&rt, b'K', true);
+    expect_same(&rt, "get", &core.get(63), &Cell { char, mark });
+    let (fields, pair) = (
+        [core.field_len(64), core.field_len(0)],
+        core.pair_len(64, 127),
+    );
+    let words = core.mark_words();
+    let found = (fields, pair, words.len(), words.first().copied());
+    let wanted = ([Some(2), None], Some(2), 63, Some(1 << 63));
+    expect_same(&rt, "field_len, pair_len, mark_words", &found, &wanted);
 }
 
 #[test]
 fn addresses_and_index_registers(rt: HostRuntime) {
-    let (i, nine, z) = (char_of(&rt, b'I'), char_of(&rt, b'9'), char_of(&rt, b'Z'));
-    expect_same(&rt, "encode", &encode(15_999), &[i, nine, i]);
-    expect_same(&rt, "decode", &decode([i, z, i]), &(15_999, 1));
     let mut core = core_of(&rt, rt.alloc(), 4_000);
     deposit(&rt, &mut core, 87, "003");
     deposit(&rt, &mut core, 601, "IZI");
     assert!(rt; core.in_core(603));
-    expect_same(&rt, "effective", &core.effective(601), &2);
+    let (i, nine, z) = (char_of(&rt, b'I'), char_of(&rt, b'9'), char_of(&rt, b'Z'));
+    let found = (encode(15_999), decode([i, z, i]), core.effective(601));
+    let wanted = ([i, nine, i], (15_999, 1), 2);
+    expect_same(&rt, "encode, decode, effective", &found, &wanted);
 }
 
 #[test]
 fn cells_are_1_to_40(rt: HostRuntime) {
     let cells = [cell_of(&rt, b'K', false); 41];
-    expect_same(&rt, "from_slice", &Cells::from_slice(&cells), &None);
-    expect_same(&rt, "from_slice", &Cells::from_slice(&[]), &None);
+    let found = [Cells::from_slice(&cells), Cells::from_slice(&[])];
+    expect_same(&rt, "from_slice", &found, &[None; 2]);
     expect_same(&rt, "as_slice", &cells_of(&rt, "~K").as_slice().len(), &1);
 }
