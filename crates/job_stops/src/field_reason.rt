@@ -2,11 +2,11 @@
 ghost use Rattle.std.specs.Prelude.{◌≡◌};
 ghost use Rattle.job_stops.specs.FieldReason.{address_of, field_stop};
 
+use crate::words::{Part, Words};
 use fields_1401::FieldStop;
-use std::fmt;
 
 /// One of the two operands of an instruction.
-#[derive(Clone, Copy, Debug)]
+#[derive(Clone, Copy)]
 pub enum Operand {
     /// The A operand.
     A,
@@ -15,7 +15,7 @@ pub enum Operand {
 }
 
 /// Places from one down to another.
-#[derive(Clone, Copy, Debug, PartialEq, Eq)]
+#[derive(Clone, Copy)]
 pub struct Span {
     /// The units place.
     pub from: u16,
@@ -24,7 +24,7 @@ pub struct Span {
 }
 
 /// Why an operation on fields can't be carried out.
-#[derive(Clone, Copy, Debug)]
+#[derive(Clone, Copy)]
 pub enum FieldReason {
     /// An operand's address isn't in core.
     NotInCore { which: Operand, at: u16 },
@@ -94,110 +94,185 @@ impl FieldReason {
     }
 }
 
-impl fmt::Display for Operand {
-    fn fmt<W: fmt::Write>(&self, f: &mut fmt::Formatter<W>) -> fmt::Result {
-        f.write_str(match self {
-            Operand::A => "A",
-            Operand::B => "B",
-        })
-    }
-}
-
-impl fmt::Display for Span {
-    fn fmt<W: fmt::Write>(&self, f: &mut fmt::Formatter<W>) -> fmt::Result {
-        write!(f, "from {:03} down to {:03}", self.from, self.to)
-    }
-}
-
-/// The places of two fields, one of which comes to place 0.
-fn put_pair<W: fmt::Write>(f: &mut fmt::Formatter<W>, a: u16, b: u16) -> fmt::Result {
+/// The words for two fields, one of which comes to place 0 before either has a word mark.
+fn pair_words(a: u16, b: u16) -> Words {
     let pairs = a.min(b);
-    let first = Span {
+    let first = Part::Places(Span {
         from: a,
         to: a - pairs,
-    };
-    let second = Span {
+    });
+    let second = Part::Places(Span {
         from: b,
         to: b - pairs,
-    };
+    });
     if a == b {
-        write!(f, "no word mark {first}")
+        ("no word mark ", first, "", Part::Nothing, "")
     } else {
-        write!(
-            f,
-            "no word mark {first} in the A field, nor {second} in the B field"
+        (
+            "no word mark ",
+            first,
+            " in the A field, nor ",
+            second,
+            " in the B field",
         )
     }
 }
 
-impl fmt::Display for FieldReason {
-    fn fmt<W: fmt::Write>(&self, f: &mut fmt::Formatter<W>) -> fmt::Result {
-        match *self {
-            FieldReason::NotInCore { which, at } => {
-                write!(f, "the {which} address {at:03} isn't in core")
+impl FieldReason {
+    /// Its words.
+    pub(crate) fn words(self) -> Words {
+        match self {
+            FieldReason::NotInCore {
+                which: Operand::A,
+                at,
+            } => {
+                (
+                    "the A address ",
+                    Part::Place(at),
+                    " isn't in core",
+                    Part::Nothing,
+                    "",
+                )
             }
-            FieldReason::NoFieldMark { which, at } => {
-                let places = Span { from: at, to: 0 };
-                write!(f, "no word mark {places} in the {which} field")
+            FieldReason::NotInCore {
+                which: Operand::B,
+                at,
+            } => {
+                (
+                    "the B address ",
+                    Part::Place(at),
+                    " isn't in core",
+                    Part::Nothing,
+                    "",
+                )
             }
-            FieldReason::NoPairMark { a, b } => put_pair(f, a, b),
+            FieldReason::NoFieldMark {
+                which: Operand::A,
+                at,
+            } => {
+                let places = Part::Places(Span { from: at, to: 0 });
+                (
+                    "no word mark ",
+                    places,
+                    " in the A field",
+                    Part::Nothing,
+                    "",
+                )
+            }
+            FieldReason::NoFieldMark {
+                which: Operand::B,
+                at,
+            } => {
+                let places = Part::Places(Span { from: at, to: 0 });
+                (
+                    "no word mark ",
+                    places,
+                    " in the B field",
+                    Part::Nothing,
+                    "",
+                )
+            }
+            FieldReason::NoPairMark { a, b } => pair_words(a, b),
             FieldReason::TooFewPlaces { at, needed } => {
-                write!(
-                    f,
-                    "from {at:03} down core has no {needed} places, as many as the A field"
+                let needed = Part::Number(usize::from(needed));
+                (
+                    "from ",
+                    Part::Place(at),
+                    " down core has no ",
+                    needed,
+                    " places, as many as the A field",
                 )
             }
             FieldReason::NoAddressPlaces { at, .. } => {
-                write!(f, "from {at:03} down core has no 3 places for an address")
-            }
-            FieldReason::MarkOverwritten { field, at } => {
-                let mark = field.to;
-                write!(
-                    f,
-                    "loading to {at:03} writes over the A field's word mark at {mark:03} before it is read"
+                (
+                    "from ",
+                    Part::Place(at),
+                    " down core has no 3 places for an address",
+                    Part::Nothing,
+                    "",
                 )
             }
+            FieldReason::MarkOverwritten { field, at } => (
+                "loading to ",
+                Part::Place(at),
+                " writes over the A field's word mark at ",
+                Part::Place(field.to),
+                " before it is read",
+            ),
             FieldReason::Overlap { field, other } => {
-                write!(f, "the A field {field} and the B field {other} overlap")
+                let places = Part::Places(other);
+                (
+                    "the A field ",
+                    Part::Places(field),
+                    " and the B field ",
+                    places,
+                    " overlap",
+                )
             }
             FieldReason::NoMultiplier { at, len } => {
-                write!(
-                    f,
-                    "core has no place for a multiplier {} places left of {at:03}",
-                    u32::from(len) + 1
+                let left = Part::Number(usize::from(len) + 1);
+                (
+                    "core has no place for a multiplier ",
+                    left,
+                    " places left of ",
+                    Part::Place(at),
+                    "",
                 )
             }
             FieldReason::NoMultiplierMark { at } => {
-                let places = Span { from: at, to: 0 };
-                write!(f, "no word mark {places} in the multiplier")
-            }
-            FieldReason::ProductOverlap { field, product } => {
-                write!(f, "the A field {field} and the product {product} overlap")
-            }
-            FieldReason::NoDividendEnd { at } => {
-                write!(
-                    f,
-                    "no place from {at:03} up to the end of core has a zone that ends the dividend"
+                let places = Part::Places(Span { from: at, to: 0 });
+                (
+                    "no word mark ",
+                    places,
+                    " in the multiplier",
+                    Part::Nothing,
+                    "",
                 )
             }
+            FieldReason::ProductOverlap { field, product } => {
+                let places = Part::Places(product);
+                (
+                    "the A field ",
+                    Part::Places(field),
+                    " and the product ",
+                    places,
+                    " overlap",
+                )
+            }
+            FieldReason::NoDividendEnd { at } => (
+                "no place from ",
+                Part::Place(at),
+                " up to the end of core has a zone that ends the dividend",
+                Part::Nothing,
+                "",
+            ),
             FieldReason::NoQuotientPlaces { at, needed } => {
-                write!(
-                    f,
-                    "from {at:03} down core has no {needed} places for rest and quotient"
+                let needed = Part::Number(usize::from(needed));
+                (
+                    "from ",
+                    Part::Place(at),
+                    " down core has no ",
+                    needed,
+                    " places for rest and quotient",
                 )
             }
             FieldReason::QuotientOverlap { field, places } => {
-                write!(
-                    f,
-                    "the A field {field} and rest and quotient {places} overlap"
+                let places = Part::Places(places);
+                (
+                    "the A field ",
+                    Part::Places(field),
+                    " and rest and quotient ",
+                    places,
+                    " overlap",
                 )
             }
-            FieldReason::NoRecordEnd { a, b } => {
-                write!(
-                    f,
-                    "moving from {a:03} to {b:03} comes to the end of core before a record mark or a group mark with a word mark"
-                )
-            }
+            FieldReason::NoRecordEnd { a, b } => (
+                "moving from ",
+                Part::Place(a),
+                " to ",
+                Part::Place(b),
+                " comes to the end of core before a record mark or a group mark with a word mark",
+            ),
         }
     }
 }

@@ -13,6 +13,7 @@
 // the reasons and their texts
 pub mod field_reason;
 pub mod reason;
+mod words;
 
 // why the operations on fields can't be carried out
 mod fields;

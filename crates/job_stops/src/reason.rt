@@ -3,13 +3,14 @@ ghost use Rattle.std.specs.Prelude.{◌≡◌};
 ghost use Rattle.job_stops.specs.Reason.{stop_named};
 
 use crate::field_reason::FieldReason;
+use crate::words::{Part, Words};
 use bcd_1401::Char;
 use cpu_1401::Stop;
 use devices_1401::MOST_HELD;
 use std::fmt;
 
 /// Why the next step stops the machine.
-#[derive(Clone, Copy, Debug)]
+#[derive(Clone, Copy)]
 pub enum Reason {
     /// The instruction is a halt.
     Halt,
@@ -85,104 +86,235 @@ impl Reason {
     }
 }
 
-/// A character by its graphic; a blank by name.
-#[derive(Clone, Copy)]
-struct Shown(Char);
-
-impl fmt::Display for Shown {
-    fn fmt<W: fmt::Write>(&self, f: &mut fmt::Formatter<W>) -> fmt::Result {
-        if self.0 == Char::BLANK {
-            f.write_str("blank")
-        } else {
-            write!(f, "{}", char::from(self.0.graphic()))
+impl Reason {
+    /// Its words.
+    fn words(&self) -> Words {
+        match *self {
+            Reason::Halt => ("a halt", Part::Nothing, "", Part::Nothing, ""),
+            Reason::NoCard => (
+                "no card in the hopper",
+                Part::Nothing,
+                "",
+                Part::Nothing,
+                "",
+            ),
+            Reason::PaperFull => {
+                (
+                    "",
+                    Part::Number(MOST_HELD),
+                    " printed lines wait to be taken",
+                    Part::Nothing,
+                    "",
+                )
+            }
+            Reason::StackerFull => {
+                (
+                    "",
+                    Part::Number(MOST_HELD),
+                    " punched cards wait to be taken",
+                    Part::Nothing,
+                    "",
+                )
+            }
+            Reason::NoPlace { at } => (
+                "place ",
+                Part::Place(at),
+                " isn't in core",
+                Part::Nothing,
+                "",
+            ),
+            Reason::NoMark { at } => ("no word mark at ", Part::Place(at), "", Part::Nothing, ""),
+            Reason::NoOperation { char } => {
+                (
+                    "the character ",
+                    Part::Graphic(char.graphic()),
+                    " is no operation",
+                    Part::Nothing,
+                    "",
+                )
+            }
+            Reason::NotFitted { char } => {
+                (
+                    "the operation ",
+                    Part::Graphic(char.graphic()),
+                    " isn't fitted",
+                    Part::Nothing,
+                    "",
+                )
+            }
+            Reason::NotFittedAt { char, len } => {
+                let len = Part::Number(usize::from(len));
+                (
+                    "the operation ",
+                    Part::Graphic(char.graphic()),
+                    " isn't fitted with ",
+                    len,
+                    " characters",
+                )
+            }
+            Reason::NoSuchLength { char, len: 1 } => {
+                (
+                    "the operation ",
+                    Part::Graphic(char.graphic()),
+                    " has no instruction of 1 character",
+                    Part::Nothing,
+                    "",
+                )
+            }
+            Reason::NoSuchLength { char, len: 8 } => (
+                "the operation ",
+                Part::Graphic(char.graphic()),
+                " has no instruction of 8 or more characters",
+                Part::Nothing,
+                "",
+            ),
+            Reason::NoSuchLength { char, len } => {
+                let len = Part::Number(usize::from(len));
+                (
+                    "the operation ",
+                    Part::Graphic(char.graphic()),
+                    " has no instruction of ",
+                    len,
+                    " characters",
+                )
+            }
+            Reason::Fields(why) => why.words(),
+            Reason::NoHole { channel } => {
+                let channel = Part::Number(usize::from(channel));
+                (
+                    "the carriage tape has no hole in channel ",
+                    channel,
+                    "",
+                    Part::Nothing,
+                    "",
+                )
+            }
+            Reason::UnknownD { char, d } => {
+                let operation = Part::Graphic(char.graphic());
+                (
+                    "the d-character ",
+                    Part::Graphic(d.graphic()),
+                    " means nothing to the operation ",
+                    operation,
+                    "",
+                )
+            }
+            Reason::NoUnit => (
+                "no tape unit has this name",
+                Part::Nothing,
+                "",
+                Part::Nothing,
+                "",
+            ),
+            Reason::NoReel { unit } => {
+                (
+                    "tape unit ",
+                    Part::Number(usize::from(unit)),
+                    " has no reel",
+                    Part::Nothing,
+                    "",
+                )
+            }
+            Reason::Unloaded { unit } => {
+                (
+                    "tape unit ",
+                    Part::Number(usize::from(unit)),
+                    " was unloaded",
+                    Part::Nothing,
+                    "",
+                )
+            }
+            Reason::NoRing { unit } => {
+                let unit = Part::Number(usize::from(unit));
+                (
+                    "the reel on tape unit ",
+                    unit,
+                    " has no ring",
+                    Part::Nothing,
+                    "",
+                )
+            }
+            Reason::NoRecord { unit, after: 0 } => {
+                let unit = Part::Number(usize::from(unit));
+                (
+                    "the reel on tape unit ",
+                    unit,
+                    " has no record",
+                    Part::Nothing,
+                    "",
+                )
+            }
+            Reason::NoRecord { unit, after } => {
+                let unit = Part::Number(usize::from(unit));
+                (
+                    "no record follows record ",
+                    Part::Number(after),
+                    " on tape unit ",
+                    unit,
+                    "",
+                )
+            }
+            Reason::NoRoom { unit, after: 0 } => {
+                let unit = Part::Number(usize::from(unit));
+                (
+                    "the reel on tape unit ",
+                    unit,
+                    " has no room for the record",
+                    Part::Nothing,
+                    "",
+                )
+            }
+            Reason::NoRoom { unit, after } => {
+                let unit = Part::Number(usize::from(unit));
+                (
+                    "the reel on tape unit ",
+                    unit,
+                    " has no room after record ",
+                    Part::Number(after),
+                    "",
+                )
+            }
+            Reason::NoGroupMark { at } => {
+                (
+                    "no group mark with a word mark from ",
+                    Part::Place(at),
+                    " up",
+                    Part::Nothing,
+                    "",
+                )
+            }
+            Reason::EmptyRecord { at } => {
+                (
+                    "the record to write from ",
+                    Part::Place(at),
+                    " is empty",
+                    Part::Nothing,
+                    "",
+                )
+            }
+            Reason::BeyondCore { at } => {
+                (
+                    "the record to read to ",
+                    Part::Place(at),
+                    " doesn't fit in core",
+                    Part::Nothing,
+                    "",
+                )
+            }
         }
-    }
-}
-
-/// Text of a length that is none of the operation's.
-fn put_length<W: fmt::Write>(f: &mut fmt::Formatter<W>, char: Char, len: u16) -> fmt::Result {
-    let operation = Shown(char);
-    match len {
-        1 => write!(
-            f,
-            "the operation {operation} has no instruction of 1 character"
-        ),
-        8 => write!(
-            f,
-            "the operation {operation} has no instruction of 8 or more characters"
-        ),
-        len => write!(
-            f,
-            "the operation {operation} has no instruction of {len} characters"
-        ),
     }
 }
 
 impl fmt::Display for Reason {
     fn fmt<W: fmt::Write>(&self, f: &mut fmt::Formatter<W>) -> fmt::Result {
-        match *self {
-            Reason::Halt => f.write_str("a halt"),
-            Reason::NoCard => f.write_str("no card in the hopper"),
-            Reason::PaperFull => write!(f, "{MOST_HELD} printed lines wait to be taken"),
-            Reason::StackerFull => write!(f, "{MOST_HELD} punched cards wait to be taken"),
-            Reason::NoPlace { at } => write!(f, "place {at:03} isn't in core"),
-            Reason::NoMark { at } => write!(f, "no word mark at {at:03}"),
-            Reason::NoOperation { char } => write!(
-                f,
-                "the character {} is no operation",
-                Shown(char)
-            ),
-            Reason::NotFitted { char } => write!(f, "the operation {} isn't fitted", Shown(char)),
-            Reason::NotFittedAt { char, len } => {
-                write!(
-                    f,
-                    "the operation {} isn't fitted with {len} characters",
-                    Shown(char)
-                )
-            }
-            Reason::NoSuchLength { char, len } => put_length(f, char, len),
-            Reason::Fields(why) => write!(f, "{why}"),
-            Reason::NoHole { channel } => write!(
-                f,
-                "the carriage tape has no hole in channel {channel}"
-            ),
-            Reason::UnknownD { char, d } => {
-                write!(
-                    f,
-                    "the d-character {} means nothing to the operation {}",
-                    Shown(d),
-                    Shown(char)
-                )
-            }
-            Reason::NoUnit => f.write_str("no tape unit has this name"),
-            Reason::NoReel { unit } => write!(f, "tape unit {unit} has no reel"),
-            Reason::Unloaded { unit } => write!(f, "tape unit {unit} was unloaded"),
-            Reason::NoRing { unit } => write!(f, "the reel on tape unit {unit} has no ring"),
-            Reason::NoRecord { unit, after: 0 } => write!(
-                f,
-                "the reel on tape unit {unit} has no record"
-            ),
-            Reason::NoRecord { unit, after } => write!(
-                f,
-                "no record follows record {after} on tape unit {unit}"
-            ),
-            Reason::NoRoom { unit, after: 0 } => write!(
-                f,
-                "the reel on tape unit {unit} has no room for the record"
-            ),
-            Reason::NoRoom { unit, after } => write!(
-                f,
-                "the reel on tape unit {unit} has no room after record {after}"
-            ),
-            Reason::NoGroupMark { at } => write!(
-                f,
-                "no group mark with a word mark from {at:03} up"
-            ),
-            Reason::EmptyRecord { at } => write!(f, "the record to write from {at:03} is empty"),
-            Reason::BeyondCore { at } => write!(
-                f,
-                "the record to read to {at:03} doesn't fit in core"
-            ),
-        }
+        let (before, first, between, second, after) = self.words();
+        write!(f, "{before}{first}{between}{second}{after}")
+    }
+}
+
+/// What is shown, since an error that has a reason needs both.
+impl fmt::Debug for Reason {
+    fn fmt<W: fmt::Write>(&self, f: &mut fmt::Formatter<W>) -> fmt::Result {
+        fmt::Display::fmt(self, f)
     }
 }
