@@ -180,3 +180,30 @@ pub store_performed : (s : State) (char len : ℕ) (core : Storage) (a b : ℕ) 
 store_performed s char len core a b why told is e_core e_a e_told e_why =
     store_told s.a (instruction_of op.StoreA len s) s core a b why told e_core e_a e_told e_why
     ∙ ap (λ (graphic : ℕ). performed_stop (meaning_of graphic) len s) (sym is)
+
+-- an operation on fields that is done at both addresses stops for what it is refused for
+pub fields_told : (this : Instruction) (s : State) (done_at : Storage → ℕ → ℕ → Outcome) (core : Storage) (a b : ℕ)
+    (why : Option FieldReason) (told : Option Reason) → core ≡ s.storage → a ≡ this.a → b ≡ this.b
+    → told ≡ option_map reason.Fields why → option_map field_stop why ≡ result_err (done_at core a b)
+    → option_map stop_named told ≡ (after_field this s (done_at s.storage this.a this.b)).stop
+fields_told this s done_at core a b why told e_core e_a e_b e_told e_why =
+    ap (λ (found : Option Reason). option_map stop_named found) e_told ∙ named_of_fields why
+    ∙ ap (λ (found : Option FieldStop). option_map stop_of found) e_why
+    ∙ ap (λ (storage : Storage). option_map stop_of (result_err (done_at storage a b))) e_core
+    ∙ ap (λ (at : ℕ). option_map stop_of (result_err (done_at s.storage at b))) e_a
+    ∙ ap (λ (at : ℕ). option_map stop_of (result_err (done_at s.storage this.a at))) e_b
+    ∙ sym (field_stops this s (done_at s.storage this.a this.b))
+
+pub fields_performed : (s : State) (char len graphic : ℕ) (done_at : Storage → ℕ → ℕ → Outcome) (core : Storage)
+    (a b : ℕ)
+    (why : Option FieldReason) (told : Option Reason) → slice_index graphics char ≡ graphic → core ≡ s.storage
+    → a ≡ (said_with (meaning_of graphic) len s).a → b ≡ (said_with (meaning_of graphic) len s).b
+    → told ≡ option_map reason.Fields why → option_map field_stop why ≡ result_err (done_at core a b)
+    → performed_stop (meaning_of graphic) len s
+    ≡ (after_field (said_with (meaning_of graphic) len s) s
+    (done_at s.storage (said_with (meaning_of graphic) len s).a (said_with (meaning_of graphic) len s).b)).stop
+    → option_map stop_named told ≡ performed_stop (operation_of char) len s
+fields_performed s char len graphic done_at core a b why told is e_core e_a e_b e_told e_why same =
+    fields_told (said_with (meaning_of graphic) len s) s done_at core a b why told e_core e_a e_b e_told e_why ∙ sym
+    same
+    ∙ ap (λ (at : ℕ). performed_stop (meaning_of at) len s) (sym is)

@@ -145,7 +145,7 @@ fn plain_reason(machine: &Machine, char: Char, len: u16) -> Option<Reason>
 }
 
 /// Why what a feature makes of the instruction at the I register stops the machine.
-#[tactic(auto, using(crate::proofs::StopLemmas::field_stops, crate::proofs::ClaimedLemmas::kept_stops, crate::proofs::StopLemmas::cell_branch_stops, crate::proofs::ClaimedLemmas::on_cell_stops, crate::proofs::ClaimedLemmas::halt_operation))]
+#[tactic(auto, using(crate::proofs::ClaimedLemmas::kept_stops, crate::proofs::StopLemmas::cell_branch_stops, crate::proofs::ClaimedLemmas::on_cell_stops, crate::proofs::ClaimedLemmas::halt_operation))]
 fn fitted_reason(machine: &Machine, fitted: Fitted, char: Char, len: u16) -> Option<Reason>
     requires begins { begins_at machine.now.storage machine.now.i ≡ true }
     requires char { char ≡ char_of machine.now }
@@ -237,7 +237,7 @@ fn of_fields(why: Option<FieldReason>) -> Option<Reason>
 }
 
 /// Why carrying out the instruction at the I register at this length stops the machine.
-#[tactic(auto, using(crate::proofs::StopLemmas::field_stops, crate::proofs::StopLemmas::comparison_stops, crate::proofs::StopLemmas::clear_stops, crate::proofs::StopLemmas::card_stops, crate::proofs::StopLemmas::control_stops))]
+#[tactic(auto, using(crate::proofs::StopLemmas::comparison_stops, crate::proofs::StopLemmas::clear_stops, crate::proofs::StopLemmas::card_stops, crate::proofs::StopLemmas::control_stops))]
 fn performed_reason(machine: &Machine, char: Char, len: u16) -> Option<Reason>
     requires char { char ≡ char_of machine.now }
     requires some { 0 < len }
