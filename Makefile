@@ -17,7 +17,7 @@ all: $(foreach crate,$(CRATES),$(call stamp,$(crate)))
 define rules
 LIBRARIES_$1 := $2
 $(call stamp,$1): $(filter crates/$1/%,$(SOURCES)) $(foreach each,$(filter $(CRATES),$2),$(call stamp,$(each))) \
-	$(if $(subst <$(TOOLCHAIN) $2>,,<$(file <$(call stamp,$1))>),again)
+	$(if $(subst <$(strip $(TOOLCHAIN) $2)>,,<$(strip $(file <$(call stamp,$1)))>),again)
 endef
 $(foreach line,$(LINES),$(eval $(call rules,$(firstword $(subst :, ,$(line))),$(wordlist 2,99,$(subst :, ,$(line))))))
 

@@ -5,7 +5,8 @@ that a proof takes, HELD a file that keeps each proof from its end as long as it
 proved, and CHANGED the crate whose source changes meanwhile."""
 import os
 
-VERSION = "mock"
+# As long as that of the toolchain itself.
+VERSION = "mock-kit-13f-0 logic 0123456789abcdef"
 # A program is a script, which prints the words that it is called with.
 COMMANDS = {
     "rt": '[ "$1" = version ] && echo "$VERSION"',
