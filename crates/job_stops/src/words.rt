@@ -3,10 +3,10 @@
 use crate::field_reason::Span;
 use std::fmt;
 
-/// Words, and what stands between them.
+/// Words, and what is between them.
 pub(crate) type Words = (&'static str, Part, &'static str, Part, &'static str);
 
-/// What stands between words.
+/// What is between words.
 #[derive(Clone, Copy)]
 pub(crate) enum Part {
     /// Nothing.

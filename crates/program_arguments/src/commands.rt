@@ -134,7 +134,7 @@ fn refusal_in(alloc: Global, of: &Subcommand, text: &str) -> Result<Error, Alloc
     refusal_of(command_of(alloc, &sizes, of), of.whole_name, text)
 }
 
-/// A refusal of what a subcommand is asked for; or want of memory, if there is none for its text.
+/// A refusal of what a subcommand is asked for; or `Memory`, if there is no room for its text.
 pub(crate) fn refusal(alloc: Global, of: &Subcommand, text: &str) -> Error {
     match refusal_in(alloc, of, text) {
         Ok(refusal) => refusal,

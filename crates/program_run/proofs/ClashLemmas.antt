@@ -21,7 +21,7 @@ any_name : (inputs : InputNames) (outputs : WrittenNames) (reels : List MountedR
 any_name inputs outputs reels name read written (inl is) = inr (inl (read is))
 any_name inputs outputs reels name read written (inr is) = inr (inr (inr (inr (inr (inr (written is))))))
 
--- that of the first of those that are left with one that is no reel's
+-- that of the first of the others with a name that is no reel's
 pub reel_clash : (inputs : InputNames) (outputs : WrittenNames) (first : MountedReel) (beyond : List MountedReel)
     (clash : Clash) → ((name : List ℕ) → IsReadReel (first ∷ beyond) name → IsReadReel outputs.reels name)
     → ((name : List ℕ) → IsWrittenReel (first ∷ beyond) name → IsWrittenReel outputs.reels name)

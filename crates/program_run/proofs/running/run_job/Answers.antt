@@ -1,4 +1,4 @@
--- What became of the job is what became of the one that was lent.
+-- What became of the job is what became of the lent one.
 use Rattle.program_run.proofs.EndLemmas.{fails, halts, has_halted, reports, tells}
 use Rattle.program_run.proofs.running.run_job.Goals as goal
 
