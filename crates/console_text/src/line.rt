@@ -18,6 +18,7 @@ use core_1401::Cells;
 use devices_1401::Card;
 use machine_commands::Command;
 use machine_notation::{CellsFault, read_cells};
+use std::fmt;
 use thiserror::Error;
 
 /// The most bytes that a line has.
@@ -38,7 +39,6 @@ pub enum Line {
 
 /// Why a line says nothing that the console knows: the first fault from left to right.
 #[derive(Clone, Copy, Debug, PartialEq, Eq, Error)]
-#[error("{}", self.text())]
 pub enum LineFault {
     /// 1: a word that isn't known.
     Word = 1,
@@ -50,6 +50,12 @@ pub enum LineFault {
     Length = 4,
     /// 5: something follows the end of the line's command.
     Extra = 5,
+}
+
+impl fmt::Display for LineFault {
+    fn fmt<W: fmt::Write>(&self, f: &mut fmt::Formatter<W>) -> fmt::Result {
+        f.write_str(self.text())
+    }
 }
 
 impl LineFault {

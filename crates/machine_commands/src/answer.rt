@@ -5,6 +5,7 @@ ghost use Rattle.machine_commands.specs.RefusalText.{refusal_number, refusal_tex
 use core_1401::Cells;
 use devices_1401::{Card, PrintLine};
 use machine_panel::{Regs, Stop};
+use std::fmt;
 use thiserror::Error;
 
 /// What a command is answered.
@@ -35,7 +36,6 @@ pub enum Answer {
 
 /// Why a command was refused, by its number. The machine is as it was.
 #[derive(Clone, Copy, Debug, PartialEq, Eq, Error)]
-#[error("{}", self.text())]
 pub enum Refusal {
     /// 1: a place isn't in core.
     Address = 1,
@@ -49,6 +49,12 @@ pub enum Refusal {
     Limit = 5,
     /// 6: the count isn't from 1 to 40; this is looked at before the places.
     Count = 6,
+}
+
+impl fmt::Display for Refusal {
+    fn fmt<W: fmt::Write>(&self, f: &mut fmt::Formatter<W>) -> fmt::Result {
+        f.write_str(self.text())
+    }
 }
 
 impl Refusal {

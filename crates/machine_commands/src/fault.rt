@@ -3,11 +3,11 @@ ghost use Rattle.std.specs.Prelude.{◌≡◌};
 ghost use Rattle.machine_commands.specs.FaultText.{glance_fault_number, glance_fault_text};
 ghost use Rattle.machine_commands.specs.FaultText.{room_fault_number, room_fault_text};
 
+use std::fmt;
 use thiserror::Error;
 
 /// Why a room can't take a command. Its journal and its machine are as they were.
 #[derive(Clone, Copy, Debug, PartialEq, Eq, Error)]
-#[error("{}", self.text())]
 pub enum RoomFault {
     /// 1: the memory for the journal's next entry was refused.
     Memory = 1,
@@ -17,6 +17,12 @@ pub enum RoomFault {
     NoReading = 3,
     /// 4: an earlier entry wasn't kept outside of the room.
     Unkept = 4,
+}
+
+impl fmt::Display for RoomFault {
+    fn fmt<W: fmt::Write>(&self, f: &mut fmt::Formatter<W>) -> fmt::Result {
+        f.write_str(self.text())
+    }
 }
 
 impl RoomFault {
@@ -42,12 +48,17 @@ impl RoomFault {
 
 /// Why a glance shows nothing. The seat is as it was.
 #[derive(Clone, Copy, Debug, PartialEq, Eq, Error)]
-#[error("{}", self.text())]
 pub enum GlanceFault {
     /// 1: the address isn't in core.
     Range = 1,
     /// 2: there was nothing to read.
     Gone = 2,
+}
+
+impl fmt::Display for GlanceFault {
+    fn fmt<W: fmt::Write>(&self, f: &mut fmt::Formatter<W>) -> fmt::Result {
+        f.write_str(self.text())
+    }
 }
 
 impl GlanceFault {
