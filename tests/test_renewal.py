@@ -171,6 +171,21 @@ class AfterAJournal(Renewal):
         self.goes_on_and_anew(self.resumed(name="day.journal.3"))
         self.holds_all(day_journal_3=self.LINES + self.NEXT, day_journal_4="a diary\n", day_journal_5=self.ANEW)
 
+    def test_a_new_room_is_fitted_as_the_journal_s_machine(self):
+        fitted = "JOURNAL1 1400\n1\t1\tFIT MULTIPLY TAPES\tOK\n"
+        new = self.folder / "new.journal"
+        for name, words, made, anew in [
+            ("day.journal", (), 1, fitted),
+            ("new.journal", ("--without", 1, "--journal", new), 0, "JOURNAL1 1400\n"),
+        ]:
+            room = self.resumed(*words, lines=f"{fitted}2\t1\tDEPOSIT 0700 ~2\tOK\n")
+            self.same(f"{name}: the journal's commands are given", room.made(), made + 1)
+            self.same(f"{name}: a new room is asked for", self.ask_anew(room), (200, b"RENEWAL IN 0\n"))
+            self.follows(f"{name}: it follows", room, made)
+            texts = f"JOURNAL {made + 1}\nROOM 2\nJOURNAL {made}\n"
+            self.expect(f"{name}: both rooms", room.end(), 0, room.ready + texts)
+            self.holds(f"{name}: the next journal", self.folder / f"{name}.2", anew)
+
     def test_a_new_journal_is_followed_by_its_own_name(self):
         self.goes_on_and_anew(self.resumed("--journal", self.folder / "new.5"))
         self.holds_all(day_journal=self.LINES, new_5=self.LINES + self.NEXT, new_5_2=self.ANEW)

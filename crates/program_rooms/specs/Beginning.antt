@@ -53,3 +53,9 @@ abbrev pub HasBegun : ℕ → Before → List SeatView → List SeatView → Typ
 HasBegun size (Program program) old new =
     FirstGave size (first_commands program.features program.image program.cards.now) old new
 HasBegun size (Journal room) old new = GiveAll size room.now.journal old new
+
+-- what fits the machine with these features, if there are any, and does nothing else
+abbrev pub FitsAlone : Features → Before → Type 0
+FitsAlone features (Program program) =
+    first_commands program.features program.image program.cards.now ≡ fit_commands features
+FitsAlone features (Journal room) = ⊥

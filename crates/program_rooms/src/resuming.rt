@@ -1,8 +1,10 @@
 //! Rooms that operators share, and that begin with a journal.
 ghost use Rattle.std.specs.Prelude.{◌≡◌, ◌≤◌, ℕ, false, Some, Err, All, vec_len, IfOk, OnOk};
+ghost use Rattle.room_alone.specs.Journal.{state_of};
 ghost use Rattle.room_journal.specs.JournalText.{journal_text};
 ghost use Rattle.serving_seats.specs.Giving.{IsSeated, foreign_in};
 ghost use Rattle.program_sessions.specs.Choosing.{HasChosen};
+ghost use Rattle.program_rooms.specs.Beginning.{FitsAlone};
 
 use crate::beginning::{Before, Program};
 use crate::entrances::Entrances;
@@ -11,7 +13,6 @@ use crate::journal_names::JournalNames;
 use crate::seating::serve_new;
 use crate::succession::{Rooms, Turn, serve_others, serve_rooms};
 use bytes_streams::Sink;
-use machine_panel::Features;
 use program_call::Resuming;
 use program_sessions::{HoldFault, durability_of, read_chosen, tell_cut};
 use room_1401::{Entry, Room};
@@ -93,7 +94,7 @@ fn begin_again<
             let rooms = Rooms {
                 size: room.machine().core().size(),
                 seats,
-                before: nothing(),
+                before: fitted_alike(&room),
                 names,
                 minutes,
             };
@@ -103,10 +104,12 @@ fn begin_again<
     }
 }
 
-/// What is done before operators come to a machine at power-on.
-fn nothing() -> Before<'static> {
+/// What is done before operators come to a machine at power-on that has the features of this room's.
+fn fitted_alike(room: &Room) -> Before<'static>
+    ensures { FitsAlone (state_of room.now.size room.now.journal).features result }
+{
     Before::Program(Program {
-        features: Features::NONE,
+        features: room.machine().features(),
         image: None,
         cards: &[],
     })
@@ -188,7 +191,7 @@ fn serve_taken_up<
     let rooms = Rooms {
         size: taken.room.machine().core().size(),
         seats,
-        before: nothing(),
+        before: fitted_alike(&taken.room),
         names: Some(names),
         minutes,
     };

@@ -125,7 +125,7 @@ pub fn machine_of(rt: &(impl Files + AllocGlobal), opening: Opening) -> Result<M
 /// It tells on standard output when it listens, with the address of each page, and at the end how many commands the
 /// journal has. QUIT on standard input, or its end, closes the room. If a number of minutes is given, a new room
 /// follows whenever a page asks for it, no command was given for so many minutes, or a minute after its journal had
-/// 95,000 entries: with the same features, image and cards, or after that of a journal at power-on.
+/// 95,000 entries: with the same features, image and cards, or after that of a journal with its features alone.
 ///
 /// # Errors
 ///
