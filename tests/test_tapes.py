@@ -112,6 +112,14 @@ class Refused(TapesTest):
         self.expect("one is free", program("assemble", SOURCE, "-o", self.new))
         self.same("it is given back", (self.folder / "new.tap.99.part").exists(), False)
 
+    def test_a_reel_with_a_ring_that_cannot_be_replaced(self):
+        for number in range(100):
+            (self.folder / f"a.tap.{number}.part").touch()
+        self.before = self.names()
+        ran = self.run_with(f"1={self.reel}:ring", f"2={self.new}:new")
+        self.expect_refused("with a ring", ran, 1, f"ibm1401: cannot write {self.reel}\n")
+        self.same("without one it is read", self.run_with(f"1={self.reel}").returncode, 0)
+
     def test_two_names_of_one_file(self):
         self.before = self.names()
         ring, same, new = f"{self.reel}:ring", f"{self.folder}/./a.tap", f"{self.new}:new"

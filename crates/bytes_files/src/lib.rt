@@ -23,6 +23,6 @@ pub use names::{end_of_links, is_named, is_one_file, is_there, remove_own};
 pub use new_file::{check_new, put_new};
 pub use reading::{read_whole, read_whole_reel};
 pub use writing::{
-    CreatedFile, WholeFile, begin_whole, check_create, create, create_beside, create_new,
-    end_whole, keep_rights, put_whole,
+    CreatedFile, WholeFile, begin_whole, check_create, check_whole, create, create_beside,
+    create_new, end_whole, keep_rights, put_whole,
 };

@@ -230,6 +230,26 @@ pub fn put_whole<R: Files + Print + AllocGlobal>(
     end_whole(rt, writer.into_inner(), written.is_ok())
 }
 
+/// Looks whether `put_whole` can be expected to write the file of this name, which is there. A file next to it is made
+/// as `put_whole` makes one, and taken away again. A device or a pipe isn't opened.
+///
+/// # Errors
+///
+/// As those of `begin_whole`.
+pub fn check_whole<R: Files + Print + AllocGlobal>(rt: &R, name: &str) -> Result<(), WriteFault> {
+    match fs::metadata(rt, name) {
+        Ok(metadata) if metadata.is_file() => match begin_whole(rt, name) {
+            Ok(file) => {
+                let _ = end_whole(rt, file, false);
+                Ok(())
+            }
+            Err(fault) => Err(fault),
+        },
+        Ok(_) => Ok(()),
+        Err(error) => Err(write_fault(error.kind())),
+    }
+}
+
 /// A file to which bytes are written as they come, or standard output.
 #[derive(Drop)]
 pub enum CreatedFile<F, O> {

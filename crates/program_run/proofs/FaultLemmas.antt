@@ -82,6 +82,11 @@ pub unmade : (from : ReelSource) (given : String Global) (text : List ℕ) (why 
     → text ≡ string_bytes given → IsNotPut text why → IsUnmadeOf from why
 unmade from given text why is same put = (text, rw is (sym same), put)
 
+-- or of one with a ring, and can't be written
+pub unwritten : (from : ReelSource) (given : String Global) (text : List ℕ) (why : RunFault)
+    → from ≡ source.Ringed given → text ≡ string_bytes given → IsNotPut text why → IsUnmadeOf from why
+unwritten from given text why is same put = (text, rw is (sym same), put)
+
 pub written_first : (reels : List MountedReel) (first : MountedReel) (file : List ℕ) → 0 < length reels
     → first ≡ get_or reels 0 first → IsWrittenTo first.reel file → IsWrittenReel reels file
 written_first [] first file some is written = absurd (omega (arith, some))

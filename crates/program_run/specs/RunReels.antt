@@ -98,7 +98,7 @@ IsThere file why = (why ≡ fault.Memory) ⊎ IsNamed fault.Exists file why
 abbrev pub IsNotPut : List ℕ → RunFault → Type 0
 IsNotPut file why = (why ≡ fault.Memory) ⊎ IsNamed fault.Unwritten file why
 
--- why the file of a new reel can't be made
+-- why the file of a reel that is written can't be made or written
 abbrev pub IsUnmadeOf : ReelSource → RunFault → Type 0
 IsUnmadeOf from why = (file : List ℕ) × IsWrittenTo from file × IsNotPut file why
 

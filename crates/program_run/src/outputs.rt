@@ -8,7 +8,7 @@ use crate::deck_running::Broken;
 use crate::fault::RunFault;
 use crate::punch_file::PunchFile;
 use crate::tracing::Trace;
-use bytes_files::{CreatedFile, WriteFault, check_create, check_new, create};
+use bytes_files::{CreatedFile, WriteFault, check_create, check_new, check_whole, create};
 use bytes_streams::ToWriter;
 use machine_graphics::Graphics;
 use program_call::{Job, ReelSource};
@@ -120,31 +120,34 @@ fn check_if_named<R: Files + AllocGlobal>(rt: &R, name: &Option<String>) -> Resu
     }
 }
 
-/// Looks whether the file of a new reel can be made.
-#[tactic(auto, using(crate::proofs::FaultLemmas::unmade))]
-fn check_new_reel<R: Files + AllocGlobal>(rt: &R, reel: &ReelSource) -> Result<(), RunFault>
+/// Looks whether the file of a reel can be made, or written if it is there. One without a ring isn't written.
+#[tactic(auto, using(crate::proofs::FaultLemmas::unmade, crate::proofs::FaultLemmas::unwritten))]
+fn check_reel<R: Files + Print + AllocGlobal>(rt: &R, reel: &ReelSource) -> Result<(), RunFault>
     ensures { IfErr result (IsUnmadeOf reel.now) }
 {
-    match reel {
-        ReelSource::New(name) => match check_new(rt, name.as_str()) {
-            Ok(()) => Ok(()),
-            Err(why) => Err(file_fault(rt.alloc(), name.as_str(), why)),
-        },
-        ReelSource::File(_) | ReelSource::Ringed(_) | ReelSource::Scratch => Ok(()),
+    let (name, checked) = match reel {
+        ReelSource::New(name) => (name, check_new(rt, name.as_str())),
+        ReelSource::Ringed(name) => (name, check_whole(rt, name.as_str())),
+        ReelSource::File(_) | ReelSource::Scratch => return Ok(()),
+    };
+    match checked {
+        Ok(()) => Ok(()),
+        Err(why) => Err(file_fault(rt.alloc(), name.as_str(), why)),
     }
 }
 
-/// Looks at the file of each new reel, which is made when the job has ended: whether it can be made. None is left.
+/// Looks at the file of each reel that is written when the job has ended: whether it can be made, or written if it is
+/// there. It stays as it is, and none is left where there was none.
 ///
 /// # Errors
 ///
-/// `Unwritten` if one can't be made, or `Memory`.
-pub(crate) fn check_new_reels<R: Files + AllocGlobal>(rt: &R, job: &Job) -> Result<(), RunFault>
+/// `Unwritten` if one can't be made or written, or `Memory`.
+pub(crate) fn check_reels<R: Files + Print + AllocGlobal>(rt: &R, job: &Job) -> Result<(), RunFault>
     ensures { IfErr result (IsNoStopOf job.now) }
 {
     let mut rest = job.reels.as_slice();
     while let [first, beyond @ ..] = rest {
-        match check_new_reel(rt, &first.reel) {
+        match check_reel(rt, &first.reel) {
             Ok(()) => {}
             Err(fault) => return Err(fault),
         }

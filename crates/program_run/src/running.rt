@@ -16,9 +16,7 @@ use crate::inputs::{Inputs, read_inputs};
 use crate::job_report::JobReport;
 use crate::loaded_image::store_image;
 use crate::one_file::check_names;
-use crate::outputs::{
-    NamedOutputs, Outputs, check_new_reels, check_outputs, create_outputs, fault_of,
-};
+use crate::outputs::{NamedOutputs, Outputs, check_outputs, check_reels, create_outputs, fault_of};
 use crate::reel_files::{NamedFiles, ReelFiles};
 use crate::reels::{read_reels, write_reels};
 use crate::stopped_at::RunSource;
@@ -236,7 +234,7 @@ fn make_ready<R: Files + Print + AllocGlobal>(
         Ok(()) => {}
         Err(fault) => return Err(fault),
     }
-    match check_new_reels(rt, job) {
+    match check_reels(rt, job) {
         Ok(()) => {}
         Err(fault) => return Err(fault),
     }

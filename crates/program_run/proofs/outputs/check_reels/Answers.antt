@@ -1,7 +1,7 @@
 -- The file of a reel that is left is one of those that a run writes.
 use Rattle.std.proofs.Common.{inr}
 use Rattle.program_run.proofs.FaultLemmas.{not_put_of, written_first}
-use Rattle.program_run.proofs.outputs.check_new_reels.Goals as goal
+use Rattle.program_run.proofs.outputs.check_reels.Goals as goal
 
 pub returns-in-Err : goal.returns-in-Err
 returns-in-Err g c =

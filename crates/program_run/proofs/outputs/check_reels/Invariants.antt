@@ -1,7 +1,7 @@
 -- A file that a reel is written to that is left is one of the reels.
 use Rattle.std.proofs.Common.{ℕ, List, length}
 use Rattle.program_run.specs.RunReels.{IsWrittenReel}
-use Rattle.program_run.proofs.outputs.check_new_reels.Given as goal
+use Rattle.program_run.proofs.outputs.check_reels.Given as goal
 
 abbrev pub invariant-loop-rest : goal.invariant-loop-rest
 invariant-loop-rest g l = record {
