@@ -10,6 +10,8 @@ pub mod LanguageLemmas
 pub mod NumbersLemmas
 mod LiteralExamples
 mod OperandExamples
+pub mod PrefixLemmas
+pub mod RowLemmas
 pub mod SizeLemmas
 mod SourceLineExamples
 pub mod SourceLineLemmas

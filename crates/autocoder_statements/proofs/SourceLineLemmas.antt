@@ -51,14 +51,19 @@ pub columns_stay : (columns : List ℕ) → length columns ≡ 80 → columns_of
 unfolding columns_of
 columns_stay columns full = rw (take_all 80 columns (omega (arith, full)), full) (append-nil columns)
 
--- a search for the first line feed finds how many bytes stand before it, or none
+-- a search for the first byte of a value finds how many bytes stand before it, or none
+pub before_byte : (byte : ℕ) (text : List ℕ) (found : Option ℕ) → IsFirstByte (is_byte byte) text found
+    → unwrap_or found (length text) ≡ position_or_len (λ (each : ℕ). each == byte) text
+before_byte byte text None none =
+    sym (position_or_len_is (λ (each : ℕ). each == byte) text (length text) 0 (omega arith)
+    (λ k inside. false_from_ne_true (get_or text k 0 == byte) (none k (omega arith) inside))
+    (λ inside. absurd (omega (arith, inside))))
+before_byte byte text (Some place) first =
+    sym (position_or_len_is (λ (each : ℕ). each == byte) text place 0 (omega (arith, first.0.high))
+    (λ k inside. false_from_ne_true (get_or text k 0 == byte) (first.0.before k (omega arith) inside))
+    (λ inside. first.1))
+
+-- the same of the first line feed
 pub before_line_feed : (source : List ℕ) (found : Option ℕ) → IsFirstByte (is_byte 10) source found
     → unwrap_or found (length source) ≡ position_or_len is_line_feed source
-before_line_feed source None none =
-    sym (position_or_len_is is_line_feed source (length source) 0 (omega arith)
-    (λ k inside. false_from_ne_true (is_line_feed (get_or source k 0)) (none k (omega arith) inside))
-    (λ inside. absurd (omega (arith, inside))))
-before_line_feed source (Some place) first =
-    sym (position_or_len_is is_line_feed source place 0 (omega (arith, first.0.high))
-    (λ k inside. false_from_ne_true (is_line_feed (get_or source k 0)) (first.0.before k (omega arith) inside))
-    (λ inside. first.1))
+before_line_feed source found first = before_byte 10 source found first

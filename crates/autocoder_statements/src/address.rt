@@ -1,15 +1,12 @@
 //! Addresses as the source writes them.
 ghost use Rattle.std.specs.Prelude.{◌≡◌, ◌<◌, ◌≤◌, ◌+ℤ◌, length, pos, slice_index};
-ghost use Rattle.std.specs.List.{prefix_len};
 ghost use Rattle.autocoder_statements.specs.Numbers.{greatest_number};
-ghost use Rattle.bcd_1401.specs.Digits.{is_digit};
-ghost use Rattle.autocoder_statements.specs.Label.{is_letter_or_digit};
 ghost use Rattle.autocoder_statements.specs.Address.{begins_with_asterisk, is_adjusted, adjustment_of, is_no_index};
 ghost use Rattle.autocoder_statements.specs.Address.{index_of};
 ghost use Rattle.autocoder_statements.specs.Address.{base_len, named_base, base_of, indexed, adjusted_by, adjusted};
 ghost use Rattle.autocoder_statements.specs.Address.{address_of};
 
-use crate::label::{Label, is_digit, is_letter_or_digit, register_of};
+use crate::label::{Label, digits_in_front, is_digit, letters_and_digits_in_front, register_of};
 use crate::language::Language;
 use crate::numbers::short_number;
 
@@ -38,24 +35,6 @@ pub struct Address {
     pub adjustment: i32,
     /// The number of the index register that it names, 0 for `+X0` in the wider language; nothing if it names none.
     pub index: Option<u8>,
-}
-
-/// How many letters and digits a text begins with.
-fn letters_and_digits_in_front(text: &[u8]) -> usize
-    ensures value { result ≡ prefix_len is_letter_or_digit text.now }
-    ensures bound { result ≤ length text.now }
-{
-    text.iter()
-        .take_while(|byte| is_letter_or_digit(**byte))
-        .count()
-}
-
-/// How many digits a text begins with.
-fn digits_in_front(text: &[u8]) -> usize
-    ensures value { result ≡ prefix_len is_digit text.now }
-    ensures bound { result ≤ length text.now }
-{
-    text.iter().take_while(|byte| is_digit(**byte)).count()
 }
 
 /// Whether a text begins with an asterisk.

@@ -1,9 +1,11 @@
 //! The columns of a line.
-ghost use Rattle.std.specs.Prelude.{◌≡◌, ◌+◌, ◌-◌, ◌<◌, ◌≤◌, ◌==◌, length, slice_range};
-ghost use Rattle.std.specs.List.{list_all};
+ghost use Rattle.std.specs.Prelude.{◌≡◌, ◌+◌, ◌-◌, ◌<◌, ◌≤◌, ◌==◌, length, drop, slice_range};
+ghost use Rattle.std.specs.List.{list_all, position_or_len, prefix_len};
 ghost use Rattle.autocoder_statements.specs.SourceLine.{padded, columns_of, columns_in, is_blank, is_printable};
 ghost use Rattle.autocoder_statements.specs.SourceLine.{is_graphic};
 ghost use Rattle.autocoder_statements.specs.SourceLine.{is_comment, has_foreign_bytes};
+
+use memchr::memchr;
 
 /// How many columns a line has.
 pub const COLUMNS: usize = 80;
@@ -37,15 +39,47 @@ pub(crate) fn columns_in(columns: &[u8; COLUMNS], first: usize, last: usize) -> 
     &columns[first - 1..last]
 }
 
+/// How many bytes of a text stand before the first of this value.
+#[tactic(auto, using(crate::proofs::SourceLineLemmas::before_byte))]
+pub(crate) fn bytes_before(byte: u8, text: &[u8]) -> usize
+    ensures value { result ≡ position_or_len (λ each. each == byte) text.now }
+    ensures bound { result ≤ length text.now }
+{
+    memchr(byte, text).unwrap_or(text.len())
+}
+
+/// How many blanks a text begins with.
+pub(crate) fn blanks_in_front(text: &[u8]) -> usize
+    ensures value { result ≡ prefix_len is_blank text.now }
+    ensures bound { result ≤ length text.now }
+{
+    let mut count = 0;
+    while count < text.len() && text[count] == b' ' {
+        count += 1;
+    }
+    count
+}
+
+/// A text without its first byte.
+pub(crate) fn without_first(text: &[u8]) -> &[u8]
+    ensures value { result.now ≡ drop 1 text.now }
+    ensures bound { length result.now ≤ length text.now }
+{
+    match text {
+        [_, more @ ..] => more,
+        [] => &[],
+    }
+}
+
 /// Whether the bytes are blanks.
 pub(crate) fn are_blank(text: &[u8]) -> bool
     ensures { result ≡ list_all is_blank text.now }
 {
-    text.iter().all(|byte| *byte == b' ')
+    blanks_in_front(text) == text.len()
 }
 
 /// Whether a byte can be printed: 32 to 126.
-fn is_printable(byte: u8) -> bool
+pub(crate) fn is_printable(byte: u8) -> bool
     ensures { result ≡ is_printable byte }
 {
     byte >= b' ' && byte <= b'~'

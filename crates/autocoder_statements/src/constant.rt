@@ -1,14 +1,12 @@
 //! Constants and literals.
 ghost use Rattle.std.specs.Prelude.{◌≡◌, ◌≤◌, length};
 ghost use Rattle.std.specs.Option.{option_map, ForSome};
-ghost use Rattle.std.specs.List.{position_or_len, list_all};
-ghost use Rattle.bcd_1401.specs.Digits.{is_digit};
 ghost use Rattle.autocoder_statements.specs.declared.constant.Constant.TheVariants.{Blanks};
-ghost use Rattle.autocoder_statements.specs.Constant.{is_at_sign, text_of, bytes_of, quoted, digits_in, constant_of};
+ghost use Rattle.autocoder_statements.specs.Constant.{text_of, bytes_of, quoted, digits_in, constant_of};
 ghost use Rattle.autocoder_statements.specs.Constant.{graphics_in};
 
-use crate::columns::padded;
-use crate::label::is_digit;
+use crate::columns::{bytes_before, padded};
+use crate::label::are_digits;
 use crate::numbers::number_between;
 
 /// The most graphics that the text of a constant may have.
@@ -18,7 +16,7 @@ pub const TEXT_LENGTH: usize = 50;
 const NUMBER_LENGTH: usize = 20;
 
 /// The text of a constant, of at most 50 graphics.
-#[derive(Clone, Copy, PartialEq, Eq, Hash)]
+#[derive(Clone, Copy, PartialEq, Eq)]
 pub struct Text {
     /// The graphics, filled up with blanks.
     pub bytes: [u8; 50],
@@ -61,31 +59,16 @@ pub enum Constant {
     Blanks(u8),
 }
 
-/// How many bytes of a text stand before its first at sign.
-fn bytes_before_at_sign(text: &[u8]) -> usize
-    ensures value { result ≡ position_or_len is_at_sign text.now }
-    ensures bound { result ≤ length text.now }
-{
-    text.iter().take_while(|byte| **byte != b'@').count()
-}
-
 /// The graphics between two at signs, the first of which comes before the text: one to fifty of them; none if it is
 /// anything else.
 fn quoted(text: &[u8]) -> Option<Text>
     ensures { result ≡ quoted text.now }
 {
-    let count = bytes_before_at_sign(text);
+    let count = bytes_before(b'@', text);
     if count == 0 || count > TEXT_LENGTH || count + 1 != text.len() {
         return None;
     }
     Some(Text::from_slice(&text[..count]))
-}
-
-/// Whether the bytes are digits.
-pub(crate) fn are_digits(text: &[u8]) -> bool
-    ensures { result ≡ list_all is_digit text.now }
-{
-    text.iter().all(|byte| is_digit(*byte))
 }
 
 /// A word of one to twenty digits, if it is one.

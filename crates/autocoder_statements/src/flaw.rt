@@ -1,5 +1,5 @@
 //! Which columns of a line are at fault.
-ghost use Rattle.std.specs.Prelude.{◌≡◌, ◌+◌, ◌-◌, ◌≤◌, length, drop, is_some};
+ghost use Rattle.std.specs.Prelude.{◌≡◌, ◌+◌, ◌-◌, ◌≤◌, length, is_some};
 ghost use Rattle.std.specs.List.{suffix_len, prefix_len};
 ghost use Rattle.autocoder_statements.specs.Flaw.{filled, first_without, foreign_column, sign_len};
 ghost use Rattle.autocoder_statements.specs.Flaw.{first_base, second_base, operation_flaw};
@@ -7,7 +7,10 @@ ghost use Rattle.autocoder_statements.specs.SourceLine.{is_blank, is_graphic, is
 ghost use Rattle.autocoder_statements.specs.SourceLine.{has_foreign_bytes};
 
 use crate::address::base_len;
-use crate::columns::{COLUMNS, are_blank, columns_in, columns_of, is_comment, is_graphic, padded};
+use crate::columns::{
+    COLUMNS, are_blank, blanks_in_front, columns_in, columns_of, is_comment, is_graphic,
+    is_printable, padded, without_first,
+};
 use crate::literal::is_sign;
 use crate::mnemonic::Operation;
 use crate::nearness::{nearest_mnemonic, word_in};
@@ -80,14 +83,6 @@ pub struct Flaw {
     pub kind: OperandFlaw,
 }
 
-/// How many blanks columns begin with.
-pub(crate) fn blanks_in_front(columns: &[u8]) -> usize
-    ensures value { result ≡ prefix_len is_blank columns.now }
-    ensures bound { result ≤ length columns.now }
-{
-    columns.iter().take_while(|byte| **byte == b' ').count()
-}
-
 /// How many columns there are without the blanks at the end.
 fn len_without_last_blanks(columns: &[u8]) -> usize
     ensures { result ≡ length columns.now - suffix_len is_blank columns.now }
@@ -155,10 +150,11 @@ fn printable_in_front(columns: &[u8]) -> usize
     ensures value { result ≡ prefix_len is_printable columns.now }
     ensures bound { result ≤ length columns.now }
 {
-    columns
-        .iter()
-        .take_while(|byte| **byte >= b' ' && **byte <= b'~')
-        .count()
+    let mut count = 0;
+    while count < columns.len() && is_printable(columns[count]) {
+        count += 1;
+    }
+    count
 }
 
 /// How many graphics columns begin with.
@@ -166,7 +162,11 @@ fn graphics_in_front(columns: &[u8]) -> usize
     ensures value { result ≡ prefix_len is_graphic columns.now }
     ensures bound { result ≤ length columns.now }
 {
-    columns.iter().take_while(|byte| is_graphic(**byte)).count()
+    let mut count = 0;
+    while count < columns.len() && is_graphic(columns[count]) {
+        count += 1;
+    }
+    count
 }
 
 /// The first of these columns, of which the first has this number, that holds a byte that can't be printed.
@@ -221,17 +221,6 @@ pub fn foreign_column(line: &[u8]) -> Option<u8>
 {
     let column = foreign_column_in(&columns_of(line));
     column
-}
-
-/// A text without its first byte.
-pub(crate) fn without_first(text: &[u8]) -> &[u8]
-    ensures value { result.now ≡ drop 1 text.now }
-    ensures bound { length result.now ≤ length text.now }
-{
-    match text {
-        [_, more @ ..] => more,
-        [] => &[],
-    }
 }
 
 /// How many columns a sign before an address has: one, or none without a sign.

@@ -1,12 +1,11 @@
 //! Labels.
 ghost use Rattle.std.specs.Prelude.{◌≡◌, ◌≤◌, length, slice_index};
-ghost use Rattle.std.specs.List.{position_or_len, list_all};
+ghost use Rattle.std.specs.List.{prefix_len, list_all};
 ghost use Rattle.bcd_1401.specs.Digits.{is_digit};
 ghost use Rattle.autocoder_statements.specs.Label.{is_letter, is_letter_or_digit, register_of, may_be_label, is_label};
 ghost use Rattle.autocoder_statements.specs.Label.{label_of, label_in, place_in};
-ghost use Rattle.autocoder_statements.specs.SourceLine.{is_blank};
 
-use crate::columns::{are_blank, padded};
+use crate::columns::{are_blank, bytes_before, padded};
 use crate::language::Language;
 use crate::numbers::short_number;
 
@@ -87,11 +86,42 @@ pub(crate) fn begins_with_letter(text: &[u8]) -> bool
     }
 }
 
+/// How many letters and digits a text begins with.
+pub(crate) fn letters_and_digits_in_front(text: &[u8]) -> usize
+    ensures value { result ≡ prefix_len is_letter_or_digit text.now }
+    ensures bound { result ≤ length text.now }
+{
+    let mut count = 0;
+    while count < text.len() && is_letter_or_digit(text[count]) {
+        count += 1;
+    }
+    count
+}
+
+/// How many digits a text begins with.
+pub(crate) fn digits_in_front(text: &[u8]) -> usize
+    ensures value { result ≡ prefix_len is_digit text.now }
+    ensures bound { result ≤ length text.now }
+{
+    let mut count = 0;
+    while count < text.len() && is_digit(text[count]) {
+        count += 1;
+    }
+    count
+}
+
 /// Whether the bytes are letters and digits.
 fn are_letters_and_digits(text: &[u8]) -> bool
     ensures { result ≡ list_all is_letter_or_digit text.now }
 {
-    text.iter().all(|byte| is_letter_or_digit(*byte))
+    letters_and_digits_in_front(text) == text.len()
+}
+
+/// Whether the bytes are digits.
+pub(crate) fn are_digits(text: &[u8]) -> bool
+    ensures { result ≡ list_all is_digit text.now }
+{
+    digits_in_front(text) == text.len()
 }
 
 /// Whether a word is a label.
@@ -117,20 +147,12 @@ impl Label {
     }
 }
 
-/// How many bytes of a text stand before its first blank.
-pub(crate) fn bytes_before_blank(text: &[u8]) -> usize
-    ensures value { result ≡ position_or_len is_blank text.now }
-    ensures bound { result ≤ length text.now }
-{
-    text.iter().take_while(|byte| **byte != b' ').count()
-}
-
 impl LabelField {
     /// What the columns for a label say.
     pub(crate) fn from_columns(language: Language, columns: &[u8]) -> LabelField
         ensures { result ≡ label_in language columns.now }
     {
-        let (word, beyond) = columns.split_at(bytes_before_blank(columns));
+        let (word, beyond) = columns.split_at(bytes_before(b' ', columns));
         if !are_blank(beyond) {
             return LabelField::Malformed;
         }
@@ -148,7 +170,7 @@ impl LabelField {
 pub(crate) fn place_in(columns: &[u8]) -> Option<u32>
     ensures { result ≡ place_in columns.now }
 {
-    let (word, beyond) = columns.split_at(bytes_before_blank(columns));
+    let (word, beyond) = columns.split_at(bytes_before(b' ', columns));
     if are_blank(beyond) {
         short_number(word)
     } else {

@@ -1,18 +1,8 @@
 //! The lines of a source.
-ghost use Rattle.std.specs.Prelude.{◌≡◌, ◌+◌, ◌<◌, ◌≤◌, [], ◌∷◌, length, IfSome, MatchOption};
-ghost use Rattle.std.specs.List.{position_or_len};
-ghost use Rattle.autocoder_statements.specs.SourceLine.{is_line_feed, without_return, lines_of};
+ghost use Rattle.std.specs.Prelude.{◌≡◌, ◌<◌, [], ◌∷◌, length, MatchOption};
+ghost use Rattle.autocoder_statements.specs.SourceLine.{without_return, lines_of};
 
-use memchr::memchr;
-
-/// How many bytes of a source stand before its first line feed.
-#[tactic(auto, using(crate::proofs::SourceLineLemmas::before_line_feed))]
-fn bytes_before_line_feed(source: &[u8]) -> usize
-    ensures value { result ≡ position_or_len is_line_feed source.now }
-    ensures bound { result ≤ length source.now }
-{
-    memchr(b'\n', source).unwrap_or(source.len())
-}
+use crate::columns::bytes_before;
 
 /// A line without the carriage return at its end, if it has one.
 fn without_return(line: &[u8]) -> &[u8]
@@ -33,7 +23,7 @@ pub fn split_line(source: &[u8]) -> Option<(&[u8], &[u8])>
     if source.is_empty() {
         return None;
     }
-    let count = bytes_before_line_feed(source);
+    let count = bytes_before(b'\n', source);
     if count == source.len() {
         return Some((source, &[]));
     }

@@ -1,12 +1,11 @@
 //! Literals: what an instruction names the address of, and the assembler places.
 ghost use Rattle.std.specs.Prelude.{◌≡◌, ◌==◌, ◌≤◌, length, slice_index};
-ghost use Rattle.std.specs.List.{position_or_len};
 ghost use Rattle.autocoder_statements.specs.Literal.{is_name, named, is_sign, signed_address, address_literal_of};
-ghost use Rattle.autocoder_statements.specs.Literal.{is_number_sign};
 ghost use Rattle.autocoder_statements.specs.Literal.{area_literal_of, wide_literal_of};
 ghost use Rattle.autocoder_statements.specs.Punctuation.{minus_sign};
 
 use crate::address::{Address, Base};
+use crate::columns::{bytes_before, without_first};
 use crate::constant::{Constant, TEXT_LENGTH};
 use crate::label::Label;
 use crate::language::Language;
@@ -96,14 +95,6 @@ pub(crate) fn begins_with_minus(text: &[u8]) -> bool
     }
 }
 
-/// How many bytes of a text stand before its first number sign.
-fn bytes_before_number_sign(text: &[u8]) -> usize
-    ensures value { result ≡ position_or_len is_number_sign text.now }
-    ensures bound { result ≤ length text.now }
-{
-    text.iter().take_while(|byte| **byte != b'#').count()
-}
-
 impl AddressLiteral {
     /// The address of a symbol with its sign that a word is, if it is one.
     fn from_word(word: &[u8]) -> Option<AddressLiteral>
@@ -122,9 +113,9 @@ impl AreaLiteral {
     fn from_word(word: &[u8]) -> Option<AreaLiteral>
         ensures { result ≡ area_literal_of word.now }
     {
-        let (symbol, beyond) = word.split_at(bytes_before_number_sign(word));
+        let (symbol, beyond) = word.split_at(bytes_before(b'#', word));
         let label = Label::from_word(Language::Ibm, symbol)?;
-        let places = number_between(1, TEXT_LENGTH as u32, beyond.get(1..).unwrap_or(&[]))?;
+        let places = number_between(1, TEXT_LENGTH as u32, without_first(beyond))?;
         Some(AreaLiteral {
             label,
             places: places as u8,

@@ -1,7 +1,7 @@
 //! The mnemonics: the words of columns 16 to 20.
-ghost use Rattle.std.specs.Prelude.{◌≡◌, find};
+ghost use Rattle.std.specs.Prelude.{◌≡◌, ℕ, List, find};
 ghost use Rattle.std.specs.Str.{bytes_eq};
-ghost use Rattle.autocoder_statements.specs.Mnemonic.{ARow, AnOwnRow, instructions, instruction_of};
+ghost use Rattle.autocoder_statements.specs.Mnemonic.{instructions, instruction_of};
 ghost use Rattle.autocoder_statements.specs.Mnemonic.{assembler_operations};
 ghost use Rattle.autocoder_statements.specs.Mnemonic.{assembler_operation_of, operation_of};
 
@@ -155,18 +155,42 @@ pub(crate) fn assembler_operations() -> &'static [OwnRow]
     &ASSEMBLER_OPERATIONS
 }
 
-/// The row of these columns.
-fn row_of(rows: &[Row], columns: &[u8]) -> Option<Row>
-    ensures { result ≡ find (λ (row : ARow). bytes_eq row.0 columns.now) rows.now }
-{
-    rows.iter().copied().find(|row| row.0.as_slice() == columns)
+/// A row of a table of mnemonics.
+pub(crate) trait Named: Copy {
+    ghost word: { Self → List ℕ };
+
+    /// The columns 16 to 20.
+    fn name(&self) -> [u8; 5]
+        ensures { result ≡ word self.now };
 }
 
-/// The row of these columns among the assembler's own.
-fn own_row_of(rows: &[OwnRow], columns: &[u8]) -> Option<OwnRow>
-    ensures { result ≡ find (λ (row : AnOwnRow). bytes_eq row.0 columns.now) rows.now }
+impl Named for Row {
+    ghost word = { λ row. row.0 };
+
+    fn name(&self) -> [u8; 5] {
+        self.0
+    }
+}
+
+impl Named for OwnRow {
+    ghost word = { λ row. row.0 };
+
+    fn name(&self) -> [u8; 5] {
+        self.0
+    }
+}
+
+/// The first row of these columns.
+#[tactic(auto, using(crate::proofs::RowLemmas::found_here, crate::proofs::RowLemmas::found_later))]
+pub(crate) fn row_of<R: Named>(rows: &[R], columns: &[u8]) -> Option<R>
+    ensures { result ≡ find (λ (row : R). bytes_eq (R.word row) columns.now) rows.now }
 {
-    rows.iter().copied().find(|row| row.0.as_slice() == columns)
+    for row in rows {
+        if row.name().as_slice() == columns {
+            return Some(*row);
+        }
+    }
+    None
 }
 
 /// The instruction that the columns ask for, if they ask for one.
@@ -186,7 +210,7 @@ fn instruction_of(columns: &[u8]) -> Option<Instruction>
 fn assembler_operation_of(columns: &[u8]) -> Option<Operation>
     ensures { result ≡ assembler_operation_of columns.now }
 {
-    match own_row_of(assembler_operations(), columns) {
+    match row_of(assembler_operations(), columns) {
         Some((_, operation)) => Some(operation),
         None => None,
     }

@@ -10,10 +10,10 @@ ghost use Rattle.autocoder_statements.specs.OperandsAtFault.{origin_flaw, addres
 ghost use Rattle.autocoder_statements.specs.OperandsAtFault.{flaw_with};
 ghost use Rattle.autocoder_statements.specs.OperandsAtFault.{operand_flaw};
 ghost use Rattle.autocoder_statements.specs.SourceLine.{columns_of};
+ghost use Rattle.autocoder_statements.specs.declared.language.Language.TheVariants as languages;
 
-use crate::columns::{columns_in, columns_of};
-use crate::flaw::{Flaw, OperandFlaw, Stretch, without_first};
-use crate::label::bytes_before_blank;
+use crate::columns::{bytes_before, columns_in, columns_of, without_first};
+use crate::flaw::{Flaw, OperandFlaw, Stretch};
 use crate::language::Language;
 use crate::literal::Literal;
 use crate::mnemonic::{Form, Operation};
@@ -49,7 +49,7 @@ fn flaw_beyond(skipped: usize, rest: &[u8]) -> Flaw
     if is_ended(rest) {
         flaw_after(skipped, 0, OperandFlaw::CharacterMissing)
     } else {
-        flaw_after(skipped, bytes_before_blank(rest), OperandFlaw::TooMuch)
+        flaw_after(skipped, bytes_before(b' ', rest), OperandFlaw::TooMuch)
     }
 }
 
@@ -140,7 +140,7 @@ pub(crate) fn lone_flaw(kind: OperandFlaw, skipped: usize, columns: &[u8]) -> Fl
     } else {
         flaw_after(
             skipped + count,
-            bytes_before_blank(beyond),
+            bytes_before(b' ', beyond),
             OperandFlaw::TooMuch,
         )
     }
@@ -207,14 +207,11 @@ pub(crate) fn value_flaw(language: Language, columns: &[u8]) -> Flaw
     one_address_flaw(OperandFlaw::NoValue, language, columns)
 }
 
-/// What is wrong with areas, or with the options after them.
-fn areas_flaw(language: Language, columns: &[u8]) -> Flaw
+/// What is wrong with areas in the wider language, or with the options after them.
+fn wide_areas_flaw(columns: &[u8]) -> Flaw
     requires { length columns.now ≤ 52 }
-    ensures { result ≡ areas_flaw language columns.now }
+    ensures { result ≡ areas_flaw languages.Ibm columns.now }
 {
-    if language == Language::Plain {
-        return lone_flaw(OperandFlaw::NoAreas, 0, columns);
-    }
     let count = operand_len(columns);
     if areas_of(&columns[..count]).is_none() {
         return flaw_after(0, count, OperandFlaw::NoAreas);
@@ -222,9 +219,20 @@ fn areas_flaw(language: Language, columns: &[u8]) -> Flaw
     let options = without_first(&columns[count..]);
     flaw_after(
         count + 1,
-        bytes_before_blank(options),
+        bytes_before(b' ', options),
         OperandFlaw::NoOptions,
     )
+}
+
+/// What is wrong with areas, or in the wider language with the options after them.
+fn areas_flaw(language: Language, columns: &[u8]) -> Flaw
+    requires { length columns.now ≤ 52 }
+    ensures { result ≡ areas_flaw language columns.now }
+{
+    match language {
+        Language::Plain => lone_flaw(OperandFlaw::NoAreas, 0, columns),
+        Language::Ibm => wide_areas_flaw(columns),
+    }
 }
 
 /// What is wrong with the next place that ORG says.

@@ -1,17 +1,18 @@
 //! What a line says, without its neighbours.
 ghost use Rattle.std.specs.Prelude.{◌≡◌, ◌≤◌, length};
-ghost use Rattle.std.specs.List.{position_or_len};
 ghost use Rattle.autocoder_statements.specs.Description.{describe, is_entry};
 ghost use Rattle.autocoder_statements.specs.Numbers.{number_between};
 ghost use Rattle.autocoder_statements.specs.Operands.{operands_of};
 ghost use Rattle.autocoder_statements.specs.Statement.{most_places, one_address};
-ghost use Rattle.autocoder_statements.specs.Statement.{is_x, areas_of, span_of, body_with, body_of, statement_of};
+ghost use Rattle.autocoder_statements.specs.Statement.{areas_of, span_of, body_with, body_of, statement_of};
 ghost use Rattle.autocoder_statements.specs.Statement.{bytes_with};
 ghost use Rattle.autocoder_statements.specs.Statement.{line_with, line_of, has_bad_operands, has_bad_label};
 ghost use Rattle.autocoder_statements.specs.Statement.{lacks_field_label};
 ghost use Rattle.autocoder_statements.specs.Statement.{label_of_line, is_end};
 
-use crate::columns::{COLUMNS, columns_in, columns_of, has_foreign_bytes, is_comment};
+use crate::columns::{
+    COLUMNS, bytes_before, columns_in, columns_of, has_foreign_bytes, is_comment, without_first,
+};
 use crate::constant::Constant;
 use crate::description::{Addressing, Description, LabelRule};
 use crate::label::{Label, LabelField};
@@ -199,21 +200,13 @@ pub(crate) const ONE_ADDRESS: Form = Form {
 /// How many places there can be in an area.
 pub(crate) const AREA_LENGTH: u32 = 999;
 
-/// How many bytes of a text stand before its first X.
-fn bytes_before_x(text: &[u8]) -> usize
-    ensures value { result ≡ position_or_len is_x text.now }
-    ensures bound { result ≤ length text.now }
-{
-    text.iter().take_while(|byte| **byte != b'X').count()
-}
-
 /// The areas that a word asks for: their number, an X, and their length.
 pub(crate) fn areas_of(word: &[u8]) -> Option<Areas>
     ensures { result ≡ areas_of word.now }
 {
-    let (count, beyond) = word.split_at(bytes_before_x(word));
+    let (count, beyond) = word.split_at(bytes_before(b'X', word));
     let count = number_between(1, 99, count)?;
-    let length = number_between(1, AREA_LENGTH, beyond.get(1..).unwrap_or(&[]))?;
+    let length = number_between(1, AREA_LENGTH, without_first(beyond))?;
     Some(Areas {
         count: count as u8,
         length: length as u16,

@@ -11,7 +11,9 @@ ghost use Rattle.autocoder_statements.specs.WideConstant.{only, constant_by, add
 ghost use Rattle.autocoder_statements.specs.WideConstant.{constant_of_address, has_cut_text, uncut_text_of};
 
 use crate::address::Address;
-use crate::constant::{Constant, TEXT_LENGTH, Text, are_digits};
+use crate::columns::bytes_before;
+use crate::constant::{Constant, TEXT_LENGTH, Text};
+use crate::label::are_digits;
 use crate::language::Language;
 use crate::literal::{begins_with_minus, signed_address};
 use crate::numbers::number_between;
@@ -59,7 +61,7 @@ fn whole_text(text: &[u8]) -> Option<Text>
 fn has_at_sign(text: &[u8]) -> bool
     ensures { result ≡ list_any is_at_sign text.now }
 {
-    text.iter().any(|byte| *byte == b'@')
+    bytes_before(b'@', text) < text.len()
 }
 
 /// Whether columns for operands hold a text, and another at sign in what follows it.

@@ -1,10 +1,9 @@
 //! The mnemonics of instructions in the wider language.
-ghost use Rattle.std.specs.Prelude.{◌≡◌, find};
-ghost use Rattle.std.specs.Str.{bytes_eq};
+ghost use Rattle.std.specs.Prelude.{◌≡◌};
 ghost use Rattle.autocoder_statements.specs.WideMnemonic.{wide_instructions, wide_row_of, form_in, form_among, form_by};
 
 use crate::mnemonic::DCharacter::{self, Fixed};
-use crate::mnemonic::Form;
+use crate::mnemonic::{Form, Named, row_of};
 use crate::operands::Operands;
 use crate::units::FirstOperand::{self, Address, Tape, Unit, UnitOrAddress};
 use machine_operations::mnemonics::{
@@ -111,14 +110,19 @@ pub(crate) fn wide_instructions() -> &'static [WideRow]
     &WIDE_INSTRUCTIONS
 }
 
+impl Named for WideRow {
+    ghost word = { λ row. row.0 };
+
+    fn name(&self) -> [u8; 5] {
+        self.0
+    }
+}
+
 /// The row of these columns.
 pub(crate) fn wide_row_of(columns: &[u8]) -> Option<WideRow>
     ensures { result ≡ wide_row_of columns.now }
 {
-    wide_instructions()
-        .iter()
-        .copied()
-        .find(|row| row.0.as_slice() == columns)
+    row_of(wide_instructions(), columns)
 }
 
 /// The form that the table says so.

@@ -2,17 +2,16 @@
 //! wrong with its operands.
 //!
 //! A new one is a row of the table here, a case of `with_wide_operation` and one of `wide_flaw_with`.
-ghost use Rattle.std.specs.Prelude.{◌≡◌, ◌≤◌, find, length};
-ghost use Rattle.std.specs.Option.{option_map};
-ghost use Rattle.std.specs.Str.{bytes_eq};
-ghost use Rattle.autocoder_statements.specs.WideOperation.{AWideOwnRow, wide_operations, wide_operation_of};
+ghost use Rattle.std.specs.Prelude.{◌≡◌, ◌≤◌, length};
+ghost use Rattle.autocoder_statements.specs.WideOperation.{wide_operations, wide_operation_of};
 ghost use Rattle.autocoder_statements.specs.WideOperation.{wide_body_with};
 ghost use Rattle.autocoder_statements.specs.WideOperation.{wide_flaw_with};
 
+use crate::columns::bytes_before;
 use crate::flaw::{Flaw, OperandFlaw};
 use crate::heading::names_autocoder;
-use crate::label::bytes_before_blank;
 use crate::language::Language;
+use crate::mnemonic::{Named, row_of};
 use crate::operands::Operands;
 use crate::operands_at_fault::{address_flaw, flaw_after, lone_flaw, origin_flaw, value_flaw};
 use crate::statement::{AddressConstant, Body, Chain, SizeField, SuffixField};
@@ -61,18 +60,19 @@ pub(crate) fn wide_operations() -> &'static [WideOwnRow]
     &WIDE_OPERATIONS
 }
 
-/// The row of these columns among the assembler's own operations.
-fn wide_own_row_of(rows: &[WideOwnRow], columns: &[u8]) -> Option<WideOwnRow>
-    ensures { result ≡ find (λ (row : AWideOwnRow). bytes_eq row.0 columns.now) rows.now }
-{
-    rows.iter().copied().find(|row| row.0.as_slice() == columns)
+impl Named for WideOwnRow {
+    ghost word = { λ row. row.0 };
+
+    fn name(&self) -> [u8; 5] {
+        self.0
+    }
 }
 
 /// What the columns ask for of the assembler itself, beside what they ask for in the plain language.
 pub(crate) fn wide_operation_of(columns: &[u8]) -> Option<WideOperation>
     ensures { result ≡ wide_operation_of columns.now }
 {
-    match wide_own_row_of(wide_operations(), columns) {
+    match row_of(wide_operations(), columns) {
         Some((_, operation)) => Some(operation),
         None => None,
     }
@@ -107,7 +107,7 @@ pub(crate) fn wide_flaw_with(operation: WideOperation, columns: &[u8]) -> Option
     let flaw = match operation {
         WideOperation::Heading => return None,
         WideOperation::Assembler => {
-            flaw_after(0, bytes_before_blank(columns), OperandFlaw::NoAssembler)
+            flaw_after(0, bytes_before(b' ', columns), OperandFlaw::NoAssembler)
         },
         WideOperation::Control => flaw_after(1, 1, OperandFlaw::NoSize),
         WideOperation::Suffix => lone_flaw(OperandFlaw::NoSuffix, 0, columns),

@@ -1,0 +1,14 @@
+-- The bytes so far pass, and those that pass after them are left to count.
+use Rattle.std.proofs.Common.{◌≡◌, ◌+◌, ◌-◌, ◌≤◌, length, drop}
+use Rattle.std.specs.List.{prefix_len}
+use Rattle.autocoder_statements.specs.SourceLine.{is_blank}
+use Rattle.autocoder_statements.proofs.columns.blanks_in_front.Given as goal
+
+abbrev pub invariant-loop-count : goal.invariant-loop-count
+invariant-loop-count l = record {
+  bound : l.count ≤ length l.text;
+  more : l.count + prefix_len is_blank (drop l.count l.text) ≡ prefix_len is_blank l.text;
+}
+
+abbrev pub decreases-loop-count : goal.decreases-loop-count
+decreases-loop-count l = length l.text - l.count
