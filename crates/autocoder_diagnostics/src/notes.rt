@@ -1,5 +1,5 @@
 //! What the lines of a source say of its labels, and which of the machine's indicators they can set.
-ghost use Rattle.std.specs.Prelude.{◌≡◌, ◌||◌, IfOk, IfErr, OnOk};
+ghost use Rattle.std.specs.Prelude.{◌≡◌, ◌||◌, false, IfOk, IfErr, OnOk};
 ghost use Rattle.std.specs.List.{list_any};
 ghost use Rattle.indexmap.specs.IndexSet.{contains};
 ghost use Rattle.autocoder_statements.specs.declared.label.Label.{Label as ALabel};
@@ -265,55 +265,29 @@ fn have_operation(operation: u8, lines: &Lines<'_>) -> bool
     false
 }
 
-/// The labels that these lines name.
-fn named_labels(
-    alloc: Global,
-    hashing: SourceHashing,
+/// Puts into three empty sets the labels that these lines name, those of their numbers without a sign, and those of fields
+/// into which they may bring a sign.
+fn note_lines(
+    named: &mut LabelSet,
+    numbers: &mut LabelSet,
+    signed: &mut LabelSet,
     lines: &Lines<'_>,
-) -> Result<LabelSet, AsmFault>
-    ensures labels { IfOk result (λ labels. (label : ALabel)
-        → contains same_label labels label ≡ is_named lines.now label) }
+) -> Result<(), AsmFault>
+    requires none_named { (label : ALabel) → contains same_label named.old label ≡ false }
+    requires none_numbers { (label : ALabel) → contains same_label numbers.old label ≡ false }
+    requires none_signed { (label : ALabel) → contains same_label signed.old label ≡ false }
+    ensures named { OnOk result ((label : ALabel) → contains same_label named.new label ≡ is_named lines.now label) }
+    ensures numbers { OnOk result ((label : ALabel) → contains same_label numbers.new label ≡ is_number_of lines.now label) }
+    ensures signed { OnOk result ((label : ALabel) → contains same_label signed.new label ≡ is_signed lines.now label) }
     ensures err { IfErr result IsMemory }
 {
-    let mut labels = IndexSet::with_hasher(alloc, hashing);
     for i in 0..lines.len() {
-        note_named(&mut labels, &lines.line(i))?;
+        let line = lines.line(i);
+        note_named(named, &line)?;
+        note_number(numbers, &line)?;
+        note_signed(signed, &line)?;
     }
-    Ok(labels)
-}
-
-/// The labels of the numbers without a sign in these lines.
-fn number_labels(
-    alloc: Global,
-    hashing: SourceHashing,
-    lines: &Lines<'_>,
-) -> Result<LabelSet, AsmFault>
-    ensures labels { IfOk result (λ labels. (label : ALabel)
-        → contains same_label labels label ≡ is_number_of lines.now label) }
-    ensures err { IfErr result IsMemory }
-{
-    let mut labels = IndexSet::with_hasher(alloc, hashing);
-    for i in 0..lines.len() {
-        note_number(&mut labels, &lines.line(i))?;
-    }
-    Ok(labels)
-}
-
-/// The labels of fields into which these lines may bring a sign.
-fn signed_labels(
-    alloc: Global,
-    hashing: SourceHashing,
-    lines: &Lines<'_>,
-) -> Result<LabelSet, AsmFault>
-    ensures labels { IfOk result (λ labels. (label : ALabel)
-        → contains same_label labels label ≡ is_signed lines.now label) }
-    ensures err { IfErr result IsMemory }
-{
-    let mut labels = IndexSet::with_hasher(alloc, hashing);
-    for i in 0..lines.len() {
-        note_signed(&mut labels, &lines.line(i))?;
-    }
-    Ok(labels)
+    Ok(())
 }
 
 impl Notes {
@@ -326,9 +300,10 @@ impl Notes {
         ensures ok { IfOk result (λ notes. known_of notes ≡ known_in lines.now) }
         ensures err { IfErr result IsMemory }
     {
-        let named = named_labels(alloc, hashing, lines)?;
-        let numbers = number_labels(alloc, hashing, lines)?;
-        let signed = signed_labels(alloc, hashing, lines)?;
+        let mut named = IndexSet::with_hasher(alloc, hashing);
+        let mut numbers = IndexSet::with_hasher(alloc, hashing);
+        let mut signed = IndexSet::with_hasher(alloc, hashing);
+        note_lines(&mut named, &mut numbers, &mut signed, lines)?;
         Ok(Notes {
             named,
             numbers,
