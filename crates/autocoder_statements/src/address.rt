@@ -68,7 +68,10 @@ fn named_base(language: Language, word: &[u8]) -> Option<Base>
             return Some(Base::Register(number));
         }
     }
-    Label::from_word(language, word).map(Base::Symbol)
+    match Label::from_word(language, word) {
+        Some(label) => Some(Base::Symbol(label)),
+        None => None,
+    }
 }
 
 /// The base that a word is, if it is one.

@@ -1,6 +1,7 @@
 //! The operands of CTL, SFX and CHAIN.
 ghost use Rattle.std.specs.Prelude.{◌≡◌};
 ghost use Rattle.autocoder_statements.specs.Numbers.{number_between};
+ghost use Rattle.autocoder_statements.specs.Description.{is_malformed_size, is_malformed_suffix};
 ghost use Rattle.autocoder_statements.specs.Control.{size_by, size_in, suffix_of, suffix_in, chain_in};
 
 use crate::label::is_letter_or_digit;
@@ -25,6 +26,13 @@ impl SizeField {
         }
     }
 
+    /// Whether it is no size, and yet not nothing.
+    pub(crate) fn is_malformed(self) -> bool
+        ensures { result ≡ is_malformed_size self }
+    {
+        matches!(self, SizeField::Malformed)
+    }
+
     /// What the columns for operands say.
     pub(crate) fn from_columns(columns: &[u8]) -> SizeField
         ensures { result ≡ size_in columns.now }
@@ -45,6 +53,13 @@ impl SuffixField {
             [graphic] if is_letter_or_digit(*graphic) => SuffixField::Suffix(*graphic),
             _ => SuffixField::Malformed,
         }
+    }
+
+    /// Whether it is no suffix, and yet not nothing.
+    pub(crate) fn is_malformed(self) -> bool
+        ensures { result ≡ is_malformed_suffix self }
+    {
+        matches!(self, SuffixField::Malformed)
     }
 
     /// What the columns for operands say.

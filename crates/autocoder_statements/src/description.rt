@@ -3,7 +3,7 @@
 //! A new kind of statement is a new row. What the assembler does with a statement, it does by the columns.
 ghost use Rattle.std.specs.Prelude.{◌≡◌};
 ghost use Rattle.autocoder_statements.specs.Description.{field_row, equate_row, origin_row, execute_row, end_row};
-ghost use Rattle.autocoder_statements.specs.Description.{places_of_constant, first_place, placed_row};
+ghost use Rattle.autocoder_statements.specs.Description.{places_of_constant, first_place, placed_row, remark};
 ghost use Rattle.autocoder_statements.specs.Description.{describe, operands_in, body_under};
 ghost use Rattle.autocoder_statements.specs.AreaLiterals.{areas_of_body};
 ghost use Rattle.autocoder_statements.specs.declared.statement.Body.TheVariants as bodies;
@@ -169,14 +169,6 @@ const PLAIN: Description = Description {
     contents: Contents::Nothing,
     relation: Relation::Apart,
     is_remark: false,
-};
-
-/// What the row of a remark says in the columns that it doesn't name.
-const REMARK: Description = Description {
-    label: LabelRule::Forbidden,
-    areas: AreaRole::Keeps,
-    is_remark: true,
-    ..PLAIN
 };
 
 /// The row of a field of areas with this rule of its label.
@@ -379,16 +371,19 @@ fn origin_row(
     }
 }
 
-/// The row of EX, whose operands are as it asks or not.
-fn execute_row(operands: &Operands, is_well_formed: bool) -> Description
-    ensures { result ≡ record (execute_row operands.now) { is_well_formed = is_well_formed } }
+/// The row of EX and XFR, whose operands are as it asks or not.
+fn execute_row(operands: &Operands, is_well_formed: bool, next: Next) -> Description
+    ensures { result ≡ record (execute_row operands.now) {
+      is_well_formed = is_well_formed;
+      next = next;
+    } }
 {
     Description {
         is_well_formed,
         label: LabelRule::Forbidden,
         shows: Point::Value,
         addressing: Addressing::Value(*operands),
-        next: Next::Literals,
+        next,
         ..PLAIN
     }
 }
@@ -407,58 +402,22 @@ fn end_row(operands: &Operands, is_well_formed: bool) -> Description
     }
 }
 
-/// The row of JOB, or ENT with the assembler's name.
-fn heading_row(is_well_formed: bool) -> Description
-    ensures { result ≡ describe (bodies.Heading is_well_formed) }
+/// The row of a remark, whose operation is known or not, and whose operands are as it asks or not, with this relation to
+/// the lines around it.
+fn remark_row(is_known: bool, is_well_formed: bool, relation: Relation) -> Description
+    ensures { result ≡ record remark {
+      is_known = is_known;
+      is_well_formed = is_well_formed;
+      relation = relation;
+    } }
 {
     Description {
+        is_known,
         is_well_formed,
-        ..REMARK
-    }
-}
-
-/// The row of CTL.
-fn control_row(size: SizeField) -> Description
-    ensures { result ≡ describe (bodies.Control size) }
-{
-    Description {
-        is_well_formed: !matches!(size, SizeField::Malformed),
-        relation: Relation::Control(size),
-        ..REMARK
-    }
-}
-
-/// The row of a second CTL.
-fn second_control_row() -> Description
-    ensures { result ≡ describe bodies.SecondControl }
-{
-    Description {
-        is_known: false,
-        relation: Relation::SecondControl,
-        ..REMARK
-    }
-}
-
-/// The row of SFX.
-fn suffix_row(suffix: SuffixField) -> Description
-    ensures { result ≡ describe (bodies.Suffix suffix) }
-{
-    Description {
-        is_well_formed: !matches!(suffix, SuffixField::Malformed),
-        relation: Relation::Suffix(suffix),
-        ..REMARK
-    }
-}
-
-/// The row of XFR.
-fn transfer_row(operands: &Operands) -> Description
-    ensures { result ≡ describe (bodies.Transfer operands.now) }
-{
-    Description {
-        is_well_formed: operands.are_wide_value(),
         label: LabelRule::Forbidden,
-        shows: Point::Value,
-        addressing: Addressing::Value(*operands),
+        areas: AreaRole::Keeps,
+        relation,
+        is_remark: true,
         ..PLAIN
     }
 }
@@ -536,15 +495,27 @@ impl Body {
                 LabelRule::Optional,
                 Next::LiteralsAtValue,
             ),
-            Body::Execute(operands) => execute_row(operands, operands.are_value()),
-            Body::WideExecute(operands) => execute_row(operands, operands.are_wide_value()),
+            Body::Execute(operands) => execute_row(operands, operands.are_value(), Next::Literals),
+            Body::WideExecute(operands) => execute_row(
+                operands,
+                operands.are_wide_value(),
+                Next::Literals,
+            ),
             Body::End(operands) => end_row(operands, operands.are_value()),
             Body::WideEnd(operands) => end_row(operands, operands.are_wide_entry()),
-            Body::Heading(is_well_formed) => heading_row(*is_well_formed),
-            Body::Control(size) => control_row(*size),
-            Body::SecondControl => second_control_row(),
-            Body::Suffix(suffix) => suffix_row(*suffix),
-            Body::Transfer(operands) => transfer_row(operands),
+            Body::Heading(is_well_formed) => remark_row(true, *is_well_formed, Relation::Apart),
+            Body::Control(size) => remark_row(true, !size.is_malformed(), Relation::Control(*size)),
+            Body::SecondControl => remark_row(false, true, Relation::SecondControl),
+            Body::Suffix(suffix) => remark_row(
+                true,
+                !suffix.is_malformed(),
+                Relation::Suffix(*suffix),
+            ),
+            Body::Transfer(operands) => execute_row(
+                operands,
+                operands.are_wide_value(),
+                Next::Beyond,
+            ),
             Body::Chain(chain) => chain_row(*chain),
             Body::AddressConstant(constant) => address_constant_row(constant),
             Body::Blanks(places) => blanks_row(*places),

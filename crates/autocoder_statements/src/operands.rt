@@ -128,7 +128,10 @@ impl Operand {
     {
         match word {
             [b'@' | b'+' | b'-', ..] => Operand::constant(Constant::from_word(word)),
-            _ => Address::from_word(language, word).map(Operand::Address),
+            _ => match Address::from_word(language, word) {
+                Some(address) => Some(Operand::Address(address)),
+                None => None,
+            },
         }
     }
 
