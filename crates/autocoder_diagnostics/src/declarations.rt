@@ -36,8 +36,8 @@ impl Declarations {
         ensures anywhere { IfOk result (λ this. anywhere_of this ≡ sites_anywhere lines.now) }
         ensures err { IfErr result IsMemory }
     {
-        let symbols = declared(alloc, hashing, language, lines)?;
         let beyond_end = sites_beyond_end(alloc, hashing, lines)?;
+        let symbols = declared(alloc, hashing, language, lines)?;
         Ok(Declarations {
             symbols,
             beyond_end,
