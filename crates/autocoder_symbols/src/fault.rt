@@ -4,44 +4,34 @@ ghost use Rattle.autocoder_symbols.specs.Fault.{rank};
 ghost use Rattle.autocoder_symbols.specs.declared.fault.AsmKind.TheVariants.{Memory};
 
 use std::alloc::{AllocError, AllocFailed};
+use std::{error, fmt};
 use thiserror::Error;
 
 /// The kinds of fault, the lowest first. The whole source is searched for kinds 2 to 8, 10 and 11; only a source
 /// without any of them is placed, and then searched for kind 9.
-#[derive(Clone, Copy, Debug, PartialEq, Eq, Error)]
+#[derive(Clone, Copy, Debug, PartialEq, Eq)]
 pub enum AsmKind {
     /// 1: memory was refused, or the source has more than 4,294,967,295 bytes.
-    #[error("1 MEMORY")]
     Memory = 1,
     /// 2: a line has more than 80 bytes.
-    #[error("2 LONG LINE")]
     LongLine = 2,
     /// 3: a byte can't stand in its column.
-    #[error("3 GRAPHIC")]
     Graphic = 3,
     /// 4: columns 6 to 15 hold no label, or lack one, or hold one that may not be there.
-    #[error("4 LABEL")]
     Label = 4,
     /// 5: a label, or the symbol of an area literal, is declared already.
-    #[error("5 DOUBLE LABEL")]
     DoubleLabel = 5,
     /// 6: columns 16 to 20 hold no operation, or a field has no areas above it.
-    #[error("6 OPERATION")]
     Operation = 6,
     /// 7: a symbol is the label of no line; or its value isn't known where it has to be, as for ORG.
-    #[error("7 UNDEFINED")]
     Undefined = 7,
     /// 8: the operands aren't as the operation asks.
-    #[error("8 OPERAND")]
     Operand = 8,
     /// 9: a place or an address isn't in core.
-    #[error("9 OUT OF CORE")]
     OutOfCore = 9,
     /// 10: there is no END.
-    #[error("10 NO END")]
     NoEnd = 10,
     /// 11: a line after END is no comment.
-    #[error("11 AFTER END")]
     AfterEnd = 11,
 }
 
@@ -52,7 +42,32 @@ impl AsmKind {
     {
         self as u8
     }
+
+    /// The number and the name, as they are printed.
+    fn text(self) -> &'static str {
+        match self {
+            AsmKind::Memory => "1 MEMORY",
+            AsmKind::LongLine => "2 LONG LINE",
+            AsmKind::Graphic => "3 GRAPHIC",
+            AsmKind::Label => "4 LABEL",
+            AsmKind::DoubleLabel => "5 DOUBLE LABEL",
+            AsmKind::Operation => "6 OPERATION",
+            AsmKind::Undefined => "7 UNDEFINED",
+            AsmKind::Operand => "8 OPERAND",
+            AsmKind::OutOfCore => "9 OUT OF CORE",
+            AsmKind::NoEnd => "10 NO END",
+            AsmKind::AfterEnd => "11 AFTER END",
+        }
+    }
 }
+
+impl fmt::Display for AsmKind {
+    fn fmt<W: fmt::Write>(&self, f: &mut fmt::Formatter<W>) -> fmt::Result {
+        f.write_str(self.text())
+    }
+}
+
+impl error::Error for AsmKind {}
 
 /// The first line with a fault, counted from 1, and its lowest kind. With Memory the line is 0.
 #[derive(Clone, Copy, Debug, PartialEq, Eq, Error)]

@@ -1,5 +1,5 @@
 -- One link more is joined.
-use Rattle.std.proofs.Common.{◌<◌, ◌≡◌, [], get_or, length, pos, set, None, Option, ℕ, ap, ◌∙◌, arith}
+use Rattle.std.proofs.Common.{◌<◌, [], get_or, length, pos, set, None, Option, ℕ, ap, ◌∙◌, arith}
 use Rattle.std.proofs.lemmas.List.{get_or_default}
 use Rattle.std.proofs.lemmas.List.Edits.{map_over_more}
 use Rattle.autocoder_symbols.specs.Chains.{joined}
