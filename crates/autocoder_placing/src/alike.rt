@@ -1,14 +1,7 @@
 //! Whether literals are written alike.
 ghost use Rattle.std.specs.Prelude.{◌≡◌, IsTrue};
 
-use autocoder_statements::{Address, AddressLiteral, AreaLiteral, Base, Constant, Literal, Text};
-
-/// Whether two texts are the same.
-fn are_one_text(one: Text, other: Text) -> bool
-    ensures { IsTrue result → one ≡ other }
-{
-    one == other
-}
+use autocoder_statements::{Address, Base, Constant, Literal};
 
 /// Whether two constants are written alike.
 fn are_one_constant(one: Constant, other: Constant) -> bool
@@ -18,7 +11,7 @@ fn are_one_constant(one: Constant, other: Constant) -> bool
         (Constant::Text(one), Constant::Text(other))
         | (Constant::Number(one), Constant::Number(other))
         | (Constant::Plus(one), Constant::Plus(other))
-        | (Constant::Minus(one), Constant::Minus(other)) => are_one_text(one, other),
+        | (Constant::Minus(one), Constant::Minus(other)) => one == other,
         (Constant::Blanks(one), Constant::Blanks(other)) => one == other,
         (_, _) => false,
     }
@@ -57,28 +50,16 @@ fn are_one_address(one: Address, other: Address) -> bool
         && are_one_index(one.index, other.index)
 }
 
-/// Whether two addresses are written alike as literals.
-fn are_one_signed_address(one: AddressLiteral, other: AddressLiteral) -> bool
-    ensures { IsTrue result → one ≡ other }
-{
-    one.is_negative == other.is_negative && are_one_address(one.address, other.address)
-}
-
-/// Whether two areas are written alike.
-fn are_one_area(one: AreaLiteral, other: AreaLiteral) -> bool
-    ensures { IsTrue result → one ≡ other }
-{
-    one == other
-}
-
 /// Whether two literals are written alike.
 pub(crate) fn are_alike(one: Literal, other: Literal) -> bool
     ensures { IsTrue result → one ≡ other }
 {
     match (one, other) {
         (Literal::Constant(one), Literal::Constant(other)) => are_one_constant(one, other),
-        (Literal::Address(one), Literal::Address(other)) => are_one_signed_address(one, other),
-        (Literal::Area(one), Literal::Area(other)) => are_one_area(one, other),
+        (Literal::Address(one), Literal::Address(other)) => {
+            one.is_negative == other.is_negative && are_one_address(one.address, other.address)
+        },
+        (Literal::Area(one), Literal::Area(other)) => one == other,
         (_, _) => false,
     }
 }

@@ -17,7 +17,7 @@ ghost use Rattle.autocoder_placing.specs.Placement.{address_unit, pending, start
 ghost use Rattle.autocoder_placing.specs.View.{places_of};
 
 use crate::characters::{Characters, char_of, char_with};
-use crate::lengths::{instruction_length, last_place};
+use crate::lengths::{contents_length, last_place};
 use crate::literals::LiteralKey;
 use crate::placing::Placing;
 use autocoder_statements::{
@@ -74,14 +74,14 @@ fn put_marked(out: &mut Vec<Cell>, codes: &[u8]) -> Result<(), AsmFault>
     ensures ok { OnOk result (out.new.items ≡ out.old.items ++ with_word_mark (map char_with codes.now)) }
     ensures err { IfErr result IsMemory }
 {
-    if let [first, more @ ..] = codes {
-        out.push(Cell {
-            char: char_with(*first),
-            mark: true,
-        })?;
-        put_codes(out, more)?;
-    }
-    Ok(())
+    let [first, more @ ..] = codes else {
+        return Ok(());
+    };
+    out.push(Cell {
+        char: char_with(*first),
+        mark: true,
+    })?;
+    put_codes(out, more)
 }
 
 /// The characters of an input-output unit.
@@ -132,12 +132,13 @@ impl Placing<'_> {
             (address_unit (symbols_of (places_of self.now)) address) address)) }
         ensures err { IfErr result IsMemory }
     {
-        if let Some(unit) = self.address_unit(address) {
-            return put_chars(out, &unit_chars(unit));
+        match self.address_unit(address) {
+            Some(unit) => put_chars(out, &unit_chars(unit)),
+            None => {
+                let chars = self.signed_address(here, false, address)?;
+                put_chars(out, &chars)
+            },
         }
-        let value = self.address_value(here, address)?;
-        let index = self.address_index(address);
-        put_chars(out, &address_chars(address_or_zero(value), index))
     }
 
     /// Puts an operand.
@@ -175,8 +176,7 @@ impl Placing<'_> {
         ensures err { IfErr result IsMemory }
     {
         self.put_operand(here, operands.a, out)?;
-        self.put_operand(here, operands.b, out)?;
-        Ok(())
+        self.put_operand(here, operands.b, out)
     }
 
     /// The address of the next place; 0 if it is none.
@@ -214,8 +214,7 @@ impl Placing<'_> {
             mark: true,
         })?;
         self.put_operands(here, operands, out)?;
-        put_d(operands.d, out)?;
-        Ok(())
+        put_d(operands.d, out)
     }
 
     /// The characters of an address with a sign, once all is placed, with this place for an asterisk.
@@ -472,19 +471,16 @@ pub fn put_contents(
         ≡ out.old.items ++ contents_cells (places_of all.now) (places_of so_far.now) contents.now lines.now) }
     ensures err { IfErr result IsMemory }
 {
+    let last = last_place(so_far.next, contents_length(contents))?;
     match *contents {
         Contents::Instruction(instruction, operands) => {
-            let last = last_place(so_far.next, instruction_length(operands))?;
             all.put_instruction(last, instruction, operands, out)
         },
         Contents::MarkedConstant(constant) => put_constant(constant, true, out),
         Contents::Constant(constant) => put_constant(constant, false, out),
         Contents::Areas(areas) => put_areas(alloc, areas, lines, out),
         Contents::Chain(chain) => put_chain(chain, out),
-        Contents::AddressConstant(constant) => {
-            let last = last_place(so_far.next, 3)?;
-            all.put_address_constant(last, constant, out)
-        },
+        Contents::AddressConstant(constant) => all.put_address_constant(last, constant, out),
         Contents::Nothing | Contents::Space(_) => Ok(()),
     }
 }

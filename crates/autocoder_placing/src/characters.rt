@@ -1,6 +1,6 @@
 //! The characters of constants.
 ghost use Rattle.std.specs.Prelude.{◌≡◌, ◌<◌, map, take};
-ghost use Rattle.autocoder_placing.specs.Characters.{char_of, unsigned, over_units, with_sign, characters_of};
+ghost use Rattle.autocoder_placing.specs.Characters.{char_of, over_units, with_sign, characters_of};
 ghost use Rattle.autocoder_placing.specs.Characters.{char_with};
 
 use autocoder_statements::{Constant, Text};
@@ -42,16 +42,6 @@ fn codes_of(graphics: &[u8; 50]) -> [u8; 50]
     codes
 }
 
-/// The characters of a text without a sign.
-fn unsigned(text: Text) -> Characters
-    ensures { result ≡ unsigned text }
-{
-    Characters {
-        codes: codes_of(&text.bytes),
-        len: text.len,
-    }
-}
-
 /// Codes, with a zone over one of them.
 fn over_units(codes: [u8; 50], units: usize, zone: u8) -> [u8; 50]
     requires { zone < 4 }
@@ -82,7 +72,10 @@ impl Characters {
         ensures { result ≡ characters_of constant }
     {
         match constant {
-            Constant::Text(text) | Constant::Number(text) => unsigned(text),
+            Constant::Text(text) | Constant::Number(text) => Characters {
+                codes: codes_of(&text.bytes),
+                len: text.len,
+            },
             Constant::Plus(digits) => with_sign(digits, PLUS),
             Constant::Minus(digits) => with_sign(digits, MINUS),
             Constant::Blanks(len) => Characters {

@@ -3,7 +3,7 @@ ghost use Rattle.std.specs.Prelude.{◌≡◌, fold, IfOk, IfErr, OnOk};
 ghost use Rattle.autocoder_symbols.specs.Fault.{IsMemory};
 ghost use Rattle.autocoder_placing.specs.Cells.{address_or_zero, numbered, row_cells, statement_cells, cells_from};
 ghost use Rattle.autocoder_placing.specs.Filling.{with_cell, filled, filled_by};
-ghost use Rattle.autocoder_placing.specs.Placement.{placed_after, placed, start_by, start_of};
+ghost use Rattle.autocoder_placing.specs.Placement.{placed_after, placed, start_by, start_of, unplaced};
 ghost use Rattle.autocoder_placing.specs.View.{places_of};
 
 use crate::cells::cells_of;
@@ -138,6 +138,21 @@ fn put_lines(
     Ok(())
 }
 
+/// Puts the cells of all lines, once all is placed.
+fn put_all(
+    alloc: Global,
+    all: &Placing<'_>,
+    lines: &Lines<'_>,
+    storage: &mut [Cell],
+) -> Result<(), AsmFault>
+    ensures storage { OnOk result (storage.new ≡ fold with_cell storage.old
+        (cells_from (places_of all.now) (unplaced (places_of all.now)) lines.now)) }
+    ensures err { IfErr result IsMemory }
+{
+    let mut so_far = all.again(alloc);
+    put_lines(alloc, all, &mut so_far, lines, storage)
+}
+
 /// Core storage of this size as the cells of lines fill it, once all is placed.
 ///
 /// # Errors
@@ -154,7 +169,6 @@ pub fn fill(
     ensures err { IfErr result IsMemory }
 {
     let mut storage = vec![in alloc; Cell::BLANK; usize::from(size)]?;
-    let mut so_far = all.again(alloc);
-    put_lines(alloc, all, &mut so_far, lines, &mut storage)?;
+    put_all(alloc, all, lines, &mut storage)?;
     Ok(storage)
 }

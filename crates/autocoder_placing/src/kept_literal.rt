@@ -1,10 +1,11 @@
 //! Literals in few bytes: most of them are short.
-ghost use Rattle.std.specs.Prelude.{◌≡◌, IfSome, IfOk};
+ghost use Rattle.std.specs.Prelude.{◌≡◌, IfOk};
 ghost use Rattle.std.specs.Cmp.{on_equiv, on_per};
 ghost use Rattle.autocoder_placing.specs.KeptLiteral.{literal_in, text_in};
 ghost use Rattle.autocoder_placing.specs.Literals.{key_input, key_laws, key_of, key_partial_laws, key_respects};
 ghost use Rattle.autocoder_placing.specs.Literals.{same_key};
 
+use crate::alike::are_alike;
 use crate::literals::LiteralKey;
 use autocoder_statements::{AddressLiteral, AreaLiteral, Constant, Literal, Text};
 use std::alloc::{AllocError, Global};
@@ -61,20 +62,13 @@ impl Model for KeptLiteral {
 }
 
 impl ShortText {
-    /// A text, if it is short.
-    fn from_text(text: Text) -> Option<ShortText>
-        ensures { IfSome result (λ short. text_in short ≡ text) }
-    {
+    /// As much of a text as is kept of a short one.
+    fn cut(text: Text) -> ShortText {
         let mut bytes = [b' '; 14];
         bytes.copy_from_slice(&text.bytes[..SHORT_LENGTH]);
-        let short = ShortText {
+        ShortText {
             bytes,
             len: text.len,
-        };
-        if short.text() == text {
-            Some(short)
-        } else {
-            None
         }
     }
 
@@ -92,27 +86,16 @@ impl ShortText {
 }
 
 impl Form {
-    /// A constant, if it is short.
-    fn from_constant(constant: Constant) -> Option<Form>
-        ensures { IfSome result (λ form. literal_in form ≡ Literal.Constant constant) }
-    {
-        match constant {
-            Constant::Text(text) => Some(Form::Text(ShortText::from_text(text)?)),
-            Constant::Number(digits) => Some(Form::Number(ShortText::from_text(digits)?)),
-            Constant::Plus(digits) => Some(Form::Plus(ShortText::from_text(digits)?)),
-            Constant::Minus(digits) => Some(Form::Minus(ShortText::from_text(digits)?)),
-            Constant::Blanks(count) => Some(Form::Blanks(count)),
-        }
-    }
-
-    /// A literal, if it is short.
-    fn from_literal(literal: Literal) -> Option<Form>
-        ensures { IfSome result (λ form. literal_in form ≡ literal) }
-    {
+    /// A literal as a short one, with as much of its text as is kept then.
+    fn cut(literal: Literal) -> Form {
         match literal {
-            Literal::Constant(constant) => Form::from_constant(constant),
-            Literal::Address(literal) => Some(Form::Address(literal)),
-            Literal::Area(literal) => Some(Form::Area(literal)),
+            Literal::Constant(Constant::Text(text)) => Form::Text(ShortText::cut(text)),
+            Literal::Constant(Constant::Number(digits)) => Form::Number(ShortText::cut(digits)),
+            Literal::Constant(Constant::Plus(digits)) => Form::Plus(ShortText::cut(digits)),
+            Literal::Constant(Constant::Minus(digits)) => Form::Minus(ShortText::cut(digits)),
+            Literal::Constant(Constant::Blanks(count)) => Form::Blanks(count),
+            Literal::Address(literal) => Form::Address(literal),
+            Literal::Area(literal) => Form::Area(literal),
         }
     }
 
@@ -142,11 +125,13 @@ impl KeptLiteral {
     pub(crate) fn new(alloc: Global, literal: Literal) -> Result<KeptLiteral, AllocError>
         ensures { IfOk result (λ kept. kept ≡ literal) }
     {
-        let form = match Form::from_literal(literal) {
-            Some(form) => form,
-            None => Form::Long(Box::new(alloc, literal)?),
-        };
-        Ok(KeptLiteral { form })
+        let form = Form::cut(literal);
+        if are_alike(form.literal(), literal) {
+            return Ok(KeptLiteral { form });
+        }
+        Ok(KeptLiteral {
+            form: Form::Long(Box::new(alloc, literal)?),
+        })
     }
 
     /// The literal.

@@ -1,5 +1,5 @@
 //! The values that labels have so far.
-ghost use Rattle.std.specs.Prelude.{◌≡◌, [], IsTrue, IfSome, IfOk, IfErr, OnOk};
+ghost use Rattle.std.specs.Prelude.{◌≡◌, [], IsTrue, IfSome, IfErr, OnOk};
 ghost use Rattle.std.specs.Map.{lookup};
 ghost use Rattle.indexmap.specs.IndexMap.{insert_entry};
 ghost use Rattle.autocoder_symbols.specs.Fault.{IsMemory};
@@ -81,14 +81,14 @@ impl<'a> Front<'a> {
         }
     }
 
-    /// A table of these alone.
-    fn copied(self) -> Result<Table, AsmFault>
-        ensures ok { IfOk result (λ table. table.entries ≡ front_values self.entry) }
+    /// Has another table hold these alone.
+    fn copy_to(self, table: &mut Table) -> Result<(), AsmFault>
+        ensures ok { OnOk result (table.new.entries ≡ front_values self.entry) }
         ensures err { IfErr result IsMemory }
     {
-        let mut table = self.table.clone()?;
+        *table = self.table.clone()?;
         table.truncate(self.count);
-        Ok(table)
+        Ok(())
     }
 }
 
@@ -154,7 +154,7 @@ impl<'a> LabelValues<'a> {
                 self.front = Some(more);
                 return Ok(());
             }
-            self.own = front.copied()?;
+            front.copy_to(&mut self.own)?;
             self.front = None;
         }
         self.own.insert(label, value)?;

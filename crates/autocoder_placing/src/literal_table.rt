@@ -1,5 +1,5 @@
 //! A table of literals, and the first of one.
-ghost use Rattle.std.specs.Prelude.{◌≡◌, ◌∷◌, ◌+◌, ◌<◌, length, drop, position, slice_get, IfSome, IfOk, IfErr, OnOk};
+ghost use Rattle.std.specs.Prelude.{◌≡◌, ◌∷◌, ◌+◌, ◌<◌, length, drop, position, IfSome, IfErr, OnOk};
 ghost use Rattle.autocoder_symbols.specs.Fault.{IsMemory};
 ghost use Rattle.autocoder_placing.specs.UsedLiterals.{front_used, is_one, none_used, table_used};
 ghost use Rattle.autocoder_placing.specs.UsedLiterals.{units_of, with_units, with_use};
@@ -59,42 +59,9 @@ impl LiteralTable {
         self.addresses.push(units)?;
         Ok(())
     }
-
-    /// The literal with this index.
-    pub(crate) fn literal(&self, i: usize) -> Literal
-        requires { i < length self.now.literals.keys }
-        ensures { drop i self.now.literals.keys ≡ result ∷ drop (i + 1) self.now.literals.keys }
-    {
-        match self.literals.get_index(i) {
-            Some(literal) => literal.literal(),
-            None => unreachable!(),
-        }
-    }
-
-    /// The units place of a literal, if it is placed.
-    pub(crate) fn units_of(&self, literal: &KeptLiteral) -> Option<i64>
-        ensures { result ≡ units_of (table_used self.now) literal.now }
-    {
-        let i = self.literals.get_index_of(literal)?;
-        self.addresses.get(i).copied()
-    }
 }
 
 impl<'a> TableFront<'a> {
-    /// How many are placed.
-    pub(crate) fn placed(self) -> usize
-        ensures { result ≡ length (front_used self.entry).addresses }
-    {
-        self.placed.min(self.table.addresses.len())
-    }
-
-    /// How many are used.
-    pub(crate) fn used(self) -> usize
-        ensures { result ≡ length (front_used self.entry).spellings }
-    {
-        self.used.min(self.table.literals.len())
-    }
-
     /// The index of a literal, if it is one of them.
     pub(crate) fn index_of(self, literal: &KeptLiteral) -> Option<usize>
         ensures { result ≡ position (is_one literal.now) (front_used self.entry).spellings }
@@ -105,23 +72,16 @@ impl<'a> TableFront<'a> {
         }
     }
 
-    /// The units place with this index, if there is one.
-    fn units_at(self, i: usize) -> Option<i64>
-        ensures { result ≡ slice_get (front_used self.entry).addresses i }
-    {
-        if i < self.placed {
-            self.table.addresses.get(i).copied()
-        } else {
-            None
-        }
-    }
-
     /// The units place of a literal, if it is placed.
     pub(crate) fn units_of(self, literal: &KeptLiteral) -> Option<i64>
         ensures { result ≡ units_of (front_used self.entry) literal.now }
     {
         let i = self.index_of(literal)?;
-        self.units_at(i)
+        if i < self.placed {
+            self.table.addresses.get(i).copied()
+        } else {
+            None
+        }
     }
 
     /// The literal with this index.
@@ -166,18 +126,15 @@ impl<'a> TableFront<'a> {
         }
     }
 
-    /// A table of these alone.
-    pub(crate) fn copied(self) -> Result<LiteralTable, AsmFault>
-        ensures ok { IfOk result (λ table. table_used table ≡ front_used self.entry) }
+    /// Has another table hold these alone.
+    pub(crate) fn copy_to(self, table: &mut LiteralTable) -> Result<(), AsmFault>
+        ensures ok { OnOk result (table_used table.new ≡ front_used self.entry) }
         ensures err { IfErr result IsMemory }
     {
-        let mut literals = self.table.literals.clone()?;
-        literals.truncate(self.used);
-        let mut addresses = self.table.addresses.clone()?;
-        addresses.truncate(self.placed);
-        Ok(LiteralTable {
-            literals,
-            addresses,
-        })
+        table.literals = self.table.literals.clone()?;
+        table.literals.truncate(self.used);
+        table.addresses = self.table.addresses.clone()?;
+        table.addresses.truncate(self.placed);
+        Ok(())
     }
 }

@@ -7,7 +7,7 @@ ghost use Rattle.autocoder_symbols.specs.Chains.{chains_of};
 ghost use Rattle.autocoder_symbols.specs.Fault.{IsMemory};
 ghost use Rattle.autocoder_symbols.specs.Symbols.{sites_of};
 ghost use Rattle.autocoder_symbols.specs.View.{chains_view};
-ghost use Rattle.autocoder_placing.specs.Placement.{nothing_placed, with_literal, with_operand, with_pending};
+ghost use Rattle.autocoder_placing.specs.Placement.{nothing_placed, with_operand, with_pending};
 ghost use Rattle.autocoder_placing.specs.Placement.{with_uses};
 ghost use Rattle.autocoder_placing.specs.Literals.{key_of, same_key};
 ghost use Rattle.autocoder_placing.specs.Placement.{pending, beyond_literals, unplaced, with_area, with_area_labels};
@@ -166,29 +166,15 @@ fn give_area(values: &mut LabelValues<'_>, units: i64, literal: LiteralKey) -> R
     Ok(())
 }
 
-/// Gives the labels of the area literals that are used and not placed their units places, from a place on.
-fn give_areas(
-    values: &mut LabelValues<'_>,
+/// Places the literals that are used and not placed from a place on, gives the labels of the area literals among them
+/// their units places, and says which place is next.
+fn place_literals(
     from: i64,
-    literals: &UsedLiterals<'_>,
-) -> Result<(), AsmFault>
-    ensures ok { OnOk result (values.new ≡ with_area_labels values.old from (pending_of literals.now)) }
-    ensures err { IfErr result IsMemory }
-{
-    let mut next = from;
-    for i in literals.placed()..literals.len() {
-        let literal = LiteralKey::from_literal(literals.literal(i));
-        let beyond = checked_sum(next, i64::from(literal.len()))?;
-        let units = checked_sum(beyond, -1)?;
-        give_area(values, units, literal)?;
-        next = beyond;
-    }
-    Ok(())
-}
-
-/// Places the literals that are used and not placed from a place on, and says which place is next.
-fn place_literals(from: i64, literals: &mut UsedLiterals<'_>) -> Result<i64, AsmFault>
+    values: &mut LabelValues<'_>,
+    literals: &mut UsedLiterals<'_>,
+) -> Result<i64, AsmFault>
     ensures next { IfOk result (λ next. next ≡ beyond_literals from (pending_of literals.old)) }
+    ensures values { OnOk result (values.new ≡ with_area_labels values.old from (pending_of literals.old)) }
     ensures literals { OnOk result (literals.new ≡ all_placed literals.old from) }
     ensures err { IfErr result IsMemory }
 {
@@ -197,7 +183,9 @@ fn place_literals(from: i64, literals: &mut UsedLiterals<'_>) -> Result<i64, Asm
     for i in first..literals.len() {
         let literal = LiteralKey::from_literal(literals.literal(i));
         let beyond = checked_sum(next, i64::from(literal.len()))?;
-        literals.place(checked_sum(beyond, -1)?)?;
+        let units = checked_sum(beyond, -1)?;
+        give_area(values, units, literal)?;
+        literals.place(units)?;
         next = beyond;
     }
     Ok(next)
@@ -313,10 +301,8 @@ impl<'a> Placing<'a> {
         match point {
             Point::First => Ok(self.next),
             Point::Last => last_place(self.next, contents_length(&row.contents)),
-            Point::InArea(place) => checked_sum(checked_sum(self.areas, i64::from(place))?, -1),
-            Point::Counted(place) => {
-                checked_sum(checked_sum(self.fields_from, i64::from(place))?, -1)
-            },
+            Point::InArea(place) => last_place(self.areas, u32::from(place)),
+            Point::Counted(place) => last_place(self.fields_from, u32::from(place)),
             Point::Value => self.asked_value(by, row),
         }
     }
@@ -355,22 +341,14 @@ impl<'a> Placing<'a> {
         Ok(())
     }
 
-    /// Notes that a literal is used.
-    #[tactic(auto, using(crate::proofs::UsedLemmas::literal_noted))]
-    fn note_literal(&mut self, literal: Literal) -> Result<(), AsmFault>
-        ensures ok { OnOk result (places_of self.new ≡ with_literal (places_of self.old) literal) }
-        ensures err { IfErr result IsMemory }
-    {
-        self.literals.note(literal)
-    }
-
     /// Notes the literal that an operand is, if it is one.
+    #[tactic(auto, using(crate::proofs::UsedLemmas::literal_noted))]
     fn note_operand(&mut self, field: OperandField) -> Result<(), AsmFault>
         ensures ok { OnOk result (places_of self.new ≡ with_operand (places_of self.old) field) }
         ensures err { IfErr result IsMemory }
     {
         match field {
-            OperandField::Operand(Operand::Literal(literal)) => self.note_literal(literal),
+            OperandField::Operand(Operand::Literal(literal)) => self.literals.note(literal),
             OperandField::Operand(Operand::Address(_) | Operand::Unit(_))
             | OperandField::Absent
             | OperandField::Malformed => Ok(()),
@@ -390,8 +368,7 @@ impl<'a> Placing<'a> {
         ensures ok { OnOk result (places_of self.new ≡ with_pending (places_of self.old)) }
         ensures err { IfErr result IsMemory }
     {
-        give_areas(&mut self.values, self.next, &self.literals)?;
-        let beyond = place_literals(self.next, &mut self.literals)?;
+        let beyond = place_literals(self.next, &mut self.values, &mut self.literals)?;
         self.take_up_to(beyond);
         Ok(())
     }
@@ -424,16 +401,19 @@ impl<'a> Placing<'a> {
             Next::Beyond => {
                 let length = i64::from(contents_length(&row.contents));
                 self.take_up_to(checked_sum(self.next, length)?);
+                Ok(())
             },
-            Next::Literals => self.place_pending()?,
-            Next::Value => self.next = self.own_value(row.addressing)?,
+            Next::Literals => self.place_pending(),
+            Next::Value => {
+                self.next = self.own_value(row.addressing)?;
+                Ok(())
+            },
             Next::LiteralsAtValue => {
                 self.next = self.own_value(row.addressing)?;
-                self.place_pending()?;
+                self.place_pending()
             },
-            Next::Elsewhere => {},
+            Next::Elsewhere => Ok(()),
         }
-        Ok(())
     }
 
     /// Notes the literals that addresses are.
@@ -444,15 +424,14 @@ impl<'a> Placing<'a> {
         match addressing {
             Addressing::Addresses(operands) => {
                 self.note_operand(operands.a)?;
-                self.note_operand(operands.b)?;
+                self.note_operand(operands.b)
             },
             Addressing::Nothing
             | Addressing::EarlierValue(_)
             | Addressing::Equal(_)
             | Addressing::Value(_)
-            | Addressing::Entry(_) => {},
+            | Addressing::Entry(_) => Ok(()),
         }
-        Ok(())
     }
 
     /// Notes that areas begin at a place, if the statement makes them.
@@ -480,40 +459,17 @@ impl<'a> Placing<'a> {
         self.note_uses(row.addressing)
     }
 
-    /// Sets where the first instruction and END are.
-    fn set_ends(&mut self, first: Option<i64>, before_end: i64)
-        ensures { places_of self.new ≡ with_ends (places_of self.old) first before_end }
-    {
-        self.first_instruction = first;
-        self.before_end = before_end;
-    }
-
-    /// The place of the first instruction, once a statement is at the next place.
-    fn first_beyond(&self, row: &Description) -> Option<i64>
-        ensures { result
-            ≡ first_of_two (places_of self.now).first_instruction (places_of self.now).next row.now.contents }
-    {
-        first_of_two(self.first_instruction, self.next, &row.contents)
-    }
-
-    /// The next place as it was before END, once a statement is at the next place.
-    fn end_beyond(&self, row: &Description) -> i64
-        ensures { result
-            ≡ end_of_two (places_of self.now).before_end (places_of self.now).next row.now.addressing }
-    {
-        end_of_two(self.before_end, self.next, &row.addressing)
-    }
-
     /// Goes on after a statement, notes and places its literals, and notes where the program begins.
     #[tactic(auto, using(crate::proofs::PlacingLemmas::passed))]
     fn pass(&mut self, row: &Description) -> Result<(), AsmFault>
         ensures ok { OnOk result (places_of self.new ≡ beyond_row (places_of self.old) row.now) }
         ensures err { IfErr result IsMemory }
     {
-        let first = self.first_beyond(row);
-        let before_end = self.end_beyond(row);
+        let first = first_of_two(self.first_instruction, self.next, &row.contents);
+        let before_end = end_of_two(self.before_end, self.next, &row.addressing);
         self.go_on(row)?;
-        self.set_ends(first, before_end);
+        self.first_instruction = first;
+        self.before_end = before_end;
         Ok(())
     }
 
@@ -539,19 +495,12 @@ impl<'a> Placing<'a> {
         }
     }
 
-    /// Makes room for the values of so many labels at once.
-    fn make_room(&mut self, labels: usize) -> Result<(), AsmFault>
-        ensures same { OnOk result (places_of self.new ≡ places_of self.old) }
-        ensures err { IfErr result IsMemory }
-    {
-        self.values.make_room(labels)
-    }
-
-    /// Places lines.
+    /// Places lines. There is room for the values of all their labels at once.
     fn place_each(&mut self, lines: &Lines<'_>) -> Result<(), AsmFault>
         ensures ok { OnOk result (places_of self.new ≡ fold placed_after (places_of self.old) lines.now) }
         ensures err { IfErr result IsMemory }
     {
+        self.values.make_room(lines.labelled())?;
         for i in 0..lines.len() {
             self.place(&lines.line(i))?;
         }
@@ -575,7 +524,6 @@ pub fn place_all<'a>(
     ensures err { IfErr result IsMemory }
 {
     let mut placing = Placing::new(alloc, hashing, chains);
-    placing.make_room(lines.labelled())?;
     placing.place_each(lines)?;
     Ok(placing)
 }

@@ -126,8 +126,9 @@ impl Builder {
             (row_cells (places_of all.now) (places_of so_far.now) row.now row.now.next beyond.now) ++ rest)) }
         ensures err { IfErr result IsMemory }
     {
+        let first = so_far.start_address(row)?;
         let cells = cells_of(alloc, all, so_far, row, beyond)?;
-        self.put_all(so_far.start_address(row)?, &cells)
+        self.put_all(first, &cells)
     }
 
     /// The segments.

@@ -2,7 +2,7 @@
 ghost use Rattle.std.specs.Prelude.{◌≡◌, ◌+◌, ◌*◌, IfOk, IfErr};
 ghost use Rattle.autocoder_symbols.specs.Chains.{link_of};
 ghost use Rattle.autocoder_symbols.specs.Fault.{IsMemory};
-ghost use Rattle.autocoder_placing.specs.Placement.{register_value, next_hundred, symbol_by, symbol_beyond, symbols_of};
+ghost use Rattle.autocoder_placing.specs.Placement.{next_hundred, symbol_by, symbols_of};
 ghost use Rattle.autocoder_placing.specs.Placement.{base_value, value_so_far, base_index, address_index, index_so_far};
 ghost use Rattle.autocoder_placing.specs.Placement.{asterisk_place, entry_value, asked_value, origin_value};
 ghost use Rattle.autocoder_placing.specs.Placement.{address_unit};
@@ -13,10 +13,10 @@ use crate::placing::{Placing, USUAL_PLACE};
 use autocoder_statements::{
     Address, Addressing, Base, Description, Label, Next, Operand, OperandField, Unit,
 };
-use autocoder_symbols::{AsmFault, Link, checked_sum};
+use autocoder_symbols::{AsmFault, checked_sum};
 
 /// What a symbol stands for.
-#[derive(Clone, Copy, PartialEq, Eq)]
+#[derive(Clone, Copy, PartialEq)]
 pub struct SymbolValue {
     /// Its value.
     pub value: i64,
@@ -80,13 +80,6 @@ fn asterisk_place(next: i64, step: Next) -> Result<i64, AsmFault>
     }
 }
 
-/// The units place of an index register.
-fn register_value(number: u8) -> i64
-    ensures { result ≡ register_value number }
-{
-    84 + 5 * i64::from(number)
-}
-
 impl<'a> Placing<'a> {
     /// A symbol by the values of labels so far.
     fn symbol_by(&self, label: Label) -> SymbolValue
@@ -95,26 +88,20 @@ impl<'a> Placing<'a> {
         self.values.get(label).unwrap_or(SymbolValue::NONE)
     }
 
-    /// A symbol by the end of its chain, by the values of labels so far.
-    fn symbol_beyond(&self, link: Link) -> Result<SymbolValue, AsmFault>
-        ensures symbol { IfOk result (λ symbol. symbol ≡ symbol_beyond (places_of self.now).values link) }
-        ensures err { IfErr result IsMemory }
-    {
-        let last = self.symbol_by(link.to);
-        Ok(SymbolValue {
-            value: checked_sum(last.value, link.added)?,
-            index: link.index.unwrap_or(last.index),
-            unit: None,
-        })
-    }
-
     /// What a symbol stands for so far.
     pub fn symbol(&self, label: Label) -> Result<SymbolValue, AsmFault>
         ensures symbol { IfOk result (λ symbol. symbol ≡ symbols_of (places_of self.now) label) }
         ensures err { IfErr result IsMemory }
     {
         match self.chains.link_of(label) {
-            Some(link) => self.symbol_beyond(link),
+            Some(link) => {
+                let last = self.symbol_by(link.to);
+                Ok(SymbolValue {
+                    value: checked_sum(last.value, link.added)?,
+                    index: link.index.unwrap_or(last.index),
+                    unit: None,
+                })
+            },
             None => Ok(self.symbol_by(label)),
         }
     }
@@ -128,7 +115,7 @@ impl<'a> Placing<'a> {
             Base::Number(number) => Ok(i64::from(number)),
             Base::Symbol(label) => Ok(self.symbol(label)?.value),
             Base::Here => Ok(here),
-            Base::Register(number) => Ok(register_value(number)),
+            Base::Register(number) => Ok(84 + 5 * i64::from(number)),
             Base::NextHundred => next_hundred(here),
         }
     }
@@ -139,10 +126,7 @@ impl<'a> Placing<'a> {
         ensures err { IfErr result IsMemory }
     {
         match field {
-            OperandField::Operand(Operand::Address(address)) => checked_sum(
-                self.base_value(here, address.base)?,
-                i64::from(address.adjustment),
-            ),
+            OperandField::Operand(Operand::Address(address)) => self.address_value(here, address),
             OperandField::Operand(Operand::Literal(_) | Operand::Unit(_))
             | OperandField::Absent
             | OperandField::Malformed => Ok(0),

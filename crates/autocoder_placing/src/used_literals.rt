@@ -3,7 +3,7 @@ ghost use Rattle.std.specs.Prelude.{◌≡◌, ◌∷◌, ◌+◌, ◌<◌, leng
 ghost use Rattle.std.specs.List.{list_any};
 ghost use Rattle.autocoder_symbols.specs.Fault.{IsMemory};
 ghost use Rattle.autocoder_placing.specs.Literals.{key_of};
-ghost use Rattle.autocoder_placing.specs.UsedLiterals.{is_one, none_used, units_of, with_units, with_use};
+ghost use Rattle.autocoder_placing.specs.UsedLiterals.{front_used, is_one, none_used, units_of, with_units, with_use};
 
 use crate::kept_literal::KeptLiteral;
 use crate::literal_table::{LiteralTable, TableFront};
@@ -49,18 +49,28 @@ impl<'a> UsedLiterals<'a> {
     pub(crate) fn again<'b>(&'b self, hashing: SourceHashing) -> UsedLiterals<'b>
         ensures { result ≡ none_used }
     {
-        let table = match self.front {
-            Some(front) => front.table,
-            None => &self.own,
-        };
         UsedLiterals {
             front: Some(TableFront {
-                table,
                 used: 0,
                 placed: 0,
+                ..self.as_front()
             }),
             own: LiteralTable::new(self.alloc, hashing),
             alloc: self.alloc,
+        }
+    }
+
+    /// These as the first of a table.
+    fn as_front(&self) -> TableFront<'_>
+        ensures { front_used result ≡ self.now }
+    {
+        match self.front {
+            Some(front) => front,
+            None => TableFront {
+                table: &self.own,
+                used: self.own.literals.len(),
+                placed: self.own.addresses.len(),
+            },
         }
     }
 
@@ -68,20 +78,16 @@ impl<'a> UsedLiterals<'a> {
     pub(crate) fn len(&self) -> usize
         ensures { result ≡ length self.now.spellings }
     {
-        match self.front {
-            Some(front) => front.used(),
-            None => self.own.literals.len(),
-        }
+        let front = self.as_front();
+        front.used.min(front.table.literals.len())
     }
 
     /// How many are placed.
     pub(crate) fn placed(&self) -> usize
         ensures { result ≡ length self.now.addresses }
     {
-        match self.front {
-            Some(front) => front.placed(),
-            None => self.own.addresses.len(),
-        }
+        let front = self.as_front();
+        front.placed.min(front.table.addresses.len())
     }
 
     /// The literal with this index, as it was first written.
@@ -91,10 +97,7 @@ impl<'a> UsedLiterals<'a> {
         ensures key { drop i (map key_of self.now.spellings)
             ≡ key_of result ∷ drop (i + 1) (map key_of self.now.spellings) }
     {
-        match self.front {
-            Some(front) => front.literal(i),
-            None => self.own.literal(i),
-        }
+        self.as_front().literal(i)
     }
 
     /// Whether a literal is used.
@@ -107,10 +110,7 @@ impl<'a> UsedLiterals<'a> {
         ensures err { IfErr result IsMemory }
     {
         let kept = KeptLiteral::new(self.alloc, literal)?;
-        match self.front {
-            Some(front) => Ok(front.index_of(&kept).is_some()),
-            None => Ok(self.own.literals.contains(&kept)),
-        }
+        Ok(self.as_front().index_of(&kept).is_some())
     }
 
     /// The units place of a literal, if it is placed.
@@ -123,10 +123,7 @@ impl<'a> UsedLiterals<'a> {
         ensures err { IfErr result IsMemory }
     {
         let kept = KeptLiteral::new(self.alloc, literal)?;
-        match self.front {
-            Some(front) => Ok(front.units_of(&kept)),
-            None => Ok(self.own.units_of(&kept)),
-        }
+        Ok(self.as_front().units_of(&kept))
     }
 
     /// Notes that a literal is used.
@@ -144,7 +141,7 @@ impl<'a> UsedLiterals<'a> {
                 self.front = Some(more);
                 return Ok(());
             }
-            self.own = front.copied()?;
+            front.copy_to(&mut self.own)?;
             self.front = None;
         }
         self.own.note(kept)
@@ -164,7 +161,7 @@ impl<'a> UsedLiterals<'a> {
                 self.front = Some(more);
                 return Ok(());
             }
-            self.own = front.copied()?;
+            front.copy_to(&mut self.own)?;
             self.front = None;
         }
         self.own.place(units)

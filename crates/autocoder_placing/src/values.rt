@@ -1,10 +1,10 @@
 //! The values of addresses, and what of a line isn't in core.
 ghost use Rattle.std.specs.Prelude.{◌≡◌, ◌||◌, false, IfOk, IfErr};
 ghost use Rattle.autocoder_symbols.specs.Fault.{IsMemory};
-ghost use Rattle.autocoder_placing.specs.Placement.{asked_value, pending};
-ghost use Rattle.autocoder_placing.specs.Values.{address_value, is_in_core, are_in_core, literal_outside};
+ghost use Rattle.autocoder_placing.specs.Placement.{asked_value};
+ghost use Rattle.autocoder_placing.specs.Values.{address_value, is_in_core, are_in_core};
 ghost use Rattle.autocoder_placing.specs.Values.{operand_outside};
-ghost use Rattle.autocoder_placing.specs.Values.{places_outside, literals_outside, next_outside, value_outside};
+ghost use Rattle.autocoder_placing.specs.Values.{places_outside, next_outside, value_outside};
 ghost use Rattle.autocoder_placing.specs.Values.{may_name_unit, addresses_outside, row_outside};
 ghost use Rattle.autocoder_placing.specs.View.{places_of};
 
@@ -28,16 +28,6 @@ fn are_in_core(size: u16, first: i64, beyond: i64) -> bool
     ensures { result ≡ are_in_core size first beyond }
 {
     first >= 0 && beyond <= i64::from(size)
-}
-
-/// Whether a value isn't in core. The next place may be the one after the last.
-fn is_value_outside(size: u16, value: i64, next: Next) -> bool
-    ensures { result ≡ value_outside size value next }
-{
-    match next {
-        Next::Beyond | Next::Literals | Next::Elsewhere => !is_in_core(size, value),
-        Next::Value | Next::LiteralsAtValue => !are_in_core(size, value, value),
-    }
 }
 
 /// Whether one of the places of a length isn't in core.
@@ -78,20 +68,6 @@ impl<'a> Placing<'a> {
         checked_sum(base, i64::from(address.adjustment))
     }
 
-    /// Whether a literal is an address whose value isn't in core.
-    fn is_literal_outside(&self, size: u16, literal: Literal) -> Result<bool, AsmFault>
-        ensures value { IfOk result (λ outside. outside ≡ literal_outside size (places_of self.now) literal) }
-        ensures err { IfErr result IsMemory }
-    {
-        match literal {
-            Literal::Address(literal) => {
-                let value = self.address_value(0, literal.address)?;
-                Ok(!is_in_core(size, value))
-            },
-            Literal::Constant(_) | Literal::Area(_) => Ok(false),
-        }
-    }
-
     /// Whether an operand, which may name a unit or may not, is an address whose value isn't in core.
     fn is_operand_outside(
         &self,
@@ -110,24 +86,15 @@ impl<'a> Placing<'a> {
                 let names_unit = is_unit && self.address_unit(address).is_some();
                 Ok(!is_in_core(size, value) && !names_unit)
             },
-            OperandField::Operand(Operand::Literal(literal)) => {
-                self.is_literal_outside(size, literal)
+            OperandField::Operand(Operand::Literal(Literal::Address(literal))) => {
+                let value = self.address_value(0, literal.address)?;
+                Ok(!is_in_core(size, value))
             },
-            OperandField::Operand(Operand::Unit(_))
+            OperandField::Operand(Operand::Literal(Literal::Constant(_) | Literal::Area(_)))
+            | OperandField::Operand(Operand::Unit(_))
             | OperandField::Absent
             | OperandField::Malformed => Ok(false),
         }
-    }
-
-    /// Whether the literals that are used and not placed aren't in core, if they are placed from here on.
-    fn are_literals_outside(&self, size: u16, from: i64) -> Result<bool, AsmFault>
-        ensures value { IfOk result
-            (λ outside. outside ≡ literals_outside size from (pending (places_of self.now))) }
-        ensures err { IfErr result IsMemory }
-    {
-        let beyond = self.beyond_pending(from)?;
-        let has_some = self.literals_placed() < self.literals_used();
-        Ok(has_some && !are_in_core(size, from, beyond))
     }
 
     /// Whether literals that a statement here places aren't in core.
@@ -138,7 +105,10 @@ impl<'a> Placing<'a> {
     {
         match row.next {
             Next::Literals | Next::LiteralsAtValue => {
-                self.are_literals_outside(size, self.start_by(row)?)
+                let from = self.start_by(row)?;
+                let beyond = self.beyond_pending(from)?;
+                let has_some = self.literals_placed() < self.literals_used();
+                Ok(has_some && !are_in_core(size, from, beyond))
             },
             Next::Beyond | Next::Value | Next::Elsewhere => Ok(false),
         }
@@ -163,7 +133,8 @@ impl<'a> Placing<'a> {
         Ok(a || b)
     }
 
-    /// Whether the value that a statement here asks for isn't in core, by the labels of what is placed by others.
+    /// Whether the value that a statement here asks for isn't in core, by the labels of what is placed by others. The next
+    /// place may be the one after the last.
     fn is_asked_outside(
         &self,
         size: u16,
@@ -175,7 +146,10 @@ impl<'a> Placing<'a> {
         ensures err { IfErr result IsMemory }
     {
         let value = self.asked_value(by, row)?;
-        Ok(is_value_outside(size, value, row.next))
+        match row.next {
+            Next::Beyond | Next::Literals | Next::Elsewhere => Ok(!is_in_core(size, value)),
+            Next::Value | Next::LiteralsAtValue => Ok(!are_in_core(size, value, value)),
+        }
     }
 
     /// Whether an address or a value of a statement here isn't in core, by the values of all labels.
