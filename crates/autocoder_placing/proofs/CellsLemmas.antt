@@ -1,5 +1,5 @@
 -- One area of some; cells put in turn.
-use Rattle.std.proofs.Common.{◌≡◌, ℕ, zero, suc, ◌-◌, ◌<◌, List, [], ◌∷◌, ◌++◌, map, ℤ, refl, arith, ap, subst, ◌∙◌}
+use Rattle.std.proofs.Common.{◌≡◌, ℕ, zero, suc, ◌-◌, ◌<◌, List, [], ◌∷◌, ◌++◌, map, ℤ, refl, sym, arith, ap, subst, ◌∙◌}
 use Rattle.std.proofs.lemmas.List.{append_assoc}
 use Rattle.bcd_1401.specs.declared.cell.Cell.{Cell}
 use Rattle.autocoder_statements.specs.declared.mnemonic.Instruction.{Instruction}
@@ -12,6 +12,14 @@ use Rattle.autocoder_placing.specs.Cells.{repeated}
 pub one_area : (n : ℕ) (area : List Cell) → 0 < n → repeated n area ≡ area ++ repeated (n - 1) area
 one_area zero area h = absurd (omega (arith, h))
 one_area (suc n) area h = let less : suc n - 1 ≡ n = omega arith in rw less refl
+
+-- with one cell more, what is put and what is left to put are all cells
+pub one_more : {A : Type 0} (cells : List A → List Cell) (before after whole : List Cell) (left rest : List A) (cell : Cell)
+    → cells left ≡ cell ∷ cells rest → before ++ cells left ≡ whole → after ≡ before ++ cell ∷ []
+    → after ++ cells rest ≡ whole
+one_more cells before after whole left rest cell first so_far one =
+    ap (λ (put : List Cell). put ++ cells rest) one ∙ append_assoc before (cell ∷ []) (cells rest)
+    ∙ ap (λ (more : List Cell). before ++ more) (sym first) ∙ so_far
 
 -- what is put in two turns
 pub in_turn : (before between after first second : List Cell) → between ≡ before ++ first → after ≡ between ++ second

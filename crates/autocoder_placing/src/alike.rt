@@ -30,24 +30,13 @@ fn are_one_base(one: Base, other: Base) -> bool
     }
 }
 
-/// Whether two index registers have the same number.
-fn are_one_index(one: Option<u8>, other: Option<u8>) -> bool
-    ensures { IsTrue result → one ≡ other }
-{
-    match (one, other) {
-        (Some(one), Some(other)) => one == other,
-        (None, None) => true,
-        (Some(_), None) | (None, Some(_)) => false,
-    }
-}
-
 /// Whether two addresses are written alike.
 fn are_one_address(one: Address, other: Address) -> bool
     ensures { IsTrue result → one ≡ other }
 {
     are_one_base(one.base, other.base)
         && one.adjustment == other.adjustment
-        && are_one_index(one.index, other.index)
+        && one.index == other.index
 }
 
 /// Whether two literals are written alike.

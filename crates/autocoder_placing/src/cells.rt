@@ -116,7 +116,6 @@ fn address_chars(address: u16, index: u8) -> [Char; 3]
 
 impl Placing<'_> {
     /// The units place of a literal, once all is placed.
-    #[tactic(auto, using(crate::proofs::UsedLemmas::value_placed))]
     fn literal_value(&self, literal: Literal) -> Result<i64, AsmFault>
         ensures value { IfOk result (λ value. value ≡ literal_value (places_of self.now) (key_of literal)) }
         ensures err { IfErr result IsMemory }

@@ -13,7 +13,7 @@ ghost use Rattle.autocoder_placing.specs.Literals.{key_of, same_key};
 ghost use Rattle.autocoder_placing.specs.Placement.{pending, beyond_literals, unplaced, with_area, with_area_labels};
 ghost use Rattle.autocoder_placing.specs.Placement.{contents_length, value_so_far, index_so_far, asked_value};
 ghost use Rattle.autocoder_placing.specs.Placement.{first_of_two};
-ghost use Rattle.autocoder_placing.specs.Placement.{end_of_two, counted_from, index_of_fields, with_areas, own_value};
+ghost use Rattle.autocoder_placing.specs.Placement.{end_of_two, with_areas, own_value};
 ghost use Rattle.autocoder_placing.specs.Placement.{start_by, with_ends, point_value, point_index, label_value};
 ghost use Rattle.autocoder_placing.specs.Placement.{next_moved};
 ghost use Rattle.autocoder_placing.specs.Placement.{highest_with, taken_up_to, label_unit};
@@ -29,8 +29,8 @@ use crate::literals::LiteralKey;
 use crate::symbol_values::SymbolValue;
 use crate::used_literals::UsedLiterals;
 use autocoder_statements::{
-    Addressing, AreaRole, Areas, Body, Contents, Description, Label, LabelField, Line, Literal,
-    Next, Operand, OperandField, Point, Statement, Unit,
+    Addressing, AreaRole, Body, Contents, Description, Label, LabelField, Line, Literal, Next,
+    Operand, OperandField, Point, Statement, Unit,
 };
 use autocoder_symbols::{AsmFault, Chains, Lines, SourceHashing, checked_sum};
 use std::alloc::Global;
@@ -92,26 +92,6 @@ fn end_of_two(before: i64, place: i64, addressing: &Addressing) -> i64
         | Addressing::EarlierValue(_)
         | Addressing::Equal(_)
         | Addressing::Value(_) => before,
-    }
-}
-
-/// The place that the labels of fields of areas are counted from, which begin at a place.
-fn counted_from(first: i64, areas: Option<Areas>) -> i64
-    ensures { result ≡ counted_from first areas }
-{
-    match areas {
-        Some(areas) if areas.counts_from_zero => 0,
-        Some(_) | None => first,
-    }
-}
-
-/// The index that the labels of fields of areas have.
-fn index_of_fields(areas: Option<Areas>) -> u8
-    ensures { result ≡ index_of_fields areas }
-{
-    match areas {
-        Some(areas) => areas.index,
-        None => 0,
     }
 }
 
@@ -439,10 +419,15 @@ impl<'a> Placing<'a> {
         ensures { places_of self.new ≡ with_areas (places_of self.old) first role }
     {
         match role {
-            AreaRole::Makes(made) => {
+            AreaRole::Makes(Some(areas)) => {
                 self.areas = first;
-                self.fields_from = counted_from(first, made);
-                self.fields_index = index_of_fields(made);
+                self.fields_from = if areas.counts_from_zero { 0 } else { first };
+                self.fields_index = areas.index;
+            },
+            AreaRole::Makes(None) => {
+                self.areas = first;
+                self.fields_from = first;
+                self.fields_index = 0;
             },
             AreaRole::Ends | AreaRole::Keeps | AreaRole::Divides(_) => {},
         }

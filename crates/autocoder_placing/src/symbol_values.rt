@@ -163,16 +163,6 @@ impl<'a> Placing<'a> {
         }
     }
 
-    /// The unit that a symbol names so far, if it names one.
-    fn symbol_unit(&self, label: Label) -> Option<Unit>
-        ensures { result ≡ (symbols_of (places_of self.now) label).unit }
-    {
-        match self.chains.link_of(label) {
-            Some(_) => None,
-            None => self.symbol_by(label).unit,
-        }
-    }
-
     /// The unit that an address names so far, if it is a symbol alone.
     pub fn address_unit(&self, address: Address) -> Option<Unit>
         ensures { result ≡ address_unit (symbols_of (places_of self.now)) address }
@@ -181,7 +171,10 @@ impl<'a> Placing<'a> {
             return None;
         }
         match address.base {
-            Base::Symbol(label) => self.symbol_unit(label),
+            Base::Symbol(label) => match self.chains.link_of(label) {
+                Some(_) => None,
+                None => self.symbol_by(label).unit,
+            },
             Base::Number(_) | Base::Here | Base::Register(_) | Base::NextHundred => None,
         }
     }

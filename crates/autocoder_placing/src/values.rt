@@ -133,8 +133,8 @@ impl<'a> Placing<'a> {
         Ok(a || b)
     }
 
-    /// Whether the value that a statement here asks for isn't in core, by the labels of what is placed by others. The next
-    /// place may be the one after the last.
+    /// Whether the value that a statement here asks for isn't in core, by the labels of what is placed by others. The
+    /// next place may be the one after the last.
     fn is_asked_outside(
         &self,
         size: u16,

@@ -7,7 +7,8 @@ use Rattle.autocoder_placing.specs.declared.literal_table.LiteralTable.{LiteralT
 use Rattle.autocoder_placing.specs.declared.literal_table.TableFront.{TableFront}
 use Rattle.autocoder_placing.proofs.used_literals.UsedLiterals.as_front.Goals as goal
 
-all_first : (own : LiteralTable) (used placed : ℕ) → length own.literals.keys ≤ used → length own.addresses.items ≤ placed
+all_first : (own : LiteralTable) (used placed : ℕ) → length own.literals.keys ≤ used
+    → length own.addresses.items ≤ placed
     → ◌≡◌ {A = Used} (record {
       spellings = take used own.literals.keys;
       addresses = take placed own.addresses.items;
@@ -18,5 +19,6 @@ all_first own used placed many most =
 pub returns-in-None : goal.returns-in-None
 returns-in-None c =
     let own = c.self.inside.own in
-    all_first own c.len.result c.len-in-None.result (omega (arith, c.len.ensures.len)) (omega (arith, c.len-in-None.ensures))
+    all_first own c.len.result c.len-in-None.result (omega (arith, c.len.ensures.len))
+    (omega (arith, c.len-in-None.ensures))
     ∙ ap (λ (front : Option TableFront). used_in front own) (sym c.in-None.is) ∙ c.self.view_is
