@@ -4,12 +4,12 @@ ghost use Rattle.autocoder_symbols.specs.Fault.{rank};
 ghost use Rattle.autocoder_symbols.specs.declared.fault.AsmKind.TheVariants.{Memory};
 
 use std::alloc::{AllocError, AllocFailed};
-use std::{error, fmt};
+use std::fmt;
 use thiserror::Error;
 
 /// The kinds of fault, the lowest first. The whole source is searched for kinds 2 to 8, 10 and 11; only a source
 /// without any of them is placed, and then searched for kind 9.
-#[derive(Clone, Copy, Debug, PartialEq, Eq)]
+#[derive(Clone, Copy, Debug, PartialEq, Eq, Error)]
 pub enum AsmKind {
     /// 1: memory was refused, or the source has more than 4,294,967,295 bytes.
     Memory = 1,
@@ -66,8 +66,6 @@ impl fmt::Display for AsmKind {
         f.write_str(self.text())
     }
 }
-
-impl error::Error for AsmKind {}
 
 /// The first line with a fault, counted from 1, and its lowest kind. With Memory the line is 0.
 #[derive(Clone, Copy, Debug, PartialEq, Eq, Error)]
