@@ -181,7 +181,6 @@ impl Named for OwnRow {
 }
 
 /// The first row of these columns.
-#[tactic(auto, using(crate::proofs::RowLemmas::found_here, crate::proofs::RowLemmas::found_later))]
 pub(crate) fn row_of<R: Named>(rows: &[R], columns: &[u8]) -> Option<R>
     ensures { result ≡ find (λ (row : R). bytes_eq (R.word row) columns.now) rows.now }
 {
