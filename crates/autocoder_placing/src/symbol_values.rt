@@ -133,22 +133,15 @@ impl<'a> Placing<'a> {
         }
     }
 
-    /// The index of a symbol so far.
-    fn symbol_index(&self, label: Label) -> u8
-        ensures { result ≡ (symbols_of (places_of self.now) label).index }
-    {
-        match self.chains.link_of(label) {
-            Some(link) => link.index.unwrap_or(self.symbol_by(link.to).index),
-            None => self.symbol_by(label).index,
-        }
-    }
-
     /// The index of a symbol so far as the base of an address.
     fn base_index(&self, base: Base) -> u8
         ensures { result ≡ base_index (symbols_of (places_of self.now)) base }
     {
         match base {
-            Base::Symbol(label) => self.symbol_index(label),
+            Base::Symbol(label) => match self.chains.link_of(label) {
+                Some(link) => link.index.unwrap_or(self.symbol_by(link.to).index),
+                None => self.symbol_by(label).index,
+            },
             Base::Number(_) | Base::Here | Base::Register(_) | Base::NextHundred => 0,
         }
     }
