@@ -62,7 +62,7 @@ impl Model for KeptLiteral {
 }
 
 impl ShortText {
-    /// As much of a text as is kept of a short one.
+    /// As much of a text as a short one has.
     fn cut(text: Text) -> ShortText {
         let mut bytes = [b' '; 14];
         bytes.copy_from_slice(&text.bytes[..SHORT_LENGTH]);
@@ -86,7 +86,7 @@ impl ShortText {
 }
 
 impl Form {
-    /// A literal as a short one, with as much of its text as is kept then.
+    /// A literal as a short one, with as much of its text as that has.
     fn cut(literal: Literal) -> Form {
         match literal {
             Literal::Constant(Constant::Text(text)) => Form::Text(ShortText::cut(text)),
