@@ -174,7 +174,7 @@ class AfterAJournal(Renewal):
     def test_a_new_room_is_fitted_as_the_journal_s_machine(self):
         fitted = "JOURNAL1 1400\n1\t1\tFIT MULTIPLY TAPES\tOK\n"
         new = self.folder / "new.journal"
-        for name, words, made, anew in [
+        for name, words, made, later in [
             ("day.journal", (), 1, fitted),
             ("new.journal", ("--without", 1, "--journal", new), 0, "JOURNAL1 1400\n"),
         ]:
@@ -184,7 +184,7 @@ class AfterAJournal(Renewal):
             self.follows(f"{name}: it follows", room, made)
             texts = f"JOURNAL {made + 1}\nROOM 2\nJOURNAL {made}\n"
             self.expect(f"{name}: both rooms", room.end(), 0, room.ready + texts)
-            self.holds(f"{name}: the next journal", self.folder / f"{name}.2", anew)
+            self.holds(f"{name}: the next journal", self.folder / f"{name}.2", later)
 
     def test_a_new_journal_is_followed_by_its_own_name(self):
         self.goes_on_and_anew(self.resumed("--journal", self.folder / "new.5"))

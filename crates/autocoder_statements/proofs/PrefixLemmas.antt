@@ -32,7 +32,7 @@ all_pass test (byte ∷ more) = by (test byte) refl (all_pass test more)
     by true e rest = rw e (one_more (prefix_len test more) (length more) ∙ rest)
     by false e rest = rw e (eqb-zero-suc (length more))
 
--- some byte passes exactly if fewer than there are stand before the first that does
+-- some byte passes exactly if fewer than all come before the first that does
 pub some_passes : (test : ℕ → Bool) (bytes : List ℕ)
     → nat_lt (position_or_len test bytes) (length bytes) ≡ list_any test bytes
 some_passes test [] = refl

@@ -51,7 +51,7 @@ pub columns_stay : (columns : List ℕ) → length columns ≡ 80 → columns_of
 unfolding columns_of
 columns_stay columns full = rw (take_all 80 columns (omega (arith, full)), full) (append-nil columns)
 
--- a search for the first byte of a value finds how many bytes stand before it, or none
+-- a search for the first byte of a value finds how many bytes come before it, or none
 pub before_byte : (byte : ℕ) (text : List ℕ) (found : Option ℕ) → IsFirstByte (is_byte byte) text found
     → unwrap_or found (length text) ≡ position_or_len (λ (each : ℕ). each == byte) text
 before_byte byte text None none =

@@ -39,7 +39,7 @@ pub(crate) fn columns_in(columns: &[u8; COLUMNS], first: usize, last: usize) -> 
     &columns[first - 1..last]
 }
 
-/// How many bytes of a text stand before the first of this value.
+/// How many bytes of a text come before the first of this value.
 #[tactic(auto, using(crate::proofs::SourceLineLemmas::before_byte))]
 pub(crate) fn bytes_before(byte: u8, text: &[u8]) -> usize
     ensures value { result ≡ position_or_len (λ each. each == byte) text.now }

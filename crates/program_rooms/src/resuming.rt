@@ -104,7 +104,7 @@ fn begin_again<
     }
 }
 
-/// What is done before operators come to a machine at power-on that has the features of this room's.
+/// What fits a machine at power-on as the machine of this room is fitted, and does nothing else.
 fn fitted_alike(room: &Room) -> Before<'static>
     ensures { FitsAlone (state_of room.now.size room.now.journal).features result }
 {

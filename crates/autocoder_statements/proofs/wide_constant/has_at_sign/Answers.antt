@@ -1,4 +1,4 @@
--- Fewer than there are stand before the first.
+-- Fewer than all come before the first.
 use Rattle.autocoder_statements.specs.Constant.{is_at_sign}
 use Rattle.autocoder_statements.proofs.PrefixLemmas.{some_passes}
 use Rattle.autocoder_statements.proofs.wide_constant.has_at_sign.Goals as goal
