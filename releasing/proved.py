@@ -33,13 +33,18 @@ def checksum(content):
     return hashlib.sha256(content).hexdigest()
 
 
-def sources(top):
-    """The checksum of each file that the gate reads, by its path."""
+def files_read(top):
+    """The files that the gate reads."""
     found = [top / name for name in ALONE]
     for place, folders, files in os.walk(top / "crates"):
         folders[:] = [each for each in folders if each != "out"]
         found += [Path(place, each) for each in files]
-    return {str(each.relative_to(top)): checksum(each.read_bytes()) for each in sorted(found) if each.is_file()}
+    return [each for each in sorted(found) if each.is_file()]
+
+
+def sources(top):
+    """The checksum of each file that the gate reads, by its path."""
+    return {str(each.relative_to(top)): checksum(each.read_bytes()) for each in files_read(top)}
 
 
 def bare(program):
@@ -95,6 +100,6 @@ def read_note(top):
         raise Refused(f"{changed[0]} isn't as the gate proved it")
     if not program_of(top).exists() or checksum(bare(program_of(top).read_bytes())) != noted["program"]:
         raise Refused("crates/ibm1401/out/ibm1401 isn't the program that the gate built")
-    if git(top, "rev-parse", "--show-cdup") != "" or git(top, "status", "--porcelain"):
+    if git(top, "rev-parse", "--show-cdup") != "" or git(top, "status", "--porcelain", "--", ".", ":!dist"):
         raise Refused("there are files that no commit has")
     return noted

@@ -7,6 +7,8 @@ import signal
 import subprocess
 import unittest
 
+from releasing.package import compressed, write_tar
+from releasing.proved import checksum, sources
 from tests.mock_toolchain import VERSION, make_toolchain
 from tests.support import (
     LAUNCHER, PROGRAM, REPLY_SECONDS, SECONDS, TOP, ProgramTest, repository, run, wait_until,
@@ -216,6 +218,173 @@ class Building(ProgramTest):
         self.reports("what is reported of that", sized.stderr.decode(), others)
         self.proved("nothing is proved twice", others)
         self.expect("a console afterwards", self.launch("console"), 0, "console\n")
+
+    def test_a_release_that_is_built_again(self):
+        """With the toolchain --build proves, and what is built is run from then on."""
+        add_release(self.folder)
+        self.expect("the release", self.launch("load"), 0, "released load\n", "...")
+        self.expect("--build", self.launch("--build"), 0, "", "...")
+        self.proved("it proves", self.names)
+        self.expect("what is built", self.launch("load"), 0, "load\n")
+        self.expect("its version", self.launch("--version"), 0, "--version\n")
+
+    def test_a_release_of_other_sources(self):
+        """The toolchain proves what is here."""
+        add_release(self.folder)
+        source = self.folder / "crates" / self.names[0] / "src/lib.rt"
+        for name, change in [("a changed source", lambda: source.write_text("//! Another.\n")),
+                             ("one source more", lambda: source.with_name("more.rt").write_text("//!\n"))]:
+            with self.subTest(name):
+                before = source.read_text()
+                self.expect("the release", self.launch("load"), 0, "released load\n", "...")
+                change()
+                self.expect("what is here", self.launch("console"), 0, "\n", "...")
+                source.write_text(before)
+                shutil.rmtree(self.folder / "crates/console_program/out")
+                source.with_name("more.rt").unlink(missing_ok=True)
+
+
+ONE_TEST = """import unittest
+
+from tests.support import PROGRAM, run
+
+
+class One(unittest.TestCase):
+    def test_it(self):
+        self.assertEqual(run([PROGRAM, "load"]).stdout, b"released load\\n")
+"""
+PROGRAM_OF_RELEASE = b'#!/bin/sh\necho released "$@"\n'
+ARCHIVE = "ibm1401-0.9.0-x86_64-linux.tar.gz"
+FIRST = f"ibm1401: this is ibm1401 0.9.0, commit 0123, of dist/{ARCHIVE}, proved by a toolchain"
+REST = "; to prove it here, install that toolchain (README.md, Get it)\n"
+
+
+def add_release(folder, program=PROGRAM_OF_RELEASE):
+    """Puts a release of the sources that are there into a repository: its program prints the words of its call."""
+    shutil.copytree(TOP / "releasing", folder / "releasing", dirs_exist_ok=True)
+    (folder / "HANDLES").write_text("Handles allowed: none.\n")
+    dist = folder / "dist"
+    dist.mkdir()
+    write_tar(dist / ARCHIVE, {"usr/bin/ibm1401": program, "usr/share/doc/ibm1401/README.md": b"Read me.\n"},
+              "ibm1401-0.9.0", 1_700_000_000)
+    sums = "".join(f"{each}  {name}\n" for name, each in sources(folder).items())
+    proof = ("ibm1401 0.9.0, commit 0123\nproved by a toolchain\n\n"
+             f"{checksum(PROGRAM_OF_RELEASE)}  usr/bin/ibm1401: it\n\nSOURCES\n\n{sums}")
+    (dist / "PROVED.txt.gz").write_bytes(compressed(proof.encode()))
+    note_sums(dist)
+
+
+def note_sums(dist):
+    """Writes the checksums of a release."""
+    made = sorted(each for each in dist.iterdir() if each.name != "SHA256SUMS")
+    (dist / "SHA256SUMS").write_text("".join(f"{checksum(each.read_bytes())}  {each.name}\n" for each in made))
+
+
+class Released(ProgramTest):
+    """The launcher in a fresh clone that has a release, on a host without the toolchain."""
+
+    def setUp(self):
+        for file in ("ibm1401", "crates.txt", "tests/help.txt", "crates/program_arguments/src/reading.rt"):
+            (self.folder / file).parent.mkdir(parents=True, exist_ok=True)
+            shutil.copy(TOP / file, self.folder / file)
+        add_release(self.folder)
+        self.env = {**os.environ, "PATH": without_toolchain(), "HOME": str(self.folder / "home")}
+
+    def launch(self, *words, **how):
+        """A run of the launcher."""
+        return run([self.folder / "ibm1401", *words], env=self.env, **how)
+
+    def test_its_program_is_run(self):
+        """The first time it is said which it is; a link to the launcher will do, and so does any folder."""
+        self.expect("first", self.launch("run", "a b"), 0, "released run a b\n", FIRST + REST)
+        self.expect("then", self.launch("load"), 0, "released load\n")
+        (self.folder / "machine").symlink_to(self.folder / "ibm1401")
+        self.expect("through a link", run([self.folder / "machine"], env=self.env, cwd="/"), 0, "released\n")
+        said = self.launch("--version")
+        self.expect("its version", said, 0, "released --version\nfrom the release in dist/\n")
+        self.check("help needs no program", "" if b"released" not in self.launch("--help").stdout else "it does")
+
+    def test_sources_that_have_changed_since(self):
+        """It is all that can be run, and the first line says so."""
+        (self.folder / "crates.txt").write_text("bcd_1401:\n")
+        others = ", from other sources than those here"
+        self.expect("it", self.launch("load"), 0, "released load\n", FIRST + others + REST)
+
+    def test_it_is_not_built_without_the_toolchain(self):
+        fault = "ibm1401: no command rt: the Rattle toolchain isn't installed\n"
+        self.expect("--build", self.launch("--build"), 1, "", fault)
+        shutil.rmtree(self.folder / "dist")
+        self.expect("no release", self.launch("load"), 1, "", fault)
+        self.expect("its version", self.launch("-V"), 0, "ibm1401 0.9.0\nnot proved and built here yet\n")
+
+    def test_a_folder_that_can_not_be_written_to(self):
+        """It is unpacked in the user's cache."""
+        (self.folder / "crates/ibm1401/out").mkdir(parents=True)
+        (self.folder / "crates/ibm1401/out/released").write_text("no folder\n")
+        self.expect("it", self.launch("load"), 0, "released load\n", FIRST + REST)
+        cache = list((self.folder / "home/.cache/ibm1401").glob("*/bin/ibm1401"))
+        self.same("where it is", len(cache), 1)
+        (self.folder / "home/.cache/ibm1401").rename(self.folder / "home/.cache/other")
+        (self.folder / "home/.cache/ibm1401").write_text("no folder\n")
+        fault = "it can't be unpacked: neither crates/ibm1401/out nor the user's cache can be written to"
+        self.expect("nowhere", self.launch("load"), 1, "", f"ibm1401: release refused: {fault}\n")
+
+    def test_check_without_the_toolchain(self):
+        """It tests the release's program, and says that no proof was checked; what a merge asks for fails."""
+        for name in ("check", ".ci", "page", "tests/__init__.py", "tests/support.py", "tests/runner.py"):
+            copy = shutil.copytree if (TOP / name).is_dir() else shutil.copy
+            copy(TOP / name, self.folder / name)
+        (self.folder / "tests/test_one.py").write_text(ONE_TEST)
+        ran = run([self.folder / "check"], env=self.env)
+        said = ran.stdout.decode().splitlines()
+        self.same("its status", (ran.returncode, ran.stderr), (0, (FIRST + REST).encode()))
+        self.same("its last lines", said[-2:], [
+            "NO PROOF WAS CHECKED: there is no command rt; what was tested is the release in dist/",
+            "1 passed, 0 failed"])
+        fault = "FAILED  rt ci: there is no command rt: the Rattle toolchain isn't installed"
+        self.expect("a merge", run([self.folder / ".ci/run"], env=self.env), 1, f"{fault}\n")
+        shutil.rmtree(self.folder / "dist")
+        ran = run([self.folder / "check"], env=self.env)
+        self.same("without a release", (ran.returncode, ran.stdout.decode().splitlines()[0]),
+                  (1, f"{fault}, and dist/ has no release"))
+
+    def test_what_is_refused(self):
+        dist = self.folder / "dist"
+
+        def damage():
+            content = bytearray((dist / ARCHIVE).read_bytes())
+            content[-9] ^= 1
+            (dist / ARCHIVE).write_bytes(content)
+
+        def rename():
+            (dist / ARCHIVE).rename(dist / ARCHIVE.replace("0.9.0", "0.9.1"))
+
+        def exchange():
+            write_tar(dist / ARCHIVE, {"usr/bin/ibm1401": b"#!/bin/sh\necho another\n"}, "ibm1401-0.9.0", 0)
+            note_sums(dist)
+
+        for name, change, why in [
+            ("one byte", damage, f"dist/{ARCHIVE} is damaged: its checksum is another"),
+            ("another name", rename,
+             f"dist/{ARCHIVE.replace('0.9.0', '0.9.1')} isn't of the release that dist/SHA256SUMS names"),
+            ("another program", exchange, f"dist/{ARCHIVE} has another program than dist/PROVED.txt.gz"),
+            ("no proof", (dist / "PROVED.txt.gz").unlink, "dist/ is damaged: ..."),
+            ("half a proof", lambda: (dist / "PROVED.txt.gz").write_bytes(compressed(b"proved " * 9)[:20]),
+             "dist/ is damaged: ..."),
+            ("no checksums", (dist / "SHA256SUMS").unlink, "dist/ is damaged: ..."),
+        ]:
+            change()
+            end = "" if why.endswith("...") else "\n"
+            self.expect(name, self.launch("load"), 1, "", f"ibm1401: release refused: {why}{end}")
+            shutil.rmtree(dist)
+            add_release(self.folder)
+        self.expect("a good one", self.launch("load"), 0, "released load\n", FIRST + REST)
+
+
+def without_toolchain():
+    """A PATH on which there is no command rt."""
+    folders = [each for each in os.environ["PATH"].split(":") if each and not os.path.exists(f"{each}/rt")]
+    return ":".join(folders)
 
 
 if __name__ == "__main__":

@@ -1,5 +1,6 @@
 """`./release`, in a copy of the repository in which a gate of its own has been noted: what it makes, and what it
 refuses. That the gate proves the program is for ./check to show."""
+import gzip
 import os
 import re
 import shutil
@@ -7,6 +8,7 @@ import subprocess
 import tarfile
 import unittest
 
+from releasing import released
 from releasing.completion import for_bash, for_fish, for_zsh
 from releasing.helps import pages_of
 from releasing.proved import bare, checksum, note_of, program_of, sources, write_note
@@ -119,7 +121,7 @@ class Made(ReleaseTest):
 
     def test_two_runs_give_the_same_bytes(self):
         first, second = self.made(), self.made("again", TZ="Asia/Tokyo", LC_ALL="C")
-        self.same("the files", sorted(first), sorted(["PROVED.txt", "SHA256SUMS", PACKAGE, ARCHIVE]))
+        self.same("the files", sorted(first), sorted(["PROVED.txt.gz", "SHA256SUMS", PACKAGE, ARCHIVE]))
         for name in first:
             self.check(name, "" if first[name] == second[name] else "it differs")
         other = self.made("later", SOURCE_DATE_EPOCH="1800000000")
@@ -137,8 +139,8 @@ class Made(ReleaseTest):
     def test_its_checksums(self):
         made = self.made()
         ran = run(["sha256sum", "-c", "SHA256SUMS"], cwd=self.folder / "dist")
-        self.expect("SHA256SUMS", ran, 0, f"PROVED.txt: OK\n{ARCHIVE}: OK\n{PACKAGE}: OK\n")
-        proof = made["PROVED.txt"].decode()
+        self.expect("SHA256SUMS", ran, 0, f"PROVED.txt.gz: OK\n{ARCHIVE}: OK\n{PACKAGE}: OK\n")
+        proof = gzip.decompress(made["PROVED.txt.gz"]).decode()
         (self.folder / "sums").write_text(proof.partition("SOURCES\n\n")[2])
         self.expect("of the sources", run(["sha256sum", "--quiet", "-c", self.folder / "sums"], cwd=self.place))
         self.same("how many sources", len(proof.partition("SOURCES\n\n")[2].splitlines()), len(sources(self.place)))
@@ -193,6 +195,29 @@ class Made(ReleaseTest):
             for option in page.options + page.arguments:
                 said = " ".join([", ".join(option.names), option.value, option.help]).split()
                 self.check(f"{path.name}: {option.long or option.value}", "" if " ".join(said) in text else text)
+
+
+@unittest.skipIf(released.archive_in(TOP / "dist") is None, "dist/ has no release")
+class InTheTree(ProgramTest):
+    """The release in dist/."""
+
+    def test_it_is_small_and_whole(self):
+        made = {each.name: each.read_bytes() for each in (TOP / "dist").iterdir()}
+        version = next(name for name in made if name.endswith(".tar.gz")).split("-")[1]
+        archive, package = ARCHIVE.replace("0.9.0", version), PACKAGE.replace("0.9.0", version)
+        self.same("the files", sorted(made), sorted(["PROVED.txt.gz", "SHA256SUMS", package, archive]))
+        self.check("4 MB", "" if sum(map(len, made.values())) <= 4_000_000 else "it is larger")
+        ran = run(["sha256sum", "-c", "SHA256SUMS"], cwd=TOP / "dist")
+        self.expect("SHA256SUMS", ran, 0, f"PROVED.txt.gz: OK\n{archive}: OK\n{package}: OK\n")
+
+    def test_the_gate_has_built_the_same_program(self):
+        """Whenever the sources are those of the release: any toolchain of that kind gives the same bytes."""
+        proof = gzip.decompress((TOP / "dist/PROVED.txt.gz").read_bytes()).decode()
+        if not note_of(TOP).exists() or released.noted_in(proof.partition("SOURCES\n\n")[2]) != sources(TOP):
+            self.skipTest("the gate hasn't built the sources of the release here")
+        archive = released.archive_in(TOP / "dist")
+        program = released.program_in(archive, released.noted_in((TOP / "dist/SHA256SUMS").read_text()), proof)
+        self.check("its bytes", "" if bare(program) == bare(program_of(TOP).read_bytes()) else "they differ")
 
 
 class Completions(ProgramTest):
