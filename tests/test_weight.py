@@ -4,7 +4,7 @@ import tempfile
 import unittest
 from pathlib import Path
 
-from tests import counts
+from tests import clauses, counts
 from tests.support import TOP, run
 
 RULER = sys.executable, "-m", "tests.proof_weight"
@@ -105,6 +105,52 @@ class Counts(unittest.TestCase):
         now = counts.counts()
         self.assertEqual(counts.ceilings("".join(counts.line_of(*each) + "\n" for each in now.items())), now)
 
+    def test_the_public_contracts_of_a_source(self):
+        found = clauses.contracts_in(CONTRACTS)
+        self.assertEqual(found, {
+            "Core::size": "pub fn size(&self) -> u16 ensures { result ≡ length self.now }",
+            "Core::plain": "pub const fn plain() -> Core",
+            "free": "pub fn free( at: u16, ) -> Option<u16> requires { at < 16 } ensures some { IfSome result IsSmall }",
+        })
+        weaker = {**found, "free": found["free"].partition(" ensures")[0], "added": "pub fn added()"}
+        del weaker["Core::plain"]
+        self.assertEqual(clauses.differences(found, weaker), [
+            "gone  Core::plain", "new  added", "changed  free", "    - some { IfSome result IsSmall }"])
+
+    def test_what_asks_for_contracts(self):
+        refused = ["--since"], ["no_crate"], ["--since", "HEAD", "no_crate"]
+        for words, status in [*((each, 2) for each in refused), (["bcd_1401"], 0)]:
+            with self.subTest(words):
+                ran = run([sys.executable, "-m", "tests.clauses", *words], cwd=TOP)
+                self.assertEqual((ran.returncode, ran.stdout == b""), (status, status != 0))
+
+
+CONTRACTS = """impl Core {
+    /// How many places.
+    pub fn size(&self) -> u16
+        ensures { result ≡ length self.now }
+    {
+        0
+    }
+
+    pub const fn plain() -> Core {
+        Core
+    }
+
+    fn hidden() {}
+}
+
+pub fn free(
+    at: u16,
+) -> Option<u16>
+    requires { at < 16 }
+
+    // Why.
+    ensures some { IfSome result IsSmall }
+{
+    None
+}
+"""
 
 if __name__ == "__main__":
     unittest.main()
