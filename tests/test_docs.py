@@ -3,6 +3,7 @@ import re
 import unittest
 from pathlib import Path
 
+from tests import crate_map
 from tests.support import EXAMPLES, TESTS, TOP, ProgramTest, program, run
 
 PAGES = [TOP / "README.md", *sorted((TOP / "docs").glob("*.md"))]
@@ -75,6 +76,15 @@ class Pages(ProgramTest):
         for files, name in named:
             lacks = "" if any(re.search(rf"\b{name}\b", file.read_text()) for file in files) else f"{files} don't have it"
             self.check(name, lacks)
+
+    def test_the_map_has_the_crates_and_what_each_needs(self):
+        needed, text = crate_map.crates(), crate_map.MAP.read_text()
+        self.same("the boxes", sorted(re.findall(r"^<text [^>]*>(\w+)</text>$", text, re.MULTILINE)), sorted(needed))
+        lines = re.findall(r"^<path .*<title>(\w+) needs (\w+)</title></path>$", text, re.MULTILINE)
+        drawn = {crate: [lower for other, lower in lines if other == crate] for crate in needed}
+        self.same("all that each crate needs", crate_map.closure(drawn), crate_map.closure(needed))
+        self.check("it is drawn from crates.txt", "" if text == crate_map.drawn(needed)
+                   else "python3 -m tests.crate_map draws it again")
 
     def test_modules_that_the_page_of_tests_names(self):
         rows = re.findall(r"^\| `test_.*", (TESTS / "README.md").read_text(), re.MULTILINE)
