@@ -4,7 +4,7 @@ import unittest
 from pathlib import Path
 
 from tests import crate_map
-from tests.support import EXAMPLES, TESTS, TOP, ProgramTest, program, run
+from tests.support import TESTS, TOP, ProgramTest, at_a_port, program, run
 
 PAGES = [TOP / "README.md", *sorted((TOP / "docs").glob("*.md"))]
 
@@ -22,6 +22,18 @@ def rows_of(page):
             typed, answered = re.fullmatch(r"\|? ?`(.*)`", cells[0]), re.fullmatch(r"`(.*)`", cells[1])
             rows.append((typed[1], answered[1] if answered else None))
     return rows
+
+
+def ended_at_quit(rows):
+    """The sessions of a page: each ends with QUIT or with the page."""
+    session = []
+    for row in rows:
+        session.append(row)
+        if row[0] == "QUIT":
+            yield session
+            session = []
+    if session:
+        yield session
 
 
 def lost_links(page):
@@ -67,7 +79,7 @@ class Pages(ProgramTest):
     """What a page shows is what the program does."""
 
     def test_links(self):
-        for page in [*PAGES, TOP / "benches/README.md", TOP / "tests/README.md"]:
+        for page in [*PAGES, *(TOP / folder / "README.md" for folder in ("benches", "examples", "tests"))]:
             self.same(str(page.relative_to(TOP)), lost_links(page), [])
 
     def test_what_architecture_names_on_a_path(self):
@@ -103,13 +115,13 @@ class Pages(ProgramTest):
         """Each table of lines and replies: its replies to the byte, and what its page has to paste is its lines."""
         found = {page: rows_of(page) for page in PAGES}
         shown = {page.name for page, rows in found.items() if rows}
-        self.same("these have one at least", {"README.md", "OPERATING.md", "TUTORIAL.md"} - shown, set())
+        self.same("these have one at least", {"README.md", "TUTORIAL.md"} - shown, set())
         for page, rows in found.items():
-            if rows:
-                self.hold_session(page, rows)
+            for session in ended_at_quit(rows):
+                self.hold_session(page, session)
 
     def hold_session(self, page, rows):
-        """Subtests of the session of a page."""
+        """Subtests of a session of a page."""
         lines = "".join(f"{typed}\n" for typed, _ in rows)
         replies = "".join(f"{answered}\n" for _, answered in rows if answered is not None)
         self.expect(f"{page.name}: its session", program("console", lines=lines.encode()), 0, replies)
@@ -118,18 +130,35 @@ class Pages(ProgramTest):
             self.expect(f"{page.name}: what it has to paste", pasted, 0, replies)
             self.check(f"{page.name}: that is its session", "" if lines in block else "its lines are others")
 
-    def test_what_readme_assembles_and_runs(self):
-        block = re.search(r"```sh\n(\./ibm1401 assemble .*?)```", (TOP / "README.md").read_text(), re.DOTALL)
-        replies = (EXAMPLES / "five_and_five.out").read_bytes()
-        self.expect("it", run(["bash", "-c", block[1]], cwd=self.top), 0, replies)
+    def test_what_readme_runs(self):
+        """What it prints on paper, and what standard error says."""
+        text = (TOP / "README.md").read_text()
+        call, paper = re.search(r"```sh\n(\./ibm1401 run .*?)```\n\n```text\n(.*?)```", text, re.DOTALL).groups()
+        ending = " ".join(re.search(r"`(ibm1401: HALT .*?)`", text, re.DOTALL)[1].split())
+        self.expect("it", run(["bash", "-c", call], cwd=self.top), 0, paper, f"{ending}\n")
+
+    def test_what_readme_serves(self):
+        """At other ports, since those of the page may be taken: the page of seat 1 is where it says."""
+        text = (TOP / "README.md").read_text()
+        call = re.search(r"```sh\n\./ibm1401 (serve .*)\n```", text)[1].split()
+        port, seats = (call[call.index(option) + 1] for option in ("--page", "--seats"))
+        shown = re.search(r"The \[page\]\S* of the first is at http://127\.0\.0\.1:(\d+)/", text)[1]
+        self.same("the address that the page names", shown, port)
+
+        def served(first):
+            return program(*[str(first) if word == port else word for word in call], lines=b"QUIT\n")
+        ran = at_a_port(served, int(seats))
+        first = int(re.search(rb"^SEAT 1 http://127\.0\.0\.1:(\d+)/$", ran.stdout, re.MULTILINE)[1])
+        pages = "".join(f"SEAT {seat} http://127.0.0.1:{first + seat - 1}/\n" for seat in range(1, int(seats) + 1))
+        self.expect("it", ran, 0, f"READY\n{pages}JOURNAL 0\n")
 
 
 class Features(ProgramTest):
-    """The program that FEATURES.md shows."""
+    """The program that MACHINE.md shows for its features."""
 
     def test_what_it_prints_with_its_features_and_without(self):
-        source, call, paper, fault = re.findall(r"```(?:text|sh)\n(.*?)```", (TOP / "docs/FEATURES.md").read_text(),
-                                                re.DOTALL)[:4]
+        _, features = (TOP / "docs/MACHINE.md").read_text().split("\n## Features\n")
+        source, call, paper, fault = re.findall(r"```(?:text|sh)\n(.*?)```", features, re.DOTALL)[:4]
         (self.folder / "interest.source").write_text(source)
         (self.folder / "interest.cards").write_text("12500\n00380\n")
         words = call.split()[1:]
