@@ -4,7 +4,7 @@ import unittest
 from pathlib import Path
 
 from tests import crate_map
-from tests.support import TESTS, TOP, ProgramTest, at_a_port, program, run
+from tests.support import EXAMPLES, TESTS, TOP, ProgramTest, at_a_port, program, run
 
 PAGES = [TOP / "README.md", *sorted((TOP / "docs").glob("*.md"))]
 
@@ -59,6 +59,27 @@ def named_definitions():
             crate, _, file = place.rpartition("/specs/") if "/" in place else (crate, "", place)
             for name in re.findall(r"`(.*?)`", names):
                 yield TOP / "crates" / crate / "specs" / f"{file}.antt", name
+
+
+def known_tests():
+    """The names of all tests: of Rattle, of Python, and those that a text's title has."""
+    names = set()
+    for source in (TOP / "crates").glob("tests_*/src/**/*.rt"):
+        names |= set(re.findall(r"#\[test[^\n]*\n(?:#[^\n]*\n)*(?:pub )?fn (\w+)", source.read_text()))
+    for module in TESTS.glob("test_*.py"):
+        names |= {module.stem, *re.findall(r"def test_(\w+)\(", module.read_text())}
+    for text in TESTS.glob("*/*.txt"):
+        for title in re.findall(r"^== (.*)$", text.read_text(), re.MULTILINE):
+            names.add(re.sub(r"[^a-z0-9]+", "_", title.lower()).strip("_"))
+    return names | {f"test_{name}" for name in names}
+
+
+def known_names():
+    """The names that sources and definitions have, the examples, and what their configurations say."""
+    files = [path for path in (TOP / "crates").glob("*/s*/**/*") if path.suffix in (".rt", ".antt")]
+    files += [path for path in EXAMPLES.iterdir() if path.suffix == ".conf"]
+    return {name for path in files for name in re.findall(r"\w+", path.read_text())} | {
+        path.stem for path in EXAMPLES.iterdir()}
 
 
 def named_on_paths():
@@ -151,6 +172,27 @@ class Pages(ProgramTest):
         first = int(re.search(rb"^SEAT 1 http://127\.0\.0\.1:(\d+)/$", ran.stdout, re.MULTILINE)[1])
         pages = "".join(f"SEAT {seat} http://127.0.0.1:{first + seat - 1}/\n" for seat in range(1, int(seats) + 1))
         self.expect("it", ran, 0, f"READY\n{pages}JOURNAL 0\n")
+
+
+class Names(ProgramTest):
+    """Tests and replies that pages name are there, and none is left out."""
+
+    def test_console_has_each_reply_of_a_fault(self):
+        said = r"(?:REFUSED|ERROR|FAULT|GLANCE FAULT) \d [A-Z ]+"
+        texts = {text for source in (TOP / "crates").glob("*/src/*.rt")
+                 for text in re.findall(rf'=> "({said})"', source.read_text())}
+        rows = re.findall(rf"^\| `({said})` \|", (TOP / "docs/CONSOLE.md").read_text(), re.MULTILINE)
+        self.same("the replies", sorted(rows), sorted(texts))
+
+    def test_each_test_that_a_page_names_is_there(self):
+        """What is in code and has three underscores or more is a test, unless the sources know the name."""
+        tests, others = known_tests(), known_names()
+        for page in [*PAGES, *(TOP / folder / "README.md" for folder in ("benches", "examples", "tests"))]:
+            text = re.sub(r"```.*?```", "", page.read_text(), flags=re.DOTALL)
+            named = set(re.findall(r"`([a-z0-9]+(?:_[a-z0-9]+){3,})`", text)) - others
+            table = text.partition("| Call | Test |\n")[2].partition("\n\n")[0]
+            named |= set(re.findall(r"^\|.* \| `(\w+)` \|$", table, re.MULTILINE))
+            self.same(f"{page.relative_to(TOP)}: tests that aren't there", sorted(named - tests), [])
 
 
 class Features(ProgramTest):

@@ -13,11 +13,12 @@ DOCS = TOP / "docs"
 MOST_LINES = {
     "README.md": 110,
     "docs/ARCHITECTURE.md": 160,
-    "docs/CONTRIBUTING.md": 120,
+    "docs/CONTRIBUTING.md": 132,
     "docs/COSTS.md": 120,
     "docs/THEOREMS.md": 356,
-    "docs/DECISIONS.md": 500,
+    "docs/DECISIONS.md": 520,
     "docs/GLOSSARY.md": 60,
+    "docs/OPERATE.md": 350,
 }
 MOST_COLUMNS = 120
 # How many words a cell of a page's tables may have, if it is to be read aloud.
