@@ -15,14 +15,14 @@ MOST_LINES = {
     "docs/ARCHITECTURE.md": 160,
     "docs/CONTRIBUTING.md": 132,
     "docs/COSTS.md": 120,
-    "docs/THEOREMS.md": 356,
+    "docs/THEOREMS.md": 600,
     "docs/DECISIONS.md": 520,
     "docs/GLOSSARY.md": 60,
     "docs/OPERATE.md": 350,
 }
 MOST_COLUMNS = 120
 # How many words a cell of a page's tables may have, if it is to be read aloud.
-MOST_WORDS = {"README.md": 25}
+MOST_WORDS = {"README.md": 25, "docs/THEOREMS.md": 30}
 
 
 def tables(page):
@@ -147,6 +147,15 @@ class Tree(unittest.TestCase):
             for part in block.strip("\n").split("\n\n"):
                 with self.subTest(file=file, part=part):
                     self.assertIn(f"\n{part}\n", (TOP / file).read_text())
+
+    def test_theorems_names_the_crates_that_the_toolchain_brings(self):
+        needed = set()
+        for line in (TOP / "crates.txt").read_text().splitlines():
+            if line and not line.startswith("#"):
+                needed |= set(line.partition(":")[2].split())
+        trusted = re.search(r"^## What is trusted\n(.*)", (DOCS / "THEOREMS.md").read_text(), re.MULTILINE | re.DOTALL)[1]
+        brought = re.search(r"that\s+it\s+brings:(.*?)\.\n", trusted, re.DOTALL)[1]
+        self.assertEqual(sorted(names_in(brought)), sorted(needed - self.crates() - {"core"}))
 
     def test_readme_says_how_large_the_whole_is(self):
         """To a tenth, so a change of some lines needs no other figure."""
