@@ -3,7 +3,7 @@
     python3 -m tests.crate_map    draws it again, after a change of crates.txt
 
 Each crate is below those that it needs, and has the colour of its family. An edge that others imply isn't drawn: if A
-needs B and C, and B needs C, there is no line from A to C. Each edge is a line of the file, with a title that names both
+needs B and C, and B needs C, there is no line from A to C. Each edge is a line of the file, whose title names both
 crates. tests/test_docs.py compares the file with crates.txt."""
 from functools import lru_cache
 from html import escape
@@ -62,20 +62,20 @@ def rows_of(needed):
 
 
 class Layout:
-    """Where each crate is, and each bend of an edge that crosses rows. A bend is a pair: the edge, and its row."""
+    """Where each crate is, and each bend of an edge that crosses rows: a bend has both ends of the edge, and its row."""
 
     def __init__(self, needed):
         self.row, self.lines = rows_of(needed), edges(needed)
-        self.ways = {(crate, lower): [lower, *(((crate, lower), at) for at in range(self.row[lower] + 1, self.row[crate])),
-                                      crate] for crate, lower in self.lines}
+        self.ways = {}
+        for crate, lower in self.lines:
+            bends = [(crate, lower, row) for row in range(self.row[lower] + 1, self.row[crate])]
+            self.ways[crate, lower] = [lower, *bends, crate]
         self.rows = [[] for _ in range(max(self.row.values()) + 1)]
         for crate, row in self.row.items():
             self.rows[row].append(crate)
         for way in self.ways.values():
-            for _, row in way[1:-1]:
-                self.rows[row].append((way[-1], way[0], row))
-        self.ways = {edge: [each if isinstance(each, str) else (edge[0], edge[1], each[1]) for each in way]
-                     for edge, way in self.ways.items()}
+            for bend in way[1:-1]:
+                self.rows[bend[2]].append(bend)
         self.near = {}
         for way in self.ways.values():
             for upper, lower in zip(way, way[1:]):
@@ -152,7 +152,8 @@ def drawn(needed):
         box = wide(crate) - GAP
         text.append(f'<rect x="{layout.x[crate] - box / 2:.0f}" y="{high[crate]}" width="{box:.0f}" height="{TALL}" '
                     f'rx="3" fill="{COLOURS[family_of(crate)]}" stroke="#555555" stroke-width="0.8"/>')
-        text.append(f'<text x="{layout.x[crate]:.0f}" y="{high[crate] + 15}" text-anchor="middle">{escape(crate)}</text>')
+        middle = f'x="{layout.x[crate]:.0f}" y="{high[crate] + 15}" text-anchor="middle"'
+        text.append(f"<text {middle}>{escape(crate)}</text>")
     return "\n".join([*text, "</svg>", ""])
 
 

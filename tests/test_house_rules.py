@@ -153,7 +153,7 @@ class Tree(unittest.TestCase):
         for line in (TOP / "crates.txt").read_text().splitlines():
             if line and not line.startswith("#"):
                 needed |= set(line.partition(":")[2].split())
-        trusted = re.search(r"^## What is trusted\n(.*)", (DOCS / "THEOREMS.md").read_text(), re.MULTILINE | re.DOTALL)[1]
+        trusted = (DOCS / "THEOREMS.md").read_text().partition("\n## What is trusted\n")[2]
         brought = re.search(r"that\s+it\s+brings:(.*?)\.\n", trusted, re.DOTALL)[1]
         self.assertEqual(sorted(names_in(brought)), sorted(needed - self.crates() - {"core"}))
 
@@ -166,6 +166,12 @@ class Tree(unittest.TestCase):
             count = sum(len(each.read_text().splitlines()) for each in files)
             with self.subTest(part, count=count):
                 self.assertLessEqual(abs(int(number.replace(",", "")) - count), count / 10)
+
+    def test_the_crates_for_a_user_are_eight(self):
+        """As ARCHITECTURE and CONTRIBUTING say."""
+        page = " ".join((DOCS / "ARCHITECTURE.md").read_text().split())
+        self.assertIn("The eight crates whose names end in `_1401`", page)
+        self.assertEqual(len([crate for crate in self.crates() if crate.endswith("_1401")]), 8)
 
     def test_no_other_page_lists_the_crates(self):
         for page in [TOP / "README.md", *sorted(DOCS.glob("*.md"))]:

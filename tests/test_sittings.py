@@ -34,8 +34,7 @@ DECK = re.compile(rf"^{PROMPT}deck (([A-Z])(\d+)\.cards)$", re.MULTILINE)
 
 
 class Sitting:
-    """What a shell does first, a call, what is typed and shown, and the commands that the saved journal has, if they are
-    looked at."""
+    """What a shell does first, a call, what is typed and shown, and the commands of the saved journal, if they count."""
 
     def __init__(self, name):
         self.name, self.before, self.words, self.shown, self.recorded = name, [], None, "", None
