@@ -25,7 +25,7 @@ KINDS = {
                        "test_wider_language"),
     "refused allocations": ("test_calls", "test_growth", "test_growth_of_rooms", "test_memory"),
     "chance": ("test_chance",),
-    "the documents": ("test_docs", "test_examples", "test_pages_size"),
+    "the documents": ("test_docs", "test_examples", "test_house_rules"),
     "the launcher": ("test_build_rules", "test_launcher", "test_launcher_help"),
 }
 PROCESS = "the process"

@@ -3,7 +3,8 @@ import re
 import unittest
 from pathlib import Path
 
-from tests.support import EXAMPLES, TESTS, TOP, ProgramTest, program, run
+from tests import crate_map
+from tests.support import EXAMPLES, TESTS, TOP, ProgramTest, at_a_port, program, run
 
 PAGES = [TOP / "README.md", *sorted((TOP / "docs").glob("*.md"))]
 
@@ -21,6 +22,18 @@ def rows_of(page):
             typed, answered = re.fullmatch(r"\|? ?`(.*)`", cells[0]), re.fullmatch(r"`(.*)`", cells[1])
             rows.append((typed[1], answered[1] if answered else None))
     return rows
+
+
+def ended_at_quit(rows):
+    """The sessions of a page: each ends with QUIT or with the page."""
+    session = []
+    for row in rows:
+        session.append(row)
+        if row[0] == "QUIT":
+            yield session
+            session = []
+    if session:
+        yield session
 
 
 def lost_links(page):
@@ -48,6 +61,27 @@ def named_definitions():
                 yield TOP / "crates" / crate / "specs" / f"{file}.antt", name
 
 
+def known_tests():
+    """The names of all tests: of Rattle, of Python, and those that a text's title has."""
+    names = set()
+    for source in (TOP / "crates").glob("tests_*/src/**/*.rt"):
+        names |= set(re.findall(r"#\[test[^\n]*\n(?:#[^\n]*\n)*(?:pub )?fn (\w+)", source.read_text()))
+    for module in TESTS.glob("test_*.py"):
+        names |= {module.stem, *re.findall(r"def test_(\w+)\(", module.read_text())}
+    for text in TESTS.glob("*/*.txt"):
+        for title in re.findall(r"^== (.*)$", text.read_text(), re.MULTILINE):
+            names.add(re.sub(r"[^a-z0-9]+", "_", title.lower()).strip("_"))
+    return names | {f"test_{name}" for name in names}
+
+
+def known_names():
+    """The names that sources and definitions have, the examples, and what their configurations say."""
+    files = [path for path in (TOP / "crates").glob("*/s*/**/*") if path.suffix in (".rt", ".antt")]
+    files += [path for path in EXAMPLES.iterdir() if path.suffix == ".conf"]
+    return {name for path in files for name in re.findall(r"\w+", path.read_text())} | {
+        path.stem for path in EXAMPLES.iterdir()}
+
+
 def named_on_paths():
     """What ARCHITECTURE names on a path through the code: the files of a row, and a name that they should have."""
     for line in (TOP / "docs/ARCHITECTURE.md").read_text().splitlines():
@@ -66,7 +100,7 @@ class Pages(ProgramTest):
     """What a page shows is what the program does."""
 
     def test_links(self):
-        for page in [*PAGES, TOP / "benches/README.md", TOP / "tests/README.md"]:
+        for page in [*PAGES, *(TOP / folder / "README.md" for folder in ("benches", "examples", "tests"))]:
             self.same(str(page.relative_to(TOP)), lost_links(page), [])
 
     def test_what_architecture_names_on_a_path(self):
@@ -75,6 +109,15 @@ class Pages(ProgramTest):
         for files, name in named:
             lacks = "" if any(re.search(rf"\b{name}\b", file.read_text()) for file in files) else f"{files} don't have it"
             self.check(name, lacks)
+
+    def test_the_map_has_the_crates_and_what_each_needs(self):
+        needed, text = crate_map.crates(), crate_map.MAP.read_text()
+        self.same("the boxes", sorted(re.findall(r"^<text [^>]*>(\w+)</text>$", text, re.MULTILINE)), sorted(needed))
+        lines = re.findall(r"^<path .*<title>(\w+) needs (\w+)</title></path>$", text, re.MULTILINE)
+        drawn = {crate: [lower for other, lower in lines if other == crate] for crate in needed}
+        self.same("all that each crate needs", crate_map.closure(drawn), crate_map.closure(needed))
+        self.check("it is drawn from crates.txt", "" if text == crate_map.drawn(needed)
+                   else "python3 -m tests.crate_map draws it again")
 
     def test_modules_that_the_page_of_tests_names(self):
         rows = re.findall(r"^\| `test_.*", (TESTS / "README.md").read_text(), re.MULTILINE)
@@ -93,13 +136,13 @@ class Pages(ProgramTest):
         """Each table of lines and replies: its replies to the byte, and what its page has to paste is its lines."""
         found = {page: rows_of(page) for page in PAGES}
         shown = {page.name for page, rows in found.items() if rows}
-        self.same("these have one at least", {"README.md", "OPERATING.md", "TUTORIAL.md"} - shown, set())
+        self.same("these have one at least", {"README.md", "TUTORIAL.md"} - shown, set())
         for page, rows in found.items():
-            if rows:
-                self.hold_session(page, rows)
+            for session in ended_at_quit(rows):
+                self.hold_session(page, session)
 
     def hold_session(self, page, rows):
-        """Subtests of the session of a page."""
+        """Subtests of a session of a page."""
         lines = "".join(f"{typed}\n" for typed, _ in rows)
         replies = "".join(f"{answered}\n" for _, answered in rows if answered is not None)
         self.expect(f"{page.name}: its session", program("console", lines=lines.encode()), 0, replies)
@@ -108,18 +151,56 @@ class Pages(ProgramTest):
             self.expect(f"{page.name}: what it has to paste", pasted, 0, replies)
             self.check(f"{page.name}: that is its session", "" if lines in block else "its lines are others")
 
-    def test_what_readme_assembles_and_runs(self):
-        block = re.search(r"```sh\n(\./ibm1401 assemble .*?)```", (TOP / "README.md").read_text(), re.DOTALL)
-        replies = (EXAMPLES / "five_and_five.out").read_bytes()
-        self.expect("it", run(["bash", "-c", block[1]], cwd=self.top), 0, replies)
+    def test_what_readme_runs(self):
+        """What it prints on paper, and what standard error says."""
+        text = (TOP / "README.md").read_text()
+        call, paper = re.search(r"```sh\n(\./ibm1401 run .*?)```\n\n```text\n(.*?)```", text, re.DOTALL).groups()
+        ending = " ".join(re.search(r"`(ibm1401: HALT .*?)`", text, re.DOTALL)[1].split())
+        self.expect("it", run(["bash", "-c", call], cwd=self.top), 0, paper, f"{ending}\n")
+
+    def test_what_readme_serves(self):
+        """At other ports, since those of the page may be taken: the page of seat 1 is where it says."""
+        text = (TOP / "README.md").read_text()
+        call = re.search(r"```sh\n\./ibm1401 (serve .*)\n```", text)[1].split()
+        port, seats = (call[call.index(option) + 1] for option in ("--page", "--seats"))
+        shown = re.search(r"The \[page\]\S* of the first is at http://127\.0\.0\.1:(\d+)/", text)[1]
+        self.same("the address that the page names", shown, port)
+
+        def served(first):
+            return program(*[str(first) if word == port else word for word in call], lines=b"QUIT\n")
+        ran = at_a_port(served, int(seats))
+        first = int(re.search(rb"^SEAT 1 http://127\.0\.0\.1:(\d+)/$", ran.stdout, re.MULTILINE)[1])
+        pages = "".join(f"SEAT {seat} http://127.0.0.1:{first + seat - 1}/\n" for seat in range(1, int(seats) + 1))
+        self.expect("it", ran, 0, f"READY\n{pages}JOURNAL 0\n")
+
+
+class Names(ProgramTest):
+    """Tests and replies that pages name are there, and none is left out."""
+
+    def test_console_has_each_reply_of_a_fault(self):
+        said = r"(?:REFUSED|ERROR|FAULT|GLANCE FAULT) \d [A-Z ]+"
+        texts = {text for source in (TOP / "crates").glob("*/src/*.rt")
+                 for text in re.findall(rf'=> "({said})"', source.read_text())}
+        rows = re.findall(rf"^\| `({said})` \|", (TOP / "docs/CONSOLE.md").read_text(), re.MULTILINE)
+        self.same("the replies", sorted(rows), sorted(texts))
+
+    def test_each_test_that_a_page_names_is_there(self):
+        """What is in code and has three underscores or more is a test, unless the sources know the name."""
+        tests, others = known_tests(), known_names()
+        for page in [*PAGES, *(TOP / folder / "README.md" for folder in ("benches", "examples", "tests"))]:
+            text = re.sub(r"```.*?```", "", page.read_text(), flags=re.DOTALL)
+            named = set(re.findall(r"`([a-z0-9]+(?:_[a-z0-9]+){3,})`", text)) - others
+            table = text.partition("| Call | Test |\n")[2].partition("\n\n")[0]
+            named |= set(re.findall(r"^\|.* \| `(\w+)` \|$", table, re.MULTILINE))
+            self.same(f"{page.relative_to(TOP)}: tests that aren't there", sorted(named - tests), [])
 
 
 class Features(ProgramTest):
-    """The program that FEATURES.md shows."""
+    """The program that MACHINE.md shows for its features."""
 
     def test_what_it_prints_with_its_features_and_without(self):
-        source, call, paper, fault = re.findall(r"```(?:text|sh)\n(.*?)```", (TOP / "docs/FEATURES.md").read_text(),
-                                                re.DOTALL)[:4]
+        _, features = (TOP / "docs/MACHINE.md").read_text().split("\n## Features\n")
+        source, call, paper, fault = re.findall(r"```(?:text|sh)\n(.*?)```", features, re.DOTALL)[:4]
         (self.folder / "interest.source").write_text(source)
         (self.folder / "interest.cards").write_text("12500\n00380\n")
         words = call.split()[1:]

@@ -6,7 +6,7 @@ from tests.support import EXAMPLES, ProgramTest, program
 
 # Examples that are tried elsewhere, by what a user does with them: systemd's units, operators who share a machine; and
 # the folder of programs for tapes.
-ELSEWHERE = {".service", ".socket", ".consoles", ".conf"}
+ELSEWHERE = {".service", ".socket", ".consoles", ".conf", ".md"}
 TAPES = EXAMPLES / "tapes"
 
 
@@ -23,6 +23,14 @@ class Examples(ProgramTest):
         files = [each for each in sorted(EXAMPLES.iterdir()) if each.suffix not in ELSEWHERE and each != TAPES]
         self.assertTrue(known)
         self.assertEqual([], [each for each in files if each.name.split(".")[0].removesuffix("_version_1") not in known])
+
+    def test_the_page_has_each_example_once(self):
+        """By its name without an ending, or by its whole name."""
+        rows = re.findall(r"^\| (`.*?) \|", (EXAMPLES / "README.md").read_text(), re.MULTILINE)
+        named = sorted(name.rstrip("/") for row in rows for name in re.findall(r"`([^`]+)`", row))
+        files = [each for each in EXAMPLES.iterdir() if each.suffix != ".md" and each.name != "course"]
+        wanted = {each.name if each.is_dir() or each.suffix in ELSEWHERE else each.name.split(".")[0] for each in files}
+        self.same("the examples", named, sorted(wanted - {"five_and_five_version_1"}))
 
     def test_sessions(self):
         """Each session, on the image of its name where there is one: its replies, to the byte, whatever is fitted."""

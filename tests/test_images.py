@@ -164,8 +164,8 @@ class Disassembled(ProgramTest):
         listing = FIVE.with_suffix(".disassembly").read_bytes()
         self.expect("an example", program("disassemble", FIVE), 0, listing)
         self.expect("the same of version 1", program("disassemble", VERSION_1), 0, listing)
-        page = (TOP / "docs/DISASSEMBLY.md").read_bytes()
-        self.check("DISASSEMBLY.md shows it", "" if b"```text\n" + listing + b"```\n" in page else "it shows another")
+        page = (TOP / "docs/OLD_DECKS.md").read_bytes()
+        self.check("OLD_DECKS.md shows it", "" if b"```text\n" + listing + b"```\n" in page else "it shows another")
 
     def test_an_instruction_that_goes_on_in_the_next_segment(self):
         self.image.write_text("IMAGE2 04000\n00500 04 ~M510\n00504 03 509\n00507 04 ~Q0Z9\nEND 00500\n")

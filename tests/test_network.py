@@ -87,7 +87,7 @@ class Proxied(ProgramTest):
         self.assertEqual(made.returncode, 0, made.stderr)
 
     def make_password(self):
-        """The file of passwords, as docs/NETWORK.md makes it."""
+        """The file of passwords, as docs/SERVING.md makes it."""
         made = run(["openssl", "passwd", "-6", PASSWORD]).stdout.decode().strip()
         (self.folder / "ibm1401.passwords").write_text(f"class:{made}\n")
 

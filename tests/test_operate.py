@@ -9,10 +9,11 @@ import time
 import unittest
 
 from tests.chains import SOURCE_FORTRAN, SOURCE_SIMH
-from tests.support import EXAMPLES, PROGRAM, SECONDS, TOP, ProgramTest, program, run, shell
+from tests.support import EXAMPLES, PROGRAM, SECONDS, TESTS, TOP, ProgramTest, program, run, shell
 
 PAGE = TOP / "docs/OPERATE.md"
 TUTORIAL = TOP / "docs/TUTORIAL.md"
+LESSONS = TESTS / "sittings/lessons.txt"
 PROMPT = "1401> "
 # The words of a line, and how many letters of each suffice.
 SHORTEST = {
@@ -54,9 +55,11 @@ def small_files():
 
 
 def sessions(page):
-    """The sessions of a page: the commands of each, and what they show."""
-    for block in re.findall(r"```console\n(.*?)```", page.read_text(), re.DOTALL):
-        lines = block.splitlines(keepends=True)
+    """The sessions of a page, or of a text of sittings: the commands of each, and what they show."""
+    text = page.read_text()
+    pages = re.findall(r"```console\n(.*?)```", text, re.DOTALL)
+    for block in pages or re.split("^== .*\n", text, flags=re.MULTILINE)[1:]:
+        lines = [line for line in block.splitlines(keepends=True) if line != "\n" and not line.startswith("# ")]
         commands = [line[2:].strip() for line in lines if line.startswith("$ ")]
         yield commands, "".join(line for line in lines if not line.startswith("$ "))
 
@@ -100,7 +103,7 @@ class Pages(Operated):
     def test_each_session(self):
         """Those of OPERATE, and that of TUTORIAL."""
         found = [*sessions(PAGE), *sessions(TUTORIAL)]
-        self.assertEqual(11, len(found))
+        self.assertEqual(4, len(found))
         for commands, shown in found:
             *before, last = commands
             for command in before:
@@ -113,8 +116,8 @@ class Pages(Operated):
                 self.expect(last, ran, int(has_faults), shown)
 
     def test_what_is_recorded_is_answered_the_same_by_a_console(self):
-        """The journals of the page's sessions: `console` replies with the answers that they have."""
-        for number, (commands, shown) in enumerate(sessions(PAGE)):
+        """The journals of these sessions and of lessons: `console` replies with the answers that they have."""
+        for number, (commands, shown) in enumerate([*sessions(PAGE), *sessions(LESSONS)]):
             *before, last = commands
             for command in before:
                 run(["bash", "-c", command], cwd=self.desk)

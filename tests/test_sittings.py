@@ -15,14 +15,15 @@ A file of tests/sittings/ has a remark on its theme, and then sittings, each bel
 'recorded' is followed by all commands of the journal that the sitting has saved as 'kept', if they are looked at;
 '500 times' gives the command above so often in all. A remark begins with '#', in any place.
 
-A sitting finds the program reading.source, which reads cards up to the last one and then halts, and each deck that it
-names: A1200.cards has 1,200 cards, each with an A in its first column."""
+A sitting finds the files of examples/, the program reading.source, which reads cards up to the last one and then halts,
+and each deck that it names: A1200.cards has 1,200 cards, each with an A in its first column. Lines with a dollar sign
+above the call are done by a shell first."""
 import re
 import shutil
 import unittest
 from itertools import zip_longest
 
-from tests.support import TESTS, difference, program
+from tests.support import EXAMPLES, TESTS, difference, program, run
 from tests.test_operate import PROMPT, recorded, typed_in
 from tests.texts import add_cases, read_parts
 
@@ -33,17 +34,20 @@ DECK = re.compile(rf"^{PROMPT}deck (([A-Z])(\d+)\.cards)$", re.MULTILINE)
 
 
 class Sitting:
-    """A call, what is typed and shown, and the commands that the saved journal has, if they are looked at."""
+    """What a shell does first, a call, what is typed and shown, and the commands of the saved journal, if they count."""
 
     def __init__(self, name):
-        self.name, self.words, self.shown, self.recorded = name, None, "", None
+        self.name, self.before, self.words, self.shown, self.recorded = name, [], None, "", None
 
     def take(self, line):
         """Takes a line of the sitting's text, and returns whether it says something there."""
         said = re.fullmatch(r"(\d+) times", line)
         if self.words is None:
-            self.words = line.removeprefix(CALL).split()
-            return line.startswith(CALL)
+            if line.startswith(CALL):
+                self.words = line.removeprefix(CALL).split()
+            else:
+                self.before.append(line.removeprefix("$ "))
+            return line.startswith("$ ")
         if self.recorded is None and line == "recorded":
             self.recorded = []
         elif self.recorded is None:
@@ -70,7 +74,10 @@ def first_other(found, wanted):
 
 def wrong_in(test, sitting):
     """What is wrong with a sitting: its status, what it shows, and what it has recorded."""
+    shutil.copytree(EXAMPLES, test.folder, dirs_exist_ok=True)
     shutil.copy(SITTINGS / "reading.source", test.folder)
+    for command in sitting.before:
+        run(["bash", "-c", command], cwd=test.folder)
     for name, letter, count in DECK.findall(sitting.shown):
         (test.folder / name).write_text(f"{letter}\n" * int(count))
     ran = program("operate", *sitting.words, "--echo", lines=typed_in(sitting.shown).encode(), cwd=test.folder)

@@ -106,7 +106,8 @@ def reader_of(path):
 def places():
     """The files of each page, crate and test, by its name."""
     found = {}
-    for page in [TOP / "README.md", TOP / "CHANGELOG.md", *sorted((TOP / "docs").glob("*.md"))]:
+    own = [TOP / name for name in ("README.md", "CHANGELOG.md", "examples/README.md")]
+    for page in [*own, *sorted((TOP / "docs").glob("*.md"))]:
         found[str(page.relative_to(TOP))] = [page]
     for crate in sorted((TOP / "crates").iterdir()):
         files = [path for part in ("src", "specs", "proofs") for path in sorted((crate / part).rglob("*"))]
