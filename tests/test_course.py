@@ -182,7 +182,7 @@ class Lessons(CourseTest):
 class Script(CourseTest):
     """The script, by each of its ends."""
 
-    usage = "usage: lesson ..."
+    usage = "Usage: lesson [N] [--check]"
 
     def test_it_lists_the_lessons(self):
         titles = [(each / "lesson.md").read_text().splitlines()[0].removeprefix("# Lesson ") for each in LESSONS]
@@ -218,8 +218,13 @@ class Script(CourseTest):
 
     def test_other_words(self):
         for words in ["1", "--chek"], ["--check", "1"], ["--check"], ["1", "--check", "2"], ["1", ""], ["-x"]:
-            self.expect(" ".join(words), self.lesson(*words), 2, "", self.usage)
-        self.expect("help", self.lesson("--help"), 0, self.usage)
+            ran = self.lesson(*words)
+            self.expect(" ".join(words), ran, 2, "", "error: ...")
+            self.check(f"{words}: the usage", "" if self.usage in ran.stderr.decode() else ran.stderr)
+        for word in "-h", "--help":
+            ran = self.lesson(word)
+            self.expect(word, ran, 0, "Lists the lessons of the course...")
+            self.check(f"{word}: the usage", "" if self.usage in ran.stdout.decode() else ran.stdout)
         self.same("nothing is copied", list(self.desk.iterdir()), [])
 
     def test_a_lesson_that_was_not_begun(self):
