@@ -4,8 +4,10 @@ import shutil
 import unittest
 
 from tests.peer import peer, with_peer
-from tests.support import EXAMPLES, LAUNCHER, PROGRAM, ProgramTest, program, run
+from tests.support import EXAMPLES, LAUNCHER, PROGRAM, TOP, ProgramTest, program, run, status
 from tests.tape_reels import MARK, MARK_RECORD, records_of
+from tests.test_holds import HELD
+from tests.test_operate import typed_in
 
 COURSE = EXAMPLES / "course"
 LESSONS = sorted(path.parent for path in COURSE.glob("*/lesson.md"))
@@ -280,6 +282,58 @@ class Script(CourseTest):
         room.rmdir()
         after = {path: path.lstat().st_mtime_ns for path in self.folder.rglob("*")}
         self.same("the others", {path for path in before if before[path] != after.get(path)} - {self.folder}, set())
+
+
+class Teaching(CourseTest):
+    """What COURSE.md shows."""
+
+    page = (TOP / "docs/COURSE.md").read_text()
+
+    def test_each_command(self):
+        """In order: the first block where a pupil begins, the others in the folder of lesson 2."""
+        first, *others = re.findall(r"```(?:console|sh)\n(.*?)```", self.page, re.DOTALL)
+        self.assertEqual(4, len(others))
+        for folder, block in [(self.desk, first), *((self.desk / "02-last-card", other) for other in others)]:
+            if not block.startswith("$ "):
+                ran = run(["bash", "-ec", block], cwd=folder)
+                self.same(block, (ran.returncode, ran.stdout[:13]), (0, b"ADAMS AND SON"))
+                continue
+            for part in re.split(r"^\$ ", block, flags=re.MULTILINE)[1:]:
+                command, shown = part.split("\n", 1)
+                call = command.replace("./ibm1401 lesson", str(self.script)) + " --echo" * (" operate " in command)
+                ran = run(["bash", "-c", call], typed_in(shown).encode(), cwd=folder)
+                self.expect(command, ran, int("not yet" in shown), shown)
+
+    def test_a_class_takes_turns(self):
+        """Each seat holds the machine for its deck, and takes the paper; the journal says who did what."""
+        decks = {1: "01-three-fields", 2: "03-edited-amounts", 3: "06-headings"}
+        for seat, name in decks.items():
+            self.expect(name, program("assemble", COURSE / f"answers/{name}.source", "--deck", self.folder / f"{seat}.deck"))
+        room = self.room("serve", "--journal", self.folder / "friday.journal", seats=len(decks), pages=True)
+        for seat, name in decks.items():
+            cards = (self.folder / f"{seat}.deck").read_text() + (COURSE / name / "program.cards").read_text()
+            lines = [*(f"FEED {card}" for card in cards.splitlines()), "SWITCH A ON", "LOAD", "RUN 100000"]
+            wanted = [line for form in pages((COURSE / name / "wanted.paper").read_text()) for line in form.values()]
+            self.trial(lambda: self.take_a_turn(room, seat, lines, wanted), HELD)
+        self.ended(room, "the room", room.after())
+        shown = program("journal", "--seat", "3", self.folder / "friday.journal").stdout.decode().splitlines()
+        self.same("what seat 3 did is its own", {line.split()[1:3] == ["seat", "3"] for line in shown}, {True})
+
+    def take_a_turn(self, room, seat, lines, wanted):
+        """Subtests: a seat holds the machine, runs its deck and takes its paper, and no other seat gives a line."""
+        own = {"Origin": room.address(seat)}
+        self.same(f"seat {seat} holds it", room.ask(seat, "POST", "/hold", "", own)[0], 200)
+        other = seat % room.seats + 1
+        answers = self.give_all(room, seat, lines)
+        self.check(f"seat {seat}: its run", "" if answers[-1].startswith("STOP 02 HALT ") else answers[-1])
+        self.same(f"seat {other} gives no line meanwhile", status(room.post(other, "START 1", room.made(other))), 423)
+        paper = self.give_all(room, seat, ["LINE"] * len(wanted))
+        self.same(f"seat {seat}: its paper", [line[13:] for line in paper], wanted)
+        self.same(f"seat {seat} ends it", room.ask(seat, "POST", "/release", "", own)[0], 200)
+
+    def give_all(self, room, seat, lines):
+        """The replies to lines of a seat."""
+        return [room.give(seat, room.made(seat), line)[1].decode().rstrip() for line in lines]
 
 
 @with_peer
