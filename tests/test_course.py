@@ -210,6 +210,9 @@ class Script(CourseTest):
         (self.desk / "04-price-table").symlink_to("nowhere")
         for number, name in ("3", "03-edited-amounts"), ("4", "04-price-table"):
             self.expect(name, self.lesson(number), 1, "", f"lesson: {name}: already exists\n")
+        inside = self.lesson("5", cwd=self.begin("05-subroutine"))
+        self.expect("within its folder", inside, 1, "", "lesson: this is the folder of lesson 5\n")
+        shutil.rmtree(self.desk / "05-subroutine")
         self.same("what is there", sorted(each.name for each in self.desk.rglob("*")), ["03-edited-amounts", "04-price-table"])
 
     def test_numbers_that_no_lesson_has(self):
@@ -261,8 +264,8 @@ class Script(CourseTest):
         source = self.begin("02-last-card") / "broken.source"
         for name, end, why in ("another card", "R    *-3", "READER at 0464"), ("no end", "B    *-3", "LIMIT at 0464"):
             source.write_text(answer.replace("H    *-3", end))
-            said = f"lesson: not yet. All is printed, but the program doesn't halt. ibm1401: {why}..."
-            self.expect(name, self.lesson("2", "--check"), 1, "", said)
+            said = f"lesson 2: not yet. All is printed, but the program doesn't halt.\nibm1401: {why}..."
+            self.expect(name, self.lesson("2", "--check"), 1, said)
 
     def test_a_program_that_prints_nothing_or_wide_lines(self):
         source = self.begin("02-last-card") / "broken.source"
