@@ -253,6 +253,19 @@ class Script(CourseTest):
                                  ("within", ["../../bin/ibm1401-lesson"], place), ("by bash", ["bash", link], self.desk)]:
             self.expect(name, run([*words, "2", "--check"], cwd=cwd), 1, "lesson 2: not yet. The total isn't ...")
 
+    def test_the_launcher_builds_before_a_check(self):
+        """In a repository the program is the launcher, which says on standard error how far it has come."""
+        place = self.folder / "repository"
+        shutil.copytree(COURSE, place / "examples/course")
+        launcher = place / "ibm1401"
+        launcher.write_text(f'#!/bin/sh\n[ "$1" = --build ] && echo building >&2 || exec {PROGRAM} "$@"\n')
+        launcher.chmod(0o755)
+        words = [place / "examples/course/lesson", "2"]
+        self.same("its copy", run(words, cwd=self.desk).stderr, b"")
+        self.expect("its check", run([*words, "--check"], cwd=self.desk), 1, "lesson 2: not yet. The total...", "building\n")
+        launcher.write_text("#!/bin/sh\necho 'no command rt' >&2\nexit 1\n")
+        self.expect("no toolchain", run([*words, "--check"], cwd=self.desk), 1, "", "no command rt\n")
+
     def test_a_source_that_does_not_assemble(self):
         source = self.begin("02-last-card") / "broken.source"
         source.write_text(source.read_text().replace("BLC  DONE", "BLC  DOEN"))
