@@ -1,4 +1,5 @@
 """The course: what its lessons show, what their checks find, and the script that hands them out."""
+import os
 import re
 import shutil
 import unittest
@@ -51,15 +52,18 @@ REST = ("     DONE      WTM  3\n", "     REST      C    ITEM,HIGH\n             
 HALF_DONE = [
     ("01-three-fields", "               MLC  30,235\n               MLC  34,244\n",
      "               MLC  34,244\n               MLC  30,235\n", "Line 2 has something between the town and the year"),
-    ("02-last-card", "MCS  TOTAL,230\n", "A    @680@,TOTAL\n               MCS  TOTAL,230\n", "The total isn't the sum"),
-    ("03-edited-amounts", "WORD      DCW  @ ,", "WORD      DCW  @  ,", "The total of these cards isn't printed with all"),
+    ("02-last-card", "MCS  TOTAL,230\n", "A    @680@,TOTAL\n               MCS  TOTAL,230\n",
+     "The total isn't the sum of all three cards"),
+    ("03-edited-amounts", "WORD      DCW  @ ,", "WORD      DCW  @  ,",
+     "The total of these cards isn't printed with all"),
     ("04-price-table", "MLC  @NO PRICE@,230\n", "MLC  @NO PRICE@,230\n               MLC  @000@,INDEX\n",
      "Article 10 comes earlier in the table"),
     ("06-headings", "A    +1,PAGE\n", "CC   1\n               MLC  @001@,PAGE\n", "The heading of form 2 doesn't have"),
     ("07-sorting", "ZA   INDEX,LAST ", "MLC  @120@,LAST ", "Line 2 isn't the card of HILL"),
     ("08-payroll", "LCA  @18@,TAX-8 ", "LCA  @18@,TAX-7 ", "The tax of GREEN isn't 18 percent"),
     ("09-master-file", "     DONE      WTM  3\n",
-     "     DONE      WT   3,IN\n               A    +1,COUNT\n               WTM  3\n", "Record 6 of the new master isn't item 2020"),
+     "     DONE      WT   3,IN\n               A    +1,COUNT\n               WTM  3\n",
+     "Record 6 of the new master isn't item 2020"),
 ]
 
 
@@ -70,8 +74,11 @@ def elsewhere(source):
     def renamed(operands):
         return re.sub(r"@[^@]*@|\b[A-Z]\w*\b", lambda found: names.get(found[0], found[0]), operands)
 
-    lines = [line if line.startswith("     *") else
-             f"     {names.get(line[5:15].strip(), ''):10}{line[15:20]}{renamed(line[20:])}" for line in source.splitlines()]
+    def changed(line):
+        label = names.get(line[5:15].strip(), "")
+        return line if line.startswith("     *") else f"     {label:10}{line[15:20]}{renamed(line[20:])}"
+
+    lines = [changed(line) for line in source.splitlines()]
     begin = lines.index("               ORG  400")
     lines[begin:begin + 1] = ["               ORG  700", "     GO        NOP"]
     return "\n".join([*lines[:-1], "               END  GO", ""])
@@ -79,7 +86,8 @@ def elsewhere(source):
 
 def pages(text):
     """The lines that are printed on each form, with their places."""
-    return [{at: line.rstrip() for at, line in enumerate(form.splitlines(), 1) if line.strip()} for form in text.split("\f")]
+    return [{at: line.rstrip() for at, line in enumerate(form.splitlines(), 1) if line.strip()}
+            for form in text.split("\f")]
 
 
 class CourseTest(ProgramTest):
@@ -142,7 +150,7 @@ class Lessons(CourseTest):
                     if command == first:
                         self.same(f"{name}: its paper", ran.stdout, papers["program"])
             broken = run(["bash", "-c", second], cwd=place)
-            self.check(f"{name}: broken", "" if broken.stdout.decode() != papers["wanted"] else "it prints what is wanted")
+            self.check(f"{name}: broken", broken.stdout.decode() == papers["wanted"] and "it prints what is wanted")
             (place / "new.tap").unlink(missing_ok=True)
             shutil.copy(COURSE / f"answers/{name}.source", place / "broken.source")
             ran = run(["bash", "-c", second], cwd=place)
@@ -197,7 +205,8 @@ class Script(CourseTest):
                 "    ./ibm1401 run program.source --cards program.cards --switches A\n")
         self.expect("it", self.lesson("2"), 0, said)
         copied = {each.name for each in (self.desk / "02-last-card").iterdir()}
-        self.same("the files", copied, {each.name for each in (COURSE / "02-last-card").iterdir()} | {"ibm1401", "lesson"})
+        wanted = {each.name for each in (COURSE / "02-last-card").iterdir()} | {"ibm1401", "lesson"}
+        self.same("the files", copied, wanted)
         again = run(["./lesson", "2", "--check"], cwd=self.desk / "02-last-card")
         self.expect("the check from within", again, 1, "lesson 2: not yet. ...")
 
@@ -213,7 +222,8 @@ class Script(CourseTest):
         inside = self.lesson("5", cwd=self.begin("05-subroutine"))
         self.expect("within its folder", inside, 1, "", "lesson: this is the folder of lesson 5\n")
         shutil.rmtree(self.desk / "05-subroutine")
-        self.same("what is there", sorted(each.name for each in self.desk.rglob("*")), ["03-edited-amounts", "04-price-table"])
+        there = sorted(each.name for each in self.desk.rglob("*"))
+        self.same("what is there", there, ["03-edited-amounts", "04-price-table"])
 
     def test_numbers_that_no_lesson_has(self):
         for number in "0", "10", "03", "x", "", "1*", "../1":
@@ -249,8 +259,9 @@ class Script(CourseTest):
         place = self.begin("02-last-card")
         link = self.folder / "a link"
         link.symlink_to(self.script)
-        for name, words, cwd in [("a link", [link], self.desk), ("another folder", ["../bin/ibm1401-lesson"], self.desk),
-                                 ("within", ["../../bin/ibm1401-lesson"], place), ("by bash", ["bash", link], self.desk)]:
+        for name, words, cwd in [("a link", [link], self.desk), ("by bash", ["bash", link], self.desk),
+                                 ("another folder", ["../bin/ibm1401-lesson"], self.desk),
+                                 ("within", ["../../bin/ibm1401-lesson"], place)]:
             self.expect(name, run([*words, "2", "--check"], cwd=cwd), 1, "lesson 2: not yet. The total isn't ...")
 
     def test_the_launcher_builds_before_a_check(self):
@@ -262,7 +273,8 @@ class Script(CourseTest):
         launcher.chmod(0o755)
         words = [place / "examples/course/lesson", "2"]
         self.same("its copy", run(words, cwd=self.desk).stderr, b"")
-        self.expect("its check", run([*words, "--check"], cwd=self.desk), 1, "lesson 2: not yet. The total...", "building\n")
+        ran = run([*words, "--check"], cwd=self.desk)
+        self.expect("its check", ran, 1, "lesson 2: not yet. The total...", "building\n")
         launcher.write_text("#!/bin/sh\necho 'no command rt' >&2\nexit 1\n")
         self.expect("no toolchain", run([*words, "--check"], cwd=self.desk), 1, "", "no command rt\n")
 
@@ -293,7 +305,8 @@ class Script(CourseTest):
         before = {path: path.lstat().st_mtime_ns for path in self.folder.rglob("*")}
         room = self.folder / "room"
         room.mkdir()
-        self.same("its status", self.lesson("9", "--check", env={"PATH": "/usr/bin:/bin", "TMPDIR": str(room)}).returncode, 1)
+        ran = self.lesson("9", "--check", env={**os.environ, "TMPDIR": str(room)})
+        self.same("its status", ran.returncode, 1)
         self.same("files in between", list(room.iterdir()), [])
         room.rmdir()
         after = {path: path.lstat().st_mtime_ns for path in self.folder.rglob("*")}
@@ -320,11 +333,32 @@ class Teaching(CourseTest):
                 ran = run(["bash", "-c", call], typed_in(shown).encode(), cwd=folder)
                 self.expect(command, ran, int("not yet" in shown), shown)
 
+    def test_decks_for_a_page(self):
+        """Each is its program assembled, with its cards; and the repair in storage prints what is wanted."""
+        rows = re.findall(r"^\| (\d) \| `(RUN \d+)` \| (.*) \|$", self.page, re.MULTILINE)
+        self.same("the lessons with a deck", [number for number, _, _ in rows], list("12345678"))
+        for lesson, (number, loaded, repair) in zip(LESSONS, rows):
+            name, deck, repairs = lesson.name, self.folder / f"{number}.deck", re.findall(r"`(.*?)`", repair)
+            self.expect(name, program("assemble", "--language", "ibm", lesson / "broken.source", "--deck", deck))
+            cards = (deck.read_text() + (lesson / "program.cards").read_text())
+            self.same(f"{name}: its deck", (lesson / "broken.deck").read_text(), cards)
+            wanted = [line for form in pages((lesson / "wanted.paper").read_text()) for line in form.values()]
+            lines = [*(f"FEED {card}" for card in cards.splitlines()), "SWITCH A ON", "LOAD", loaded, *repairs,
+                     "RUN 100000", *["LINE"] * FORM]
+            ran = program("console", "--fit", "multiply", lines="".join(f"{line}\n" for line in lines).encode())
+            replies = ran.stdout.decode().splitlines()
+            at = lines.index(loaded)
+            self.same(f"{name}: loaded", replies[at], f"STOP 01 LIMIT STEPS {loaded[4:]} I 00400")
+            self.same(f"{name}: repaired", replies[at + 1:at + 1 + len(repairs)], ["OK"] * len(repairs))
+            printed = [line[13:] for line in replies if line.startswith("LINE ") and line[13:]]
+            self.same(f"{name}: printed", printed, wanted)
+
     def test_a_class_takes_turns(self):
         """Each seat holds the machine for its deck, and takes the paper; the journal says who did what."""
         decks = {1: "01-three-fields", 2: "03-edited-amounts", 3: "06-headings"}
         for seat, name in decks.items():
-            self.expect(name, program("assemble", COURSE / f"answers/{name}.source", "--deck", self.folder / f"{seat}.deck"))
+            call = ["assemble", COURSE / f"answers/{name}.source", "--deck", self.folder / f"{seat}.deck"]
+            self.expect(name, program(*call))
         room = self.room("serve", "--journal", self.folder / "friday.journal", seats=len(decks), pages=True)
         for seat, name in decks.items():
             cards = (self.folder / f"{seat}.deck").read_text() + (COURSE / name / "program.cards").read_text()
@@ -369,7 +403,7 @@ class Peer(ProgramTest):
                     "boot cdr")
         self.check(f"{name} halts", "" if "HALT" in said else said)
         found = pages(paper.read_text().replace("\f", ""))[0]
-        numbered = {(form - 1) * FORM + at: line for form, lines in enumerate(pages(wanted), 1) for at, line in lines.items()}
+        numbered = {form * FORM + at: line for form, lines in enumerate(pages(wanted)) for at, line in lines.items()}
         self.same(f"{name}: the paper", found, numbered)
 
     def test_each_with_cards(self):
