@@ -49,6 +49,15 @@ class Page:
         return f"ibm1401 {self.name}".strip()
 
 
+@dataclass
+class Script(Page):
+    """What the help of a program of its own says, which a package has next to the program."""
+    @property
+    def call(self):
+        """How it is called."""
+        return f"ibm1401-{self.name}"
+
+
 def rows(text):
     """The left and right halves of the rows of a section."""
     found = [re.fullmatch(r"\s+(.*?)(?:  +(.*))?", line) for line in text.splitlines()]
@@ -78,3 +87,11 @@ def pages_of(program):
         return ran.stdout.decode()
     whole = read_page("", said())
     return [whole] + [read_page(name, said(name)) for name, _ in whole.commands if name != "help"]
+
+
+def lesson_page(top):
+    """The page of the script that hands out the lessons."""
+    ran = subprocess.run([top / "examples/course/lesson", "--help"], stdin=subprocess.DEVNULL, stdout=subprocess.PIPE,
+                         check=True)
+    page = read_page("lesson", ran.stdout.decode())
+    return Script(**{**vars(page), "usage": page.usage.removeprefix("lesson ")})

@@ -11,13 +11,17 @@ from pathlib import Path
 from time import gmtime, strftime
 
 from releasing.completion import for_bash, for_fish, for_zsh
-from releasing.helps import pages_of
+from releasing.helps import lesson_page, pages_of
 from releasing.manual import file_name, manual_page
 from releasing.proved import git
 
 DOCUMENTS = "usr/share/doc/ibm1401"
-# What of the repository goes with the program, next to its documentation.
+# What of the repository goes with the program, next to its documentation; and the lessons, which a script reads.
 SHIPPED = "README.md", "CHANGELOG.md", "docs", "examples", "benches/README.md"
+LESSONS, COURSE = "examples/course/", "usr/share/ibm1401/course"
+# The links, each with what it leads to.
+LINKS = {"usr/bin/ibm1401-lesson": "../share/ibm1401/course/lesson",
+         f"{DOCUMENTS}/examples/course": "../../../ibm1401/course"}
 COPYRIGHT = """ibm1401, an IBM 1401 card system, each operation of it proved.
 
 Copyright 2026 the authors whom the repository's history names.
@@ -58,11 +62,12 @@ def libc_of(program):
     return max(re.findall(r"GLIBC_([\d.]+)", said), key=lambda each: [int(part) for part in each.split(".")])
 
 
-def made_from_help(program, version, epoch):
+def made_from_help(top, program, version, epoch):
     """Manual pages and completions."""
     pages, date = pages_of(program), strftime("%Y-%m-%d", gmtime(epoch))
-    files = {f"usr/share/man/man1/{file_name(each)}.gz": compressed(manual_page(each, pages, version, date).encode())
-             for each in pages}
+    manual = [*pages, lesson_page(top)]
+    files = {f"usr/share/man/man1/{file_name(each)}.gz": compressed(manual_page(each, manual, version, date).encode())
+             for each in manual}
     files["usr/share/bash-completion/completions/ibm1401"] = for_bash(pages).encode()
     files["usr/share/zsh/vendor-completions/_ibm1401"] = for_zsh(pages).encode()
     files["usr/share/fish/vendor_completions.d/ibm1401.fish"] = for_fish(pages).encode()
@@ -70,9 +75,10 @@ def made_from_help(program, version, epoch):
 
 
 def shipped(top):
-    """The documentation and the examples, of the files that a commit has."""
+    """The documentation, the examples and the lessons, of the files that a commit has."""
     names = git(top, "ls-files", "--", *SHIPPED).splitlines()
-    return {f"{DOCUMENTS}/{name}": (top / name).read_bytes() for name in names}
+    places = {name: f"{COURSE}/{name.removeprefix(LESSONS)}" for name in names if name.startswith(LESSONS)}
+    return {places.get(name, f"{DOCUMENTS}/{name}"): (top / name).read_bytes() for name in names}
 
 
 def units(top, program):
@@ -94,7 +100,7 @@ def debian_files(top, version, maintainer, epoch):
 
 def mode_of(name):
     """The permissions of a file."""
-    return 0o755 if name.endswith("bin/ibm1401") else 0o644
+    return 0o755 if name.endswith(("bin/ibm1401", "course/lesson")) else 0o644
 
 
 def folders_of(files):
@@ -103,14 +109,15 @@ def folders_of(files):
 
 
 def write_deb(path, files, version, maintainer, libc, epoch, room):
-    """A Debian package of these files, made in this folder."""
+    """A Debian package of these files and the links, made in this folder."""
+    size = sum(-(-len(each) // 1024) for each in files.values()) + len(LINKS) + len(folders_of([*files, *LINKS]))
     control = (f"Package: ibm1401\nVersion: {version}-1\nSection: otherosfs\nPriority: optional\nArchitecture: amd64\n"
                f"Maintainer: {maintainer}\nDepends: libc6 (>= {libc})\n"
-               f"Installed-Size: {sum(-(-len(each) // 1024) for each in files.values()) + len(folders_of(files))}\n"
+               f"Installed-Size: {size}\n"
                f"Description: {DESCRIPTION}")
     sums = "".join(f"{hashlib.md5(files[name]).hexdigest()}  {name}\n" for name in sorted(files))
     everything = {**files, "DEBIAN/control": control.encode(), "DEBIAN/md5sums": sums.encode()}
-    for name in folders_of(everything):
+    for name in folders_of([*everything, *LINKS]):
         (room / name).mkdir(mode=0o755)
     for name, content in everything.items():
         (room / name).write_bytes(content)
@@ -118,18 +125,23 @@ def write_deb(path, files, version, maintainer, libc, epoch, room):
     for each in [*room.rglob("*"), room]:
         each.chmod(0o755) if each.is_dir() else None
         os.utime(each, (epoch, epoch))
+    for name, target in LINKS.items():
+        (room / name).symlink_to(target)
+        os.utime(room / name, (epoch, epoch), follow_symlinks=False)
     environment = {**os.environ, "SOURCE_DATE_EPOCH": str(epoch), "DPKG_DEB_THREADS_MAX": "1"}
     subprocess.run(["dpkg-deb", "--root-owner-group", "-Zxz", "--build", room, path], check=True, env=environment,
                    stdout=subprocess.DEVNULL)
 
 
 def write_tar(path, files, folder, epoch):
-    """A .tar.gz of these files, in one folder, without the usr/ of each."""
+    """A .tar.gz of these files and the links, in one folder, without the usr/ of each."""
     text = io.BytesIO()
     with tarfile.open(fileobj=text, mode="w", format=tarfile.GNU_FORMAT) as archive:
-        for name in sorted(files):
-            entry = tarfile.TarInfo(f"{folder}/{name.removeprefix('usr/')}")
-            entry.size, entry.mode, entry.mtime = len(files[name]), mode_of(name), epoch
+        for name in sorted([*files, *LINKS]):
+            entry, content = tarfile.TarInfo(f"{folder}/{name.removeprefix('usr/')}"), files.get(name, b"")
+            if name in LINKS:
+                entry.type, entry.linkname = tarfile.SYMTYPE, LINKS[name]
+            entry.size, entry.mode, entry.mtime = len(content), mode_of(name), epoch
             entry.uname = entry.gname = "root"
-            archive.addfile(entry, io.BytesIO(files[name]))
+            archive.addfile(entry, io.BytesIO(content))
     path.write_bytes(compressed(text.getvalue()))

@@ -89,6 +89,13 @@ def try_room(root):
     shutil.rmtree(state)
 
 
+def try_lesson(root):
+    """A lesson, begun and checked."""
+    ran = root.run("bash", "-c", "cd /tmp && ibm1401-lesson 2 && 02-last-card/lesson 2 --check; rm -r 02-last-card")
+    said = ran.stdout.decode()
+    root.check("a lesson", "" if "\nlesson 2: not yet. The total isn't" in said and not ran.stderr else said)
+
+
 def typed(root, keys, wanted):
     """What a terminal shows of bash when this is typed into it, until it shows what is wanted or is late."""
     terminal, other = pty.openpty()
@@ -129,6 +136,7 @@ def try_installed(root, package):
     root.check("its version", "" if known else said)
     try_first_command(root)
     try_room(root)
+    try_lesson(root)
     page = root.run("man", "ibm1401-run", env={**os.environ, "MANWIDTH": "200", "LC_ALL": "C", "PAGER": "cat"})
     shown = re.sub(r".\x08", "", page.stdout.decode(errors="replace"))
     root.check("the manual", "" if "--switches LETTERS" in shown else shown + page.stderr.decode())

@@ -5,9 +5,9 @@ import unittest
 from tests.support import EXAMPLES, ProgramTest, program
 
 # Examples that are tried elsewhere, by what a user does with them: systemd's units, operators who share a machine; and
-# the folder of programs for tapes.
+# the folders of programs for tapes and of lessons.
 ELSEWHERE = {".service", ".socket", ".consoles", ".conf", ".md"}
-TAPES = EXAMPLES / "tapes"
+FOLDERS = EXAMPLES / "tapes", EXAMPLES / "course"
 
 
 def examples(suffix):
@@ -20,7 +20,7 @@ class Examples(ProgramTest):
 
     def test_each_file_belongs_to_a_session_a_source_or_a_deck(self):
         known = {each.stem for suffix in (".console", ".source", ".deck") for each in examples(suffix)}
-        files = [each for each in sorted(EXAMPLES.iterdir()) if each.suffix not in ELSEWHERE and each != TAPES]
+        files = [each for each in sorted(EXAMPLES.iterdir()) if each.suffix not in ELSEWHERE and each not in FOLDERS]
         self.assertTrue(known)
         self.assertEqual([], [each for each in files if each.name.split(".")[0].removesuffix("_version_1") not in known])
 

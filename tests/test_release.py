@@ -10,7 +10,7 @@ import unittest
 
 from releasing import released
 from releasing.completion import for_bash, for_fish, for_zsh
-from releasing.helps import pages_of
+from releasing.helps import lesson_page, pages_of
 from releasing.proved import bare, checksum, note_of, program_of, sources, write_note
 from tests.support import PROGRAM, TOP, ProgramTest, program, repository, run
 
@@ -159,6 +159,19 @@ class Made(ReleaseTest):
         for name in ("share/doc/ibm1401/PROVED.txt", "share/man/man1/ibm1401-run.1.gz", "share/doc/ibm1401/README.md",
                      "lib/systemd/system/ibm1401@.service", "share/doc/ibm1401/examples/sales.source"):
             self.check(name, "" if (there / name).exists() else "it isn't there")
+        self.gives_lessons(there, there / "share/doc/ibm1401/examples/course")
+
+    def gives_lessons(self, there, course):
+        """Subtests: the script in this folder lists the lessons, copies one, and checks it; its pages lead to them."""
+        (self.folder / "desk").mkdir()
+        listed = run([there / "bin/ibm1401-lesson"], cwd=self.folder / "desk")
+        self.expect("the lessons", listed, 0, "1: A card and three fields\n...")
+        self.same("lesson 2", run([there / "bin/ibm1401-lesson", "2"], cwd=self.folder / "desk").returncode, 0)
+        checked = run(["./lesson", "2", "--check"], cwd=self.folder / "desk/02-last-card")
+        self.expect("its check", checked, 1, "lesson 2: not yet. The total isn't the sum...")
+        version = run(["./ibm1401", "--version"], cwd=self.folder / "desk/02-last-card")
+        self.expect("its program", version, 0, "ibm1401 0.9.0...")
+        self.check("the lessons by the documentation", "" if (course / "02-last-card/lesson.md").exists() else "none there")
 
     def test_the_package(self):
         self.made()
@@ -170,8 +183,9 @@ class Made(ReleaseTest):
         self.check("the unit's program", "" if "/usr/bin/ibm1401" in unit and "/usr/local" not in unit else unit)
         self.expect("its program", run([room / "usr/bin/ibm1401", "console"], b"QUIT\n"), 0, "BYE\n")
         names = {each.name for each in (room / "usr/share/man/man1").iterdir()}
-        calls = [page.call.replace(" ", "-") for page in pages_of(PROGRAM)]
+        calls = [page.call.replace(" ", "-") for page in pages_of(PROGRAM)] + ["ibm1401-lesson"]
         self.same("a manual page for each call", names, {f"{each}.1.gz" for each in calls})
+        self.gives_lessons(room / "usr", room / "usr/share/doc/ibm1401/examples/course")
         owners = run(["dpkg-deb", "-c", package]).stdout.decode().splitlines()
         self.same("whose the files are", {line.split()[1] for line in owners}, {"root/root"})
 
@@ -187,7 +201,7 @@ class Made(ReleaseTest):
         self.made()
         room = self.folder / "room"
         subprocess.run(["dpkg-deb", "-x", self.folder / "dist" / PACKAGE, room], check=True)
-        for page in pages_of(PROGRAM):
+        for page in [*pages_of(PROGRAM), lesson_page(TOP)]:
             path = room / f"usr/share/man/man1/{page.call.replace(' ', '-')}.1.gz"
             ran = run(["man", "--warnings", "-l", path], env={**os.environ, "MANWIDTH": "400", "LC_ALL": "C.UTF-8"})
             self.same(f"{path.name}: warnings", ran.stderr, b"")

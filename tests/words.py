@@ -107,7 +107,8 @@ def places():
     """The files of each page, crate and test, by its name."""
     found = {}
     own = [TOP / name for name in ("README.md", "CHANGELOG.md", "examples/README.md")]
-    for page in [*own, *sorted((TOP / "docs").glob("*.md"))]:
+    lessons = sorted((TOP / "examples/course").glob("*/lesson.md"))
+    for page in [*own, *sorted((TOP / "docs").glob("*.md")), *lessons]:
         found[str(page.relative_to(TOP))] = [page]
     for crate in sorted((TOP / "crates").iterdir()):
         files = [path for part in ("src", "specs", "proofs") for path in sorted((crate / part).rglob("*"))]
@@ -120,7 +121,7 @@ def places():
     for part in "index.html", "script/*.js", "styles/*.css":
         for path in sorted((TOP / "page").glob(part)):
             found[str(path.relative_to(TOP))] = [path]
-    scripts = [TOP / name for name in ("check", "ibm1401", "Makefile", "release")]
+    scripts = [TOP / name for name in ("check", "ibm1401", "Makefile", "release", "examples/course/lesson")]
     for path in [*scripts, *sorted((TOP / "benches").iterdir())]:
         if path.is_file() and path.suffix != ".console":
             found[str(path.relative_to(TOP))] = [path]

@@ -1,0 +1,431 @@
+"""The course: what its lessons show, what their checks find, and the script that hands them out."""
+import os
+import re
+import shutil
+import unittest
+
+from tests.peer import peer, with_peer
+from tests.support import EXAMPLES, LAUNCHER, PROGRAM, TOP, ProgramTest, program, run, status
+from tests.tape_reels import MARK, MARK_RECORD, records_of
+from tests.test_holds import HELD
+from tests.test_operate import typed_in
+
+COURSE = EXAMPLES / "course"
+LESSONS = sorted(path.parent for path in COURSE.glob("*/lesson.md"))
+TAPED = "09-master-file"
+CHANNELS = "(3)0\n1\n(55)0\n9\n(2)0\n12\n(3)0\n"    # the holes of our carriage tape, as i1401 loads them
+FORM = 66
+WORDS = range(300, 501)
+
+# What the check says of each broken program: the trace that its mistake leaves.
+SYMPTOMS = {
+    "01-three-fields": "Line 2 doesn't have the town of the card in print positions 24 to 35",
+    "02-last-card": "The total isn't the sum of all three cards",
+    "03-edited-amounts": "The total of these cards isn't printed with all of its eight digits",
+    "04-price-table": "Article 10 comes earlier in the table than the article before it, and its price isn't printed",
+    "05-subroutine": "HILL of department 12 isn't listed: the list breaks off",
+    "06-headings": "Form 2 doesn't begin after line 60 of the form before it",
+    "07-sorting": "Line 1 isn't the card of GREENOUGH HARDWARE",
+    "08-payroll": "The total of the net pay isn't right",
+    "09-master-file": "Record 5 of the new master isn't item 2015: a record is lost",
+}
+
+# Another solution of each than that of answers/: a text of the broken program, and what is put in its place.
+OTHERWISE = {
+    "01-three-fields": ("SW   1,19\n", "SW   1,19\n               SW   241\n"),
+    "02-last-card": ("DONE      CS   332\n", "DONE      A    24,TOTAL\n               CS   332\n"),
+    "03-edited-amounts": ("WORD      DCW  @ ,", "WORD      DCW  @   ,"),
+    "04-price-table": ("BLC  DONE\n", "BLC  DONE\n               S    INDEX\n               MZ   @0@,INDEX\n"),
+    "05-subroutine": ("TOTAL     CS   332\n               CS\n               SBR", "TOTAL     SBR"),
+    "06-headings": ("FULL      B    HEADER\n", "FULL      CC   1\n               B    HEADER\n"),
+    "07-sorting": ("ZA   INDEX,LAST          SO FAR THIS IS THE LAST CARD\n",
+                   "ZA   INDEX,LAST\n               MZ   @0@,LAST\n"),
+    "08-payroll": ("     SUMNET    DCW  00000000\n     TAX       DCW  000000000\n",
+                   "     TAX       DCW  000000000000\n     SUMNET    DCW  00000000\n"),
+    "09-master-file": ("BEF  DONE\n", "BEF  REST\n"),
+}
+# The rest of the master, copied by a loop of its own.
+REST = ("     DONE      WTM  3\n", "     REST      C    ITEM,HIGH\n               BE   DONE\n               WT   3,IN\n"
+        "               A    +1,COUNT\n               B    GETOLD\n               B    REST\n     DONE      WTM  3\n")
+
+# Repairs that help with the cards of the lesson, and no further; and what the check says of them.
+HALF_DONE = [
+    ("01-three-fields", "               MLC  30,235\n               MLC  34,244\n",
+     "               MLC  34,244\n               MLC  30,235\n", "Line 2 has something between the town and the year"),
+    ("02-last-card", "MCS  TOTAL,230\n", "A    @680@,TOTAL\n               MCS  TOTAL,230\n",
+     "The total isn't the sum of all three cards"),
+    ("03-edited-amounts", "WORD      DCW  @ ,", "WORD      DCW  @  ,",
+     "The total of these cards isn't printed with all"),
+    ("04-price-table", "MLC  @NO PRICE@,230\n", "MLC  @NO PRICE@,230\n               MLC  @000@,INDEX\n",
+     "Article 10 comes earlier in the table"),
+    ("06-headings", "A    +1,PAGE\n", "CC   1\n               MLC  @001@,PAGE\n", "The heading of form 2 doesn't have"),
+    ("07-sorting", "ZA   INDEX,LAST ", "MLC  @120@,LAST ", "Line 2 isn't the card of HILL"),
+    ("08-payroll", "LCA  @18@,TAX-8 ", "LCA  @18@,TAX-7 ", "The tax of GREEN isn't 18 percent"),
+    ("09-master-file", "     DONE      WTM  3\n",
+     "     DONE      WT   3,IN\n               A    +1,COUNT\n               WTM  3\n",
+     "Record 6 of the new master isn't item 2020"),
+]
+
+
+def elsewhere(source):
+    """The same program 300 places further on, with an instruction before it and other labels."""
+    names = {name: f"Q{at}" for at, name in enumerate(re.findall(r"^     ([A-Z]\w*)", source, re.MULTILINE))}
+
+    def renamed(operands):
+        return re.sub(r"@[^@]*@|\b[A-Z]\w*\b", lambda found: names.get(found[0], found[0]), operands)
+
+    def changed(line):
+        label = names.get(line[5:15].strip(), "")
+        return line if line.startswith("     *") else f"     {label:10}{line[15:20]}{renamed(line[20:])}"
+
+    lines = [changed(line) for line in source.splitlines()]
+    begin = lines.index("               ORG  400")
+    lines[begin:begin + 1] = ["               ORG  700", "     GO        NOP"]
+    return "\n".join([*lines[:-1], "               END  GO", ""])
+
+
+def pages(text):
+    """The lines that are printed on each form, with their places."""
+    return [{at: line.rstrip() for at, line in enumerate(form.splitlines(), 1) if line.strip()}
+            for form in text.split("\f")]
+
+
+class CourseTest(ProgramTest):
+    """The course and the program as a package has them, and a folder for a pupil."""
+
+    def setUp(self):
+        self.course = self.folder / "share/ibm1401/course"
+        shutil.copytree(COURSE, self.course)
+        (self.folder / "bin").mkdir()
+        (self.folder / "bin/ibm1401").symlink_to(PROGRAM)
+        self.script = self.folder / "bin/ibm1401-lesson"
+        self.script.symlink_to("../share/ibm1401/course/lesson")
+        self.desk = self.folder / "desk"
+        self.desk.mkdir()
+
+    def lesson(self, *words, **how):
+        """A run of the script at the pupil's desk."""
+        return run([self.script, *words], **{"cwd": self.desk, **how})
+
+    def begin(self, name):
+        """The folder of a lesson that a pupil has begun."""
+        ran = self.lesson(name[1])
+        self.same(f"{name}: it begins", (ran.returncode, ran.stderr), (0, b""))
+        return self.desk / name
+
+    def checked(self, name, what, source):
+        """What the check says of a program."""
+        (self.desk / name / "broken.source").write_text(source)
+        ran = self.lesson(name[1], "--check")
+        self.same(f"{name}, {what}: standard error", ran.stderr, b"")
+        return ran
+
+    def passes(self, name, what, source):
+        """A subtest: the check passes a program."""
+        ran, answer = self.checked(name, what, source), self.course / f"answers/{name}.source"
+        said = f"lesson {name[1]}: the mistake is mended. One solution is {answer}\n"
+        self.expect(f"{name}, {what}", ran, 0, said)
+
+    def fails(self, name, what, source, symptom):
+        """A subtest: the check says what isn't so yet."""
+        self.expect(f"{name}, {what}", self.checked(name, what, source), 1, f"lesson {name[1]}: not yet. {symptom}...")
+
+
+class Lessons(CourseTest):
+    """Each lesson, as its page has it."""
+
+    def test_the_commands_of_each_page(self):
+        """The program prints its paper, the broken one another than wanted, and a solution the wanted one."""
+        for lesson in LESSONS:
+            name, place = lesson.name, self.begin(lesson.name)
+            commands = re.findall(r"^    (\./ibm1401 .*)$", (lesson / "lesson.md").read_text(), re.MULTILINE)
+            papers = {each: (lesson / f"{each}.paper").read_text() for each in ("program", "wanted")}
+            first = next(each for each in commands if " run program.source" in each)
+            second = next((each for each in commands if " run broken.source" in each),
+                          first.replace("program.source", "broken.source"))
+            for command in commands:
+                if " run broken.source" not in command and "new.tap" not in command:
+                    ran = run(["bash", "-c", command], cwd=place)
+                    self.same(f"{name}: {command}", ran.returncode, 0)
+                    if command == first:
+                        self.same(f"{name}: its paper", ran.stdout, papers["program"])
+            broken = run(["bash", "-c", second], cwd=place)
+            self.check(f"{name}: broken", broken.stdout.decode() == papers["wanted"] and "it prints what is wanted")
+            (place / "new.tap").unlink(missing_ok=True)
+            shutil.copy(COURSE / f"answers/{name}.source", place / "broken.source")
+            ran = run(["bash", "-c", second], cwd=place)
+            self.expect(f"{name}: the solution", ran, 0, papers["wanted"], "ibm1401: HALT at ...")
+
+    def test_each_source_assembles_without_a_warning(self):
+        for source in COURSE.rglob("*.source"):
+            ran = program("assemble", "--all", "--language", "ibm", "--fit", "all", source)
+            self.expect(str(source.relative_to(COURSE)), ran, 0, "...")
+
+    def test_the_check_of_each(self):
+        """It fails on the broken program for its mistake, and passes on several solutions of it."""
+        self.same("the lessons", [each.name for each in LESSONS], list(SYMPTOMS))
+        for name, symptom in SYMPTOMS.items():
+            broken = (self.begin(name) / "broken.source").read_text()
+            answer = (COURSE / f"answers/{name}.source").read_text()
+            old, new = OTHERWISE[name]
+            self.same(f"{name}: the other solution changes one place", broken.count(old), 1)
+            other = broken.replace(old, new).replace(*(REST if name == TAPED else ("", "")))
+            self.fails(name, "as it is", broken, symptom)
+            self.fails(name, "as it is, elsewhere", elsewhere(broken), symptom)
+            self.passes(name, "the answer", answer)
+            self.passes(name, "the answer elsewhere", elsewhere(answer))
+            self.passes(name, "another solution", other)
+
+    def test_what_helps_only_with_the_cards_of_the_lesson(self):
+        for name, old, new, symptom in HALF_DONE:
+            source = (self.begin(name) / "broken.source").read_text()
+            self.same(f"{name}: it changes one place", source.count(old), 1)
+            self.fails(name, "half done", source.replace(old, new), symptom)
+
+    def test_the_length_of_each_page(self):
+        for lesson in LESSONS:
+            text = (lesson / "lesson.md").read_text()
+            self.check(f"{lesson.name}: its words", "" if len(text.split()) in WORDS else f"{len(text.split())} words")
+            self.same(f"{lesson.name}: long lines", [line for line in text.splitlines() if len(line) > 120], [])
+
+
+class Script(CourseTest):
+    """The script, by each of its ends."""
+
+    usage = "Usage: lesson [N] [--check]"
+
+    def test_it_lists_the_lessons(self):
+        titles = [(each / "lesson.md").read_text().splitlines()[0].removeprefix("# Lesson ") for each in LESSONS]
+        listed = "".join(f"{title}\n" for title in titles) + "lesson N copies one into a new folder, and ..."
+        self.expect("as a package has it", self.lesson(), 0, listed)
+        self.expect("by the launcher", run([LAUNCHER, "lesson"], cwd=self.desk), 0, listed)
+
+    def test_it_copies_a_lesson(self):
+        said = ("02-last-card has all that lesson 2 needs. Read lesson.md there, and begin with\n    cd 02-last-card\n"
+                "    ./ibm1401 run program.source --cards program.cards --switches A\n")
+        self.expect("it", self.lesson("2"), 0, said)
+        copied = {each.name for each in (self.desk / "02-last-card").iterdir()}
+        wanted = {each.name for each in (COURSE / "02-last-card").iterdir()} | {"ibm1401", "lesson"}
+        self.same("the files", copied, wanted)
+        again = run(["./lesson", "2", "--check"], cwd=self.desk / "02-last-card")
+        self.expect("the check from within", again, 1, "lesson 2: not yet. ...")
+
+    def test_a_copy_by_the_launcher(self):
+        self.same("its status", run([LAUNCHER, "lesson", "1"], cwd=self.desk).returncode, 0)
+        self.same("its program", (self.desk / "01-three-fields/ibm1401").resolve(), LAUNCHER)
+
+    def test_a_folder_that_is_there_is_left_alone(self):
+        (self.desk / "03-edited-amounts").mkdir()
+        (self.desk / "04-price-table").symlink_to("nowhere")
+        for number, name in ("3", "03-edited-amounts"), ("4", "04-price-table"):
+            self.expect(name, self.lesson(number), 1, "", f"lesson: {name}: already exists\n")
+        inside = self.lesson("5", cwd=self.begin("05-subroutine"))
+        self.expect("within its folder", inside, 1, "", "lesson: this is the folder of lesson 5\n")
+        shutil.rmtree(self.desk / "05-subroutine")
+        there = sorted(each.name for each in self.desk.rglob("*"))
+        self.same("what is there", there, ["03-edited-amounts", "04-price-table"])
+
+    def test_numbers_that_no_lesson_has(self):
+        for number in "0", "10", "03", "x", "", "1*", "../1":
+            said = f"lesson: there is no lesson {number}; lesson lists them\n"
+            self.expect(f"{number!r}", self.lesson(number), 2, "", said)
+            self.expect(f"{number!r}, to check", self.lesson(number, "--check"), 2, "", said)
+
+    def test_other_words(self):
+        for words in ["1", "--chek"], ["--check", "1"], ["--check"], ["1", "--check", "2"], ["1", ""], ["-x"]:
+            ran = self.lesson(*words)
+            self.expect(" ".join(words), ran, 2, "", "error: ...")
+            self.check(f"{words}: the usage", "" if self.usage in ran.stderr.decode() else ran.stderr)
+        for word in "-h", "--help":
+            ran = self.lesson(word)
+            self.expect(word, ran, 0, "Lists the lessons of the course...")
+            self.check(f"{word}: the usage", "" if self.usage in ran.stdout.decode() else ran.stdout)
+        self.same("nothing is copied", list(self.desk.iterdir()), [])
+
+    def test_a_lesson_that_was_not_begun(self):
+        said = "lesson: 05-subroutine/broken.source: no such file; lesson 5 makes it\n"
+        self.expect("it", self.lesson("5", "--check"), 1, "", said)
+
+    def test_output_that_is_closed_or_full(self):
+        place = self.begin("02-last-card")
+        shutil.copy(COURSE / "answers/02-last-card.source", place / "broken.source")
+        for words in "", "1", "2 --check", "--help":
+            for to in ">&-", "> /dev/full":
+                ran = run(["bash", "-c", f'"$0" {words} {to}', self.script], cwd=self.desk)
+                self.expect(f"lesson {words} {to}", ran, 1, "", "lesson: cannot write\n")
+                shutil.rmtree(self.desk / "01-three-fields", ignore_errors=True)
+
+    def test_through_links_and_from_other_folders(self):
+        place = self.begin("02-last-card")
+        link = self.folder / "a link"
+        link.symlink_to(self.script)
+        for name, words, cwd in [("a link", [link], self.desk), ("by bash", ["bash", link], self.desk),
+                                 ("another folder", ["../bin/ibm1401-lesson"], self.desk),
+                                 ("within", ["../../bin/ibm1401-lesson"], place)]:
+            self.expect(name, run([*words, "2", "--check"], cwd=cwd), 1, "lesson 2: not yet. The total isn't ...")
+
+    def test_the_launcher_builds_before_a_check(self):
+        """In a repository the program is the launcher, which says on standard error how far it has come."""
+        place = self.folder / "repository"
+        shutil.copytree(COURSE, place / "examples/course")
+        launcher = place / "ibm1401"
+        launcher.write_text(f'#!/bin/sh\n[ "$1" = --build ] && echo building >&2 || exec {PROGRAM} "$@"\n')
+        launcher.chmod(0o755)
+        words = [place / "examples/course/lesson", "2"]
+        self.same("its copy", run(words, cwd=self.desk).stderr, b"")
+        ran = run([*words, "--check"], cwd=self.desk)
+        self.expect("its check", ran, 1, "lesson 2: not yet. The total...", "building\n")
+        launcher.write_text("#!/bin/sh\necho 'no command rt' >&2\nexit 1\n")
+        self.expect("no toolchain", run([*words, "--check"], cwd=self.desk), 1, "", "no command rt\n")
+
+    def test_a_source_that_does_not_assemble(self):
+        source = self.begin("02-last-card") / "broken.source"
+        source.write_text(source.read_text().replace("BLC  DONE", "BLC  DOEN"))
+        said = f"{source}:10:21: UNDEFINED: DOEN isn't the label of any line; did you mean DONE?\n..."
+        self.expect("it", self.lesson("2", "--check"), 1, "", said)
+
+    def test_a_program_that_prints_all_and_does_not_halt(self):
+        answer = (COURSE / "answers/02-last-card.source").read_text()
+        source = self.begin("02-last-card") / "broken.source"
+        for name, end, why in ("another card", "R    *-3", "READER at 0464"), ("no end", "B    *-3", "LIMIT at 0464"):
+            source.write_text(answer.replace("H    *-3", end))
+            said = f"lesson 2: not yet. All is printed, but the program doesn't halt.\nibm1401: {why}..."
+            self.expect(name, self.lesson("2", "--check"), 1, said)
+
+    def test_a_program_that_prints_nothing_or_wide_lines(self):
+        source = self.begin("02-last-card") / "broken.source"
+        text = source.read_text()
+        for name, old, new in ("nothing", "               W\n", "               NOP\n"), ("wide", "18,218", "18,300"):
+            source.write_text(text.replace(old, new))
+            ran = self.lesson("2", "--check")
+            self.expect(name, ran, 1, "lesson 2: not yet. Card 1 isn't listed with its name.\n...")
+
+    def test_nothing_is_left_of_a_check(self):
+        self.begin(TAPED)
+        before = {path: path.lstat().st_mtime_ns for path in self.folder.rglob("*")}
+        room = self.folder / "room"
+        room.mkdir()
+        ran = self.lesson("9", "--check", env={**os.environ, "TMPDIR": str(room)})
+        self.same("its status", ran.returncode, 1)
+        self.same("files in between", list(room.iterdir()), [])
+        room.rmdir()
+        after = {path: path.lstat().st_mtime_ns for path in self.folder.rglob("*")}
+        self.same("the others", {path for path in before if before[path] != after.get(path)} - {self.folder}, set())
+
+
+class Teaching(CourseTest):
+    """What COURSE.md shows."""
+
+    page = (TOP / "docs/COURSE.md").read_text()
+
+    def test_each_command(self):
+        """In order: the first block where a pupil begins, the others in the folder of lesson 2."""
+        first, *others = re.findall(r"```(?:console|sh)\n(.*?)```", self.page, re.DOTALL)
+        self.assertEqual(4, len(others))
+        for folder, block in [(self.desk, first), *((self.desk / "02-last-card", other) for other in others)]:
+            if not block.startswith("$ "):
+                ran = run(["bash", "-ec", block], cwd=folder)
+                self.same(block, (ran.returncode, ran.stdout[:13]), (0, b"ADAMS AND SON"))
+                continue
+            for part in re.split(r"^\$ ", block, flags=re.MULTILINE)[1:]:
+                command, shown = part.split("\n", 1)
+                call = command.replace("./ibm1401 lesson", str(self.script)) + " --echo" * (" operate " in command)
+                ran = run(["bash", "-c", call], typed_in(shown).encode(), cwd=folder)
+                self.expect(command, ran, int("not yet" in shown), shown)
+
+    def test_decks_for_a_page(self):
+        """Each is its program assembled, with its cards; and the repair in storage prints what is wanted."""
+        rows = re.findall(r"^\| (\d) \| `(RUN \d+)` \| (.*) \|$", self.page, re.MULTILINE)
+        self.same("the lessons with a deck", [number for number, _, _ in rows], list("12345678"))
+        for lesson, (number, loaded, repair) in zip(LESSONS, rows):
+            name, deck, repairs = lesson.name, self.folder / f"{number}.deck", re.findall(r"`(.*?)`", repair)
+            self.expect(name, program("assemble", "--language", "ibm", lesson / "broken.source", "--deck", deck))
+            cards = (deck.read_text() + (lesson / "program.cards").read_text())
+            self.same(f"{name}: its deck", (lesson / "broken.deck").read_text(), cards)
+            wanted = [line for form in pages((lesson / "wanted.paper").read_text()) for line in form.values()]
+            lines = [*(f"FEED {card}" for card in cards.splitlines()), "SWITCH A ON", "LOAD", loaded, *repairs,
+                     "RUN 100000", *["LINE"] * FORM]
+            ran = program("console", "--fit", "multiply", lines="".join(f"{line}\n" for line in lines).encode())
+            replies = ran.stdout.decode().splitlines()
+            at = lines.index(loaded)
+            self.same(f"{name}: loaded", replies[at], f"STOP 01 LIMIT STEPS {loaded[4:]} I 00400")
+            self.same(f"{name}: repaired", replies[at + 1:at + 1 + len(repairs)], ["OK"] * len(repairs))
+            printed = [line[13:] for line in replies if line.startswith("LINE ") and line[13:]]
+            self.same(f"{name}: printed", printed, wanted)
+
+    def test_a_class_takes_turns(self):
+        """Each seat holds the machine for its deck, and takes the paper; the journal says who did what."""
+        decks = {1: "01-three-fields", 2: "03-edited-amounts", 3: "06-headings"}
+        for seat, name in decks.items():
+            call = ["assemble", COURSE / f"answers/{name}.source", "--deck", self.folder / f"{seat}.deck"]
+            self.expect(name, program(*call))
+        room = self.room("serve", "--journal", self.folder / "friday.journal", seats=len(decks), pages=True)
+        for seat, name in decks.items():
+            cards = (self.folder / f"{seat}.deck").read_text() + (COURSE / name / "program.cards").read_text()
+            lines = [*(f"FEED {card}" for card in cards.splitlines()), "SWITCH A ON", "LOAD", "RUN 100000"]
+            wanted = [line for form in pages((COURSE / name / "wanted.paper").read_text()) for line in form.values()]
+            self.trial(lambda: self.take_a_turn(room, seat, lines, wanted), HELD)
+        self.ended(room, "the room", room.after())
+        shown = program("journal", "--seat", "3", self.folder / "friday.journal").stdout.decode().splitlines()
+        self.same("what seat 3 did is its own", {line.split()[1:3] == ["seat", "3"] for line in shown}, {True})
+
+    def take_a_turn(self, room, seat, lines, wanted):
+        """Subtests: a seat holds the machine, runs its deck and takes its paper, and no other seat gives a line."""
+        own = {"Origin": room.address(seat)}
+        self.same(f"seat {seat} holds it", room.ask(seat, "POST", "/hold", "", own)[0], 200)
+        other = seat % room.seats + 1
+        answers = self.give_all(room, seat, lines)
+        self.check(f"seat {seat}: its run", "" if answers[-1].startswith("STOP 02 HALT ") else answers[-1])
+        self.same(f"seat {other} gives no line meanwhile", status(room.post(other, "START 1", room.made(other))), 423)
+        paper = self.give_all(room, seat, ["LINE"] * len(wanted))
+        self.same(f"seat {seat}: its paper", [line[13:] for line in paper], wanted)
+        self.same(f"seat {seat} ends it", room.ask(seat, "POST", "/release", "", own)[0], 200)
+
+    def give_all(self, room, seat, lines):
+        """The replies to lines of a seat."""
+        return [room.give(seat, room.made(seat), line)[1].decode().rstrip() for line in lines]
+
+
+@with_peer
+class Peer(ProgramTest):
+    """The solutions on i1401, with our carriage tape: the same lines at the same places."""
+
+    def hold(self, name, wanted, cards=(), reels=()):
+        """Subtests: a solution halts there with this paper."""
+        source, deck, paper = COURSE / f"answers/{name}.source", self.folder / "deck", self.folder / "paper"
+        paper.unlink(missing_ok=True)
+        call = ["assemble", "--language", "ibm", source, "--deck", deck, "--out-graphics", "simh"]
+        self.expect(f"{name}: the deck", program(*call))
+        for each in cards:
+            deck.write_bytes(deck.read_bytes() + each.read_bytes())
+        (self.folder / "channels").write_text(CHANNELS)
+        said = peer(f"load {self.folder / 'channels'}", f"attach cdr {deck}", f"attach lpt {paper}", *reels, "d ssa 1",
+                    "boot cdr")
+        self.check(f"{name} halts", "" if "HALT" in said else said)
+        found = pages(paper.read_text().replace("\f", ""))[0]
+        numbered = {form * FORM + at: line for form, lines in enumerate(pages(wanted)) for at, line in lines.items()}
+        self.same(f"{name}: the paper", found, numbered)
+
+    def test_each_with_cards(self):
+        for lesson in LESSONS:
+            if lesson.name != TAPED:
+                self.hold(lesson.name, (lesson / "wanted.paper").read_text(), [lesson / "program.cards"])
+
+    def test_the_one_with_reels(self):
+        """The reels end with the record of a tape mark, as i1401 wants them."""
+        place, units = COURSE / TAPED, [self.folder / f"{unit}.tap" for unit in (1, 2, 3)]
+        for unit, cards in zip(units, ("program.cards", "changes.cards")):
+            self.expect(cards, program("reel", "--even-parity", "--from-deck", place / cards, "-o", unit))
+        ours = self.folder / "ours.tap"
+        call = ["--language", "ibm", "--tape", f"1={units[0]}", "--tape", f"2={units[1]}", "--tape", f"3={ours}:new"]
+        ran = program("run", COURSE / f"answers/{TAPED}.source", *call)
+        self.same("ours", ran.returncode, 0)
+        for unit in units[:2]:
+            unit.write_bytes(unit.read_bytes().removesuffix(MARK) + MARK_RECORD)
+        reels = [f"attach mt{at} {unit}" for at, unit in enumerate(units, 1)]
+        self.hold(TAPED, (place / "wanted.paper").read_text(), reels=reels)
+        self.same("the new master", records_of(units[2].read_bytes()), records_of(ours.read_bytes()))
+
+
+if __name__ == "__main__":
+    unittest.main()
