@@ -7,16 +7,13 @@ use crate::text::Text;
 use crate::words::Keyword;
 use machine_notation::put_digits;
 use std::alloc::AllocError;
-use thiserror::Error;
 
 /// Why a line says nothing: its first fault from left to right. Each text is as it is typed.
-#[derive(Clone, Copy, Debug, Error)]
+#[derive(Clone, Copy)]
 pub enum OrderFault {
     /// The line has more than 200 bytes.
-    #[error("a line has at most 200 bytes")]
     Length,
     /// A byte is none of a line: a tab, a NUL, byte 255.
-    #[error("byte {byte} in column {column} is no character")]
     Byte {
         /// The byte.
         byte: u8,
@@ -24,34 +21,24 @@ pub enum OrderFault {
         column: u8,
     },
     /// A word begins no order.
-    #[error("no such word")]
     Word(Text),
     /// An operand is missing, or is one too many, or another was wanted.
-    #[error("no such operands")]
     Usage(Keyword),
     /// An operand is no number from 1 on.
-    #[error("no number from 1 on")]
     Count(Text),
     /// A number has more than nine digits.
-    #[error("more than nine digits")]
     Digits(Text),
     /// An operand is no address.
-    #[error("no address")]
     Place(Text),
     /// An operand is no range of places.
-    #[error("no range of places")]
     Range(Text),
     /// A value is no number.
-    #[error("no number")]
     Number(Text),
     /// A byte of a text is no graphic.
-    #[error("a byte is no graphic")]
     Graphic,
     /// A deposit has more than 40 cells.
-    #[error("a deposit has at most 40 cells")]
     Cells,
     /// A card has more than 80 columns.
-    #[error("a card has 80 columns")]
     Card,
 }
 
