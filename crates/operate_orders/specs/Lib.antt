@@ -1,7 +1,6 @@
 pub mod ActLine
 pub mod FaultText
 pub mod List
-pub mod LookLine
 pub mod NoteLine
 pub mod Operands
 pub mod OrderLine

@@ -1,9 +1,10 @@
 //! The operands of a line, each with its fault.
 ghost use Rattle.std.specs.Prelude.{◌≡◌};
 ghost use Rattle.operate_orders.specs.Operands.{digits_or, place_operand, range_operand, count_operand, lone_place};
-ghost use Rattle.operate_orders.specs.Operands.{lone_range, lone_count, lone_file};
+ghost use Rattle.operate_orders.specs.Operands.{lone_range, lone_count, lone_file, ended};
 
 use crate::fault::OrderFault;
+use crate::orders::Order;
 use crate::parts::{are_digits, file_name, is_end, numeral, split_operand};
 use crate::places::{Place, read_place};
 use crate::ranges::{Range, read_range};
@@ -18,6 +19,21 @@ fn digits_or(word: &[u8], fault: OrderFault) -> OrderFault
         OrderFault::Digits(Text::as_typed(word))
     } else {
         fault
+    }
+}
+
+/// An order after which nothing follows.
+///
+/// # Errors
+///
+/// `Usage` if something follows.
+pub(crate) fn ended(keyword: Keyword, rest: &[u8], order: Order) -> Result<Order, OrderFault>
+    ensures { result ≡ ended keyword rest.now order }
+{
+    if is_end(rest) {
+        Ok(order)
+    } else {
+        Err(OrderFault::Usage(keyword))
     }
 }
 
