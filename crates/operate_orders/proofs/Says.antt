@@ -1,12 +1,12 @@
 -- What a line says, to be computed.
-use Rattle.std.proofs.Common.{◌≡◌, ℕ, List, [], ◌∷◌, map, Some, None}
+use Rattle.std.proofs.Common.{◌≡◌, ℕ, List, [], ◌∷◌, map, None}
 use Rattle.std.specs.Prelude.{Option}
 use Rattle.bcd_1401.specs.Graphic.{graphics}
 use Rattle.console_text.specs.Words.{switch_named}
 use Rattle.machine_notation.specs.Cells.{spelled, cells_of}
 use Rattle.machine_notation.specs.Digits.{number_in}
 use Rattle.operate_orders.specs.Parts.{before_byte, from_byte, operand_in, beyond_operand, is_end, file_in, are_digits}
-use Rattle.operate_orders.specs.Parts.{has_graphics, numeral_in}
+use Rattle.operate_orders.specs.Parts.{numeral_in}
 use Rattle.operate_orders.specs.Place.{is_name, index_named, register_named, label_in, named, in_parentheses, base_in}
 use Rattle.operate_orders.specs.Place.{adjustment_in, beyond_adjustment, added, subtracted, adjustment_of}
 use Rattle.operate_orders.specs.Place.{adjustments_in, place_in}
@@ -32,7 +32,7 @@ use Rattle.operate_orders.specs.declared.places.Place.{Place}
 
 -- what a line says, with all that its grammar consists of open
 unfoldable pub says : List ℕ → Said
-unfolding kept capitals before_byte from_byte operand_in beyond_operand is_end file_in are_digits has_graphics numeral_in
+unfolding kept capitals before_byte from_byte operand_in beyond_operand is_end file_in are_digits numeral_in
     is_name index_named register_named label_in named in_parentheses base_in adjustment_in beyond_adjustment added
     subtracted adjustment_of adjustments_in place_in area_named between counted numbers_between lone range_by_minus
     range_by_slash range_by_dots range_in place_operand range_operand count_operand lone_place lone_range lone_count

@@ -1,5 +1,6 @@
 pub mod ActLine
 pub mod FaultText
+pub mod Kind
 pub mod List
 pub mod NoteLine
 pub mod Operands

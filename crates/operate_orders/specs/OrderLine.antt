@@ -1,9 +1,10 @@
 -- What a line says (own): a word, and what follows it.
-use Rattle.std.specs.Prelude.{ℕ, ◌+◌, ◌==◌, nat_le, nat_lt, Bool, ◌&&◌, not, if◌then◌else◌, List, length}
+use Rattle.std.specs.Prelude.{ℕ, ◌+◌, ◌==◌, nat_lt, if◌then◌else◌, List, length}
 use Rattle.std.specs.Prelude.{slice_index, Option, None, Some, unwrap_or, Ok, Err}
 use Rattle.std.specs.List.{prefix_len}
 use Rattle.console_text.specs.ConsoleLine.{most_line_bytes}
 use Rattle.operate_orders.specs.ActLine.{deposit_of, set_of, switch_of, feed_of}
+use Rattle.operate_orders.specs.Kind.{is_of_line}
 use Rattle.operate_orders.specs.List.{some_fields_in, numbers_in}
 use Rattle.operate_orders.specs.NoteLine.{break_of, watch_of, transcript_of, help_of}
 use Rattle.operate_orders.specs.Operands.{Said, ◌>>=◌, ended, lone_place, maybe_place, lone_range, maybe_range}
@@ -72,10 +73,6 @@ unfoldable pub order_in : List ℕ → Said
 order_in line =
     if length (operand_in line) == 0 then Ok Nothing
     else with_word (operand_in line) (beyond_operand line) (keyword_of (capitals (operand_in line)))
-
--- the bytes that a line may have: none below a blank, and neither 127 nor 255
-abbrev pub is_of_line : ℕ → Bool
-is_of_line byte = nat_le 32 byte && not (byte == 127) && not (byte == 255)
 
 -- more than 200 bytes are a fault before all else, and then a byte that no line has
 unfoldable pub order_of : List ℕ → Said

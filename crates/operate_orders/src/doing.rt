@@ -7,7 +7,7 @@ use crate::fault::OrderFault;
 use crate::operands::{lone_place, place_operand};
 use crate::orders::{Act, Deposited, Order};
 use crate::parts::{
-    beyond_first, byte_at, has_graphics, is_end, is_word, split_before, split_operand,
+    Kind, are_all, beyond_first, byte_at, is_end, is_same, is_word, split_before, split_operand,
     without_blanks,
 };
 use crate::text::Text;
@@ -100,7 +100,7 @@ fn switch_named(word: &[u8]) -> Option<SwitchName>
     SWITCHES
         .iter()
         .copied()
-        .find(|switch| letter(*switch) == word)
+        .find(|switch| is_same(letter(*switch), word))
 }
 
 /// `switch A on`, `switch A off`.
@@ -136,7 +136,7 @@ pub(crate) fn feed(rest: &[u8]) -> Result<Order, OrderFault>
         return Err(OrderFault::Card);
     }
     let capitals = Text::in_capitals(text);
-    if has_graphics(capitals.as_slice()) {
+    if are_all(capitals.as_slice(), Kind::Graphic) {
         Ok(Order::Act(Act::Feed(capitals)))
     } else {
         Err(OrderFault::Graphic)

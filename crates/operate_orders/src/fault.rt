@@ -1,11 +1,10 @@
 //! Why a line says nothing.
 ghost use Rattle.std.specs.Prelude.{◌≡◌, ◌++◌, OnOk};
-ghost use Rattle.machine_notation.specs.Digits.{digits_in};
 ghost use Rattle.operate_orders.specs.FaultText.{byte_text, fault_text};
 
 use crate::text::Text;
 use crate::words::Keyword;
-use machine_notation::put_digits;
+use machine_notation::put_named_digits;
 use std::alloc::AllocError;
 
 /// Why a line says nothing: its first fault from left to right. Each text is as it is typed.
@@ -42,13 +41,6 @@ pub enum OrderFault {
     Card,
 }
 
-/// Adds a text.
-fn put_words(text: &mut Vec<u8>, words: &[u8]) -> Result<(), AllocError>
-    ensures { OnOk result (text.new.items ≡ text.old.items ++ words.now) }
-{
-    text.extend_from_slice(words)
-}
-
 /// Adds what is typed, and what is said of it.
 fn put_said(text: &mut Vec<u8>, word: &Text, said: &[u8]) -> Result<(), AllocError>
     ensures { OnOk result (text.new.items ≡ text.old.items ++ word.now ++ said.now) }
@@ -57,22 +49,14 @@ fn put_said(text: &mut Vec<u8>, word: &Text, said: &[u8]) -> Result<(), AllocErr
     text.extend_from_slice(said)
 }
 
-/// Adds a text, and then a number.
-fn put_number(text: &mut Vec<u8>, words: &[u8], number: u8) -> Result<(), AllocError>
-    ensures { OnOk result (text.new.items ≡ text.old.items ++ words.now ++ digits_in 1 number) }
-{
-    text.extend_from_slice(words)?;
-    put_digits(text, 1, u64::from(number))
-}
-
 /// Adds the text of a byte that is no character.
 #[tactic(auto, unfolding(crate::specs::FaultText::byte_text))]
 fn put_byte(text: &mut Vec<u8>, byte: u8, column: u8) -> Result<(), AllocError>
     ensures { OnOk result (text.new.items ≡ text.old.items ++ byte_text byte column) }
 {
-    put_number(text, b"byte ", byte)?;
-    put_number(text, b" in column ", column)?;
-    put_words(text, b" is no character")?;
+    put_named_digits(text, b"byte ", 1, byte as u64)?;
+    put_named_digits(text, b" in column ", 1, column as u64)?;
+    text.extend_from_slice(b" is no character")?;
     Ok(())
 }
 

@@ -1,7 +1,6 @@
 //! What a line says.
-ghost use Rattle.std.specs.Prelude.{◌≡◌, ◌≤◌, length};
-ghost use Rattle.std.specs.List.{prefix_len};
-ghost use Rattle.operate_orders.specs.OrderLine.{order_with, is_of_line, order_of};
+ghost use Rattle.std.specs.Prelude.{◌≡◌};
+ghost use Rattle.operate_orders.specs.OrderLine.{order_with, order_of};
 
 use crate::doing::{deposit, feed, set, switch};
 use crate::fault::OrderFault;
@@ -9,7 +8,7 @@ use crate::lists::{fields, numbers};
 use crate::noting::{break_line, help, transcript, watch};
 use crate::operands::{ended, lone_count, lone_file, lone_place, lone_range};
 use crate::orders::{Act, Look, Note, Order, Past};
-use crate::parts::{is_end, split_operand};
+use crate::parts::{Kind, bytes_in_front, is_end, split_operand};
 use crate::text::Text;
 use crate::values::condition_operand;
 use crate::words::Keyword;
@@ -69,21 +68,6 @@ fn order_with(keyword: Keyword, rest: &[u8]) -> Result<Order, OrderFault>
     }
 }
 
-/// Whether a line may have a byte.
-fn is_of_line(byte: u8) -> bool
-    ensures { result ≡ is_of_line byte }
-{
-    byte >= b' ' && byte != 127 && byte != 255
-}
-
-/// How many bytes a line has before the first that it may not have.
-fn bytes_of_line(line: &[u8]) -> usize
-    ensures value { result ≡ prefix_len is_of_line line.now }
-    ensures bound { result ≤ length line.now }
-{
-    line.iter().take_while(|byte| is_of_line(**byte)).count()
-}
-
 /// What a line says: at most 200 bytes, without the byte that ends it. Small letters are read as capitals, but for the
 /// names of files.
 ///
@@ -98,7 +82,7 @@ pub fn parse_order(line: &[u8]) -> Result<Order, OrderFault>
     if line.len() > LINE_LIMIT {
         return Err(OrderFault::Length);
     }
-    let len = bytes_of_line(line);
+    let len = bytes_in_front(line, Kind::OfLine);
     if len < line.len() {
         return Err(OrderFault::Byte {
             byte: line[len],

@@ -1,6 +1,6 @@
 //! The operands of a line, each with its fault.
 ghost use Rattle.std.specs.Prelude.{◌≡◌};
-ghost use Rattle.operate_orders.specs.Operands.{digits_or, place_operand, range_operand, count_operand, lone_place};
+ghost use Rattle.operate_orders.specs.Operands.{digits_or, place_operand, count_operand, lone_place};
 ghost use Rattle.operate_orders.specs.Operands.{lone_range, lone_count, lone_file, ended};
 
 use crate::fault::OrderFault;
@@ -56,25 +56,6 @@ pub(crate) fn place_operand(keyword: Keyword, word: &[u8]) -> Result<Place, Orde
     }
 }
 
-/// The range that a word is.
-///
-/// # Errors
-///
-/// `Usage` if there is no word, `Digits` for a number that is too long, `Range` for any other word that is no range.
-#[tactic(auto, unfolding(crate::specs::Operands::range_operand))]
-pub(crate) fn range_operand(keyword: Keyword, word: &[u8]) -> Result<Range, OrderFault>
-    ensures { result ≡ range_operand keyword word.now }
-{
-    if word.is_empty() {
-        return Err(OrderFault::Usage(keyword));
-    }
-    let capitals = Text::in_capitals(word);
-    match read_range(capitals.as_slice()) {
-        Some(range) => Ok(range),
-        None => Err(digits_or(word, OrderFault::Range(Text::as_typed(word)))),
-    }
-}
-
 /// The number from 1 on that a word is, none where there is no word.
 ///
 /// # Errors
@@ -117,16 +98,19 @@ pub(crate) fn lone_place(keyword: Keyword, rest: &[u8]) -> Result<Place, OrderFa
 /// # Errors
 ///
 /// `Usage` if there is no word or another follows; `Digits` or `Range` if it is no range.
-#[tactic(auto, unfolding(crate::specs::Operands::lone_range))]
+#[tactic(auto, unfolding(crate::specs::Operands::lone_range, crate::specs::Operands::range_operand))]
 pub(crate) fn lone_range(keyword: Keyword, rest: &[u8]) -> Result<Range, OrderFault>
     ensures { result ≡ lone_range keyword rest.now }
 {
     let (word, beyond) = split_operand(rest);
-    let range = range_operand(keyword, word)?;
-    if is_end(beyond) {
-        Ok(range)
-    } else {
-        Err(OrderFault::Usage(keyword))
+    if word.is_empty() {
+        return Err(OrderFault::Usage(keyword));
+    }
+    let capitals = Text::in_capitals(word);
+    match read_range(capitals.as_slice()) {
+        None => Err(digits_or(word, OrderFault::Range(Text::as_typed(word)))),
+        Some(range) if is_end(beyond) => Ok(range),
+        Some(_) => Err(OrderFault::Usage(keyword)),
     }
 }
 
