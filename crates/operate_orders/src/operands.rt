@@ -5,7 +5,7 @@ ghost use Rattle.operate_orders.specs.Operands.{lone_range, lone_count, lone_fil
 
 use crate::fault::OrderFault;
 use crate::orders::Order;
-use crate::parts::{are_digits, file_name, is_end, numeral, split_operand};
+use crate::parts::{are_digits, blanks_at_end, is_end, numeral, split_operand, without_blanks};
 use crate::places::{Place, read_place};
 use crate::ranges::{Range, read_range};
 use crate::text::Text;
@@ -132,16 +132,17 @@ pub(crate) fn lone_count(keyword: Keyword, rest: &[u8]) -> Result<Option<u32>, O
     }
 }
 
-/// The name of a file.
+/// The name of a file: all that follows, without the blanks around it.
 ///
 /// # Errors
 ///
 /// `Usage` if there is none.
-#[tactic(auto, unfolding(crate::specs::Operands::lone_file))]
+#[tactic(auto, unfolding(crate::specs::Operands::lone_file, crate::specs::Parts::file_in))]
 pub(crate) fn lone_file(keyword: Keyword, rest: &[u8]) -> Result<Text, OrderFault>
     ensures { result ≡ lone_file keyword rest.now }
 {
-    let name = file_name(rest);
+    let text = without_blanks(rest);
+    let name = &text[..text.len() - blanks_at_end(text)];
     if name.is_empty() {
         Err(OrderFault::Usage(keyword))
     } else {

@@ -4,7 +4,7 @@ ghost use Rattle.std.specs.List.{prefix_len, suffix_len, list_all};
 ghost use Rattle.std.specs.Str.{bytes_eq};
 ghost use Rattle.console_text.specs.Words.{is_blank, without_blanks};
 ghost use Rattle.operate_orders.specs.Kind.{is_letter, is_of};
-ghost use Rattle.operate_orders.specs.Parts.{operand_in, beyond_operand, is_end, before_byte, from_byte, file_in};
+ghost use Rattle.operate_orders.specs.Parts.{operand_in, beyond_operand, is_end, before_byte, from_byte};
 ghost use Rattle.operate_orders.specs.Parts.{are_digits, numeral_in};
 ghost use Rattle.operate_orders.specs.Text.{capitals};
 
@@ -130,20 +130,11 @@ pub(crate) fn is_end(text: &[u8]) -> bool
 }
 
 /// How many blanks a text ends with.
-fn blanks_at_end(text: &[u8]) -> usize
+pub(crate) fn blanks_at_end(text: &[u8]) -> usize
     ensures value { result ≡ suffix_len is_blank text.now }
     ensures bound { result ≤ length text.now }
 {
     text.iter().rev().take_while(|byte| **byte == b' ').count()
-}
-
-/// The name of a file: all that follows, without the blanks around it.
-#[tactic(auto, unfolding(crate::specs::Parts::file_in))]
-pub(crate) fn file_name(text: &[u8]) -> &[u8]
-    ensures { result.now ≡ file_in text.now }
-{
-    let text = without_blanks(text);
-    &text[..text.len() - blanks_at_end(text)]
 }
 
 /// Whether a word, capitals or small letters, is this one.

@@ -1,6 +1,6 @@
 //! Addresses and fields: a number, a label, a line of the source or a register, with adjustments.
 ghost use Rattle.std.specs.Prelude.{◌≡◌};
-ghost use Rattle.operate_orders.specs.Place.{is_name, index_named, register_named, label_in, base_in, adjustment_in};
+ghost use Rattle.operate_orders.specs.Place.{index_named, register_named, label_in, base_in, adjustment_in};
 ghost use Rattle.operate_orders.specs.Place.{beyond_adjustment, adjustment_of, adjustments_in, place_in};
 
 use crate::parts::{
@@ -65,18 +65,6 @@ pub struct Place {
     pub adjustments: [Option<Adjustment>; 3],
 }
 
-/// Whether a text is a name: a letter, and then letters and digits.
-#[tactic(auto, unfolding(crate::specs::Place::is_name))]
-fn is_name(text: &[u8]) -> bool
-    ensures { result ≡ is_name text.now }
-{
-    if is_letter(byte_at(text, 0)) {
-        are_all(text, Kind::LetterOrDigit)
-    } else {
-        false
-    }
-}
-
 /// The index register with this name.
 #[tactic(auto, unfolding(crate::specs::Place::index_named))]
 fn index_named(text: &[u8]) -> Option<IndexRegister>
@@ -109,12 +97,15 @@ fn register_named(text: &[u8]) -> Option<Register>
     }
 }
 
-/// A label.
-#[tactic(auto, unfolding(crate::specs::Place::label_in))]
+/// A label: a letter, and then letters and digits.
+#[tactic(auto, unfolding(crate::specs::Place::label_in, crate::specs::Place::is_name))]
 fn label(text: &[u8]) -> Option<Base>
     ensures { result ≡ label_in text.now }
 {
-    if is_name(text) {
+    if !is_letter(byte_at(text, 0)) {
+        return None;
+    }
+    if are_all(text, Kind::LetterOrDigit) {
         Some(Base::Label(Text::as_typed(text)))
     } else {
         None
