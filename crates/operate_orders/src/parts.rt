@@ -73,7 +73,7 @@ pub(crate) fn bytes_in_front(text: &[u8], kind: Kind) -> usize
 pub(crate) fn are_all(text: &[u8], kind: Kind) -> bool
     ensures { result ≡ list_all (is_of kind) text.now }
 {
-    text.iter().all(|byte| kind.has(*byte))
+    bytes_in_front(text, kind) == text.len()
 }
 
 /// A byte of a text, and 0 after its end.
