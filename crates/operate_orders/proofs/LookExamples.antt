@@ -1,5 +1,5 @@
 -- The lines that look, computed; and all forms of addresses and ranges.
-use Rattle.std.proofs.Common.{◌≡◌, ℕ, List, [], ◌∷◌, ◌++◌, replicate, Some, None, refl}
+use Rattle.std.proofs.Common.{[], ◌∷◌, replicate, Some, None, refl}
 use Rattle.std.specs.Prelude.{Ok, Err, codes}
 use Rattle.operate_orders.proofs.Says.{says, AllSay, adjusted, plain, at, label, line}
 use Rattle.operate_orders.specs.declared.fault.OrderFault.TheVariants as fault
@@ -8,7 +8,7 @@ use Rattle.operate_orders.specs.declared.orders.Look.TheVariants.{Evaluate, Brea
 use Rattle.operate_orders.specs.declared.orders.Look.TheVariants as look
 use Rattle.operate_orders.specs.declared.orders.Order.TheVariants.{Nothing, Look, Quit}
 use Rattle.operate_orders.specs.declared.places.Adjustment.TheVariants.{Plus, Minus, Indexed}
-use Rattle.operate_orders.specs.declared.places.Base.TheVariants.{Number, Label, Line, Index, Held}
+use Rattle.operate_orders.specs.declared.places.Base.TheVariants.{Number, Label, Index, Held}
 use Rattle.operate_orders.specs.declared.places.IndexRegister.TheVariants.{X1, X2, X3}
 use Rattle.operate_orders.specs.declared.places.Register.TheVariants.{I, A, B}
 use Rattle.operate_orders.specs.declared.ranges.Area.TheVariants as area

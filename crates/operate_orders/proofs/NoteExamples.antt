@@ -2,7 +2,7 @@
 use Rattle.std.proofs.Common.{◌≡◌, ℕ, true, false, List, [], ◌∷◌, ◌++◌, map, replicate, Some, None, refl}
 use Rattle.std.specs.Prelude.{Ok, Err, codes}
 use Rattle.std.specs.Fmt.{digits}
-use Rattle.operate_orders.proofs.Says.{says, AllSay, adjusted, plain, at, label, line}
+use Rattle.operate_orders.proofs.Says.{says, AllSay, plain, at, label}
 use Rattle.operate_orders.specs.FaultText.{byte_text, fault_text}
 use Rattle.operate_orders.specs.declared.fault.OrderFault.TheVariants as fault
 use Rattle.operate_orders.specs.declared.orders.Note.TheVariants.{Break, Watch, Delete, Do, Transcript, Assert, Help, Save}

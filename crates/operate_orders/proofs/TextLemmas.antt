@@ -1,8 +1,8 @@
 -- Bytes held in front of zeros, and their capitals.
-use Rattle.std.proofs.Common.{◌≡◌, ℕ, zero, suc, ◌-◌, ◌≤◌, List, ◌∷◌, ◌++◌, length, map, take, drop, replicate, refl, ◌∙◌, ap, arith}
+use Rattle.std.proofs.Common.{◌≡◌, ℕ, zero, suc, ◌-◌, ◌≤◌, List, ◌∷◌, ◌++◌, length, map, drop, replicate, refl, ◌∙◌, ap, arith}
 use Rattle.std.proofs.Common.{length-append}
 use Rattle.std.specs.Char.{to_ascii_uppercase}
-use Rattle.std.proofs.lemmas.List.{drop_at, take_at, drop-replicate, length-replicate, length-map, take-map, drop-map}
+use Rattle.std.proofs.lemmas.List.{drop_at, drop-replicate, length-replicate, length-map, drop-map}
 use Rattle.console_text.specs.ConsoleLine.{most_line_bytes}
 use Rattle.operate_orders.specs.declared.text.Text.TheInside.{Inside}
 use Rattle.operate_orders.specs.Text.{IsHeld}

@@ -1,6 +1,6 @@
--- The lines that act, and those that go back (own).
+-- The lines that act, and have a grammar of their own (own).
 use Rattle.std.specs.Prelude.{ℕ, ◌==◌, nat_lt, Bool, true, false, not, if◌then◌else◌, List, length, drop, Option}
-use Rattle.std.specs.Prelude.{None, Some, unwrap_or, Result, Ok, Err, codes}
+use Rattle.std.specs.Prelude.{None, Some, Result, Ok, Err, codes}
 use Rattle.std.specs.Option.{ok_or}
 use Rattle.std.specs.Str.{bytes_eq}
 use Rattle.bcd_1401.specs.declared.cell.Cell.{Cell}
@@ -10,19 +10,18 @@ use Rattle.machine_notation.specs.Cells.{cells_of, spelled}
 use Rattle.machine_notation.specs.declared.fault.CellsFault.{CellsFault}
 use Rattle.machine_notation.specs.declared.fault.CellsFault.TheVariants as cells_fault
 use Rattle.machine_panel.specs.declared.switch_name.SwitchName.{SwitchName}
-use Rattle.operate_orders.specs.LookLine.{Said}
-use Rattle.operate_orders.specs.Operands.{◌>>=◌, place_operand, lone_place, lone_count, lone_file}
+use Rattle.operate_orders.specs.Kind.{equals}
+use Rattle.operate_orders.specs.Operands.{Said, ◌>>=◌, place_operand, lone_place}
 use Rattle.operate_orders.specs.Parts.{first_of, before_byte, from_byte, operand_in, beyond_operand, is_end, has_graphics}
 use Rattle.operate_orders.specs.Text.{capitals}
-use Rattle.operate_orders.specs.Value.{equals, value_operand}
+use Rattle.operate_orders.specs.Value.{value_operand}
 use Rattle.operate_orders.specs.declared.fault.OrderFault.{OrderFault}
 use Rattle.operate_orders.specs.declared.fault.OrderFault.TheVariants as fault
 use Rattle.operate_orders.specs.declared.orders.Act.TheVariants as act
 use Rattle.operate_orders.specs.declared.orders.Deposited.{Deposited}
 use Rattle.operate_orders.specs.declared.orders.Deposited.TheVariants.{Cells, Statement}
 use Rattle.operate_orders.specs.declared.orders.Order.{Order}
-use Rattle.operate_orders.specs.declared.orders.Order.TheVariants.{Act, Past}
-use Rattle.operate_orders.specs.declared.orders.Past.TheVariants as past
+use Rattle.operate_orders.specs.declared.orders.Order.TheVariants.{Act}
 use Rattle.operate_orders.specs.declared.words.Keyword.TheVariants as keyword
 
 -- a statement: all that follows the equals sign and blanks
@@ -66,23 +65,6 @@ set_of rest = do
   value ← value_operand keyword.Set (drop 1 (from_byte equals rest))
   Ok (Act (act.Set field value))
 
--- mark ADDRESS, unmark ADDRESS
-unfoldable pub mark_of : List ℕ → Said
-mark_of rest = do
-  place ← lone_place keyword.Mark rest
-  Ok (Act (act.Mark place))
-
-unfoldable pub unmark_of : List ℕ → Said
-unmark_of rest = do
-  place ← lone_place keyword.Unmark rest
-  Ok (Act (act.Unmark place))
-
--- start ADDRESS
-unfoldable pub start_of : List ℕ → Said
-start_of rest = do
-  place ← lone_place keyword.Start rest
-  Ok (Act (act.Start place))
-
 -- on, or off
 unfoldable pub setting_of : List ℕ → Option Bool
 setting_of word =
@@ -107,51 +89,3 @@ unfoldable pub feed_of : List ℕ → Said
 feed_of rest =
     if nat_lt card_columns (length (drop 1 rest)) then Err fault.Card
     else (if has_graphics (capitals (drop 1 rest)) then Ok (Act (act.Feed (capitals (drop 1 rest)))) else Err fault.Graphic)
-
--- deck FILE
-unfoldable pub deck_of : List ℕ → Said
-deck_of rest = do
-  file ← lone_file keyword.Deck rest
-  Ok (Act (act.Deck file))
-
--- step [N]
-unfoldable pub step_of : List ℕ → Said
-step_of rest = do
-  count ← lone_count keyword.Step rest
-  Ok (Act (act.Step (unwrap_or count 1)))
-
--- continue [N]
-unfoldable pub continue_of : List ℕ → Said
-continue_of rest = do
-  count ← lone_count keyword.Continue rest
-  Ok (Act (act.Continue count))
-
--- until ADDRESS
-unfoldable pub until_of : List ℕ → Said
-until_of rest = do
-  place ← lone_place keyword.Until rest
-  Ok (Act (act.Until place))
-
--- go ADDRESS
-unfoldable pub go_of : List ℕ → Said
-go_of rest = do
-  place ← lone_place keyword.Go rest
-  Ok (Act (act.Go place))
-
--- undo [N]
-unfoldable pub undo_of : List ℕ → Said
-undo_of rest = do
-  count ← lone_count keyword.Undo rest
-  Ok (Past (past.Undo (unwrap_or count 1)))
-
--- back [N]
-unfoldable pub back_of : List ℕ → Said
-back_of rest = do
-  count ← lone_count keyword.Back rest
-  Ok (Past (past.Back (unwrap_or count 1)))
-
--- restore FILE
-unfoldable pub restore_of : List ℕ → Said
-restore_of rest = do
-  file ← lone_file keyword.Restore rest
-  Ok (Past (past.Restore file))

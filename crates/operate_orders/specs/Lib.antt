@@ -1,7 +1,7 @@
 pub mod ActLine
 pub mod FaultText
+pub mod Kind
 pub mod List
-pub mod LookLine
 pub mod NoteLine
 pub mod Operands
 pub mod OrderLine

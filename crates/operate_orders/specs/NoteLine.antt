@@ -1,11 +1,9 @@
--- The lines that note something next to the machine (own).
+-- The lines that note something next to the machine, and have a grammar of their own (own).
 use Rattle.std.specs.Prelude.{ℕ, ◌==◌, not, if◌then◌else◌, List, length, drop, Option, None, Some, is_none}
 use Rattle.std.specs.Prelude.{Result, Ok, Err, codes}
 use Rattle.std.specs.Str.{bytes_eq}
 use Rattle.console_text.specs.Words.{without_blanks}
-use Rattle.operate_orders.specs.List.{numbers_in}
-use Rattle.operate_orders.specs.LookLine.{Said}
-use Rattle.operate_orders.specs.Operands.{◌>>=◌, ended, place_operand, count_operand, lone_range, lone_file}
+use Rattle.operate_orders.specs.Operands.{Said, ◌>>=◌, ended, place_operand, count_operand, lone_range, lone_file}
 use Rattle.operate_orders.specs.Parts.{first_of, operand_in, beyond_operand, is_end}
 use Rattle.operate_orders.specs.Text.{kept, capitals}
 use Rattle.operate_orders.specs.Value.{at_sign, quoted, condition_operand}
@@ -75,30 +73,12 @@ watch_of rest =
     else (if bytes_eq (capitals (operand_in rest)) (codes "PUNCH")
     then ended keyword.Watch (beyond_operand rest) (Note (note.Watch Punch)) else places_at rest))
 
--- delete [N ..]
-unfoldable pub delete_of : List ℕ → Said
-delete_of rest = do
-  numbers ← numbers_in rest
-  Ok (Note (note.Delete numbers))
-
--- do FILE
-unfoldable pub do_of : List ℕ → Said
-do_of rest = do
-  file ← lone_file keyword.Do rest
-  Ok (Note (note.Do file))
-
 -- transcript FILE, or transcript off
 unfoldable pub transcript_of : List ℕ → Said
 transcript_of rest = do
   file ← lone_file keyword.Transcript rest
   if bytes_eq (capitals file) (codes "OFF") then Ok (Note (note.Transcript None))
       else Ok (Note (note.Transcript (Some file)))
-
--- assert CONDITION
-unfoldable pub assert_of : List ℕ → Said
-assert_of rest = do
-  condition ← condition_operand keyword.Assert rest
-  Ok (Note (note.Assert condition))
 
 abbrev help_with : List ℕ → Option Keyword → Said
 help_with letters None = Err (fault.Word (kept letters))
@@ -112,9 +92,3 @@ unfoldable pub help_of : List ℕ → Said
 help_of rest =
     if length (operand_in rest) == 0 then Ok (Note (note.Help None))
     else (if not (is_end (beyond_operand rest)) then Err (fault.Usage keyword.Help) else help_on (operand_in rest))
-
--- save FILE
-unfoldable pub save_of : List ℕ → Said
-save_of rest = do
-  file ← lone_file keyword.Save rest
-  Ok (Note (note.Save file))

@@ -7,9 +7,14 @@ use Rattle.operate_orders.specs.Range.{range_in}
 use Rattle.operate_orders.specs.Text.{kept, capitals}
 use Rattle.operate_orders.specs.declared.fault.OrderFault.{OrderFault}
 use Rattle.operate_orders.specs.declared.fault.OrderFault.TheVariants as fault
+use Rattle.operate_orders.specs.declared.orders.Order.{Order}
 use Rattle.operate_orders.specs.declared.places.Place.{Place}
 use Rattle.operate_orders.specs.declared.ranges.Range.{Range}
 use Rattle.operate_orders.specs.declared.words.Keyword.{Keyword}
+
+-- what a line says, or its first fault from left to right
+abbrev pub Said : Type 0
+Said = Result Order OrderFault
 
 infixl 10 ◌>>=◌
 -- what is on the left, and if it has no fault, what follows it
@@ -52,10 +57,17 @@ lone_place keyword rest = do
   place ← place_operand keyword (operand_in rest)
   ended keyword (beyond_operand rest) place
 
+-- the same, or none where there is no word
+abbrev pub maybe_place : Keyword → List ℕ → Result (Option Place) OrderFault
+maybe_place keyword rest = if is_end rest then Ok None else lone_place keyword rest >>= λ place. Ok (Some place)
+
 unfoldable pub lone_range : Keyword → List ℕ → Result Range OrderFault
 lone_range keyword rest = do
   range ← range_operand keyword (operand_in rest)
   ended keyword (beyond_operand rest) range
+
+abbrev pub maybe_range : Keyword → List ℕ → Result (Option Range) OrderFault
+maybe_range keyword rest = if is_end rest then Ok None else lone_range keyword rest >>= λ range. Ok (Some range)
 
 unfoldable pub lone_count : Keyword → List ℕ → Result (Option ℕ) OrderFault
 lone_count keyword rest = do

@@ -1,12 +1,14 @@
 -- Addresses and fields (own): a number, a label, a line of the source or a register, with adjustments.
-use Rattle.std.specs.Prelude.{ℕ, ◌+◌, ◌==◌, nat_le, Bool, true, false, ◌&&◌, ◌||◌, if◌then◌else◌, List, [], ◌∷◌}
+use Rattle.std.specs.Prelude.{ℕ, ◌+◌, ◌==◌, Bool, false, if◌then◌else◌, List, [], ◌∷◌}
 use Rattle.std.specs.Prelude.{length, take, drop, Option, None, Some, codes}
 use Rattle.std.specs.List.{position_or_len, list_all}
 use Rattle.std.specs.Option.{option_map}
 use Rattle.std.specs.Str.{bytes_eq}
 use Rattle.bcd_1401.specs.Digits.{is_digit}
+use Rattle.operate_orders.specs.Kind.{plus, is_sign, is_letter, is_of}
 use Rattle.operate_orders.specs.Parts.{first_of, before_byte, from_byte, numeral_in}
 use Rattle.operate_orders.specs.Text.{kept}
+use Rattle.operate_orders.specs.declared.parts.Kind.TheVariants.{LetterOrDigit}
 use Rattle.operate_orders.specs.declared.places.IndexRegister.{IndexRegister}
 use Rattle.operate_orders.specs.declared.places.IndexRegister.TheVariants.{X1, X2, X3}
 use Rattle.operate_orders.specs.declared.places.Register.{Register}
@@ -36,21 +38,9 @@ left_parenthesis = 40
 abbrev pub right_parenthesis : ℕ
 right_parenthesis = 41
 
-abbrev pub plus : ℕ
-plus = 43
-
-abbrev pub minus : ℕ
-minus = 45
-
 -- a name is a letter, and then letters and digits
-abbrev pub is_letter : ℕ → Bool
-is_letter byte = nat_le 65 byte && nat_le byte 90
-
-abbrev pub is_letter_or_digit : ℕ → Bool
-is_letter_or_digit byte = is_letter byte || is_digit byte
-
 unfoldable pub is_name : List ℕ → Bool
-is_name text = if is_letter (first_of text) then list_all is_letter_or_digit text else false
+is_name text = if is_letter (first_of text) then list_all (is_of LetterOrDigit) text else false
 
 unfoldable pub index_named : List ℕ → Option IndexRegister
 index_named text =
@@ -100,9 +90,6 @@ base_in text =
     else (if first_of text == left_parenthesis then in_parentheses (drop 1 text) else named text)))
 
 -- an adjustment begins with a sign, and ends before the next
-abbrev pub is_sign : ℕ → Bool
-is_sign byte = byte == plus || byte == minus
-
 abbrev pub adjustment_len : List ℕ → ℕ
 adjustment_len text = if length text == 0 then 0 else 1 + position_or_len is_sign (drop 1 text)
 

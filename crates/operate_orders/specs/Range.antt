@@ -3,7 +3,8 @@ use Rattle.std.specs.Prelude.{ℕ, ◌==◌, if◌then◌else◌, List, [], ◌�
 use Rattle.std.specs.Prelude.{codes}
 use Rattle.std.specs.Str.{bytes_eq}
 use Rattle.operate_orders.specs.Parts.{before_byte, from_byte, numeral_in}
-use Rattle.operate_orders.specs.Place.{minus, place_in}
+use Rattle.operate_orders.specs.Kind.{minus}
+use Rattle.operate_orders.specs.Place.{place_in}
 use Rattle.operate_orders.specs.declared.places.Base.TheVariants.{Number}
 use Rattle.operate_orders.specs.declared.places.Place.{Place}
 use Rattle.operate_orders.specs.declared.ranges.Area.{Area}

@@ -1,17 +1,16 @@
 -- Values, and conditions on fields (own).
-use Rattle.std.specs.Prelude.{ℕ, ◌==◌, Bool, true, false, ◌||◌, not, if◌then◌else◌, List, length, take, drop}
+use Rattle.std.specs.Prelude.{ℕ, ◌==◌, Bool, true, false, not, if◌then◌else◌, List, length, take, drop}
 use Rattle.std.specs.Prelude.{slice_index, Option, None, Some, Result, Ok, Err}
 use Rattle.std.specs.List.{position_or_len}
 use Rattle.std.specs.Option.{ok_or}
 use Rattle.console_text.specs.Words.{without_blanks}
+use Rattle.operate_orders.specs.Kind.{plus, minus, equals, less, greater, is_relation}
 use Rattle.operate_orders.specs.Operands.{◌>>=◌, ended, lone_place}
 use Rattle.operate_orders.specs.Parts.{first_of, before_byte, from_byte, operand_in, beyond_operand, is_end, are_digits}
 use Rattle.operate_orders.specs.Parts.{has_graphics}
-use Rattle.operate_orders.specs.Place.{plus, minus}
 use Rattle.operate_orders.specs.Text.{kept, capitals}
 use Rattle.operate_orders.specs.declared.fault.OrderFault.{OrderFault}
 use Rattle.operate_orders.specs.declared.fault.OrderFault.TheVariants as fault
-use Rattle.operate_orders.specs.declared.places.Place.{Place}
 use Rattle.operate_orders.specs.declared.values.Condition.{Condition}
 use Rattle.operate_orders.specs.declared.values.Relation.{Relation}
 use Rattle.operate_orders.specs.declared.values.Relation.TheVariants.{Equal, Unequal, Less, Greater, AtMost, AtLeast}
@@ -65,19 +64,6 @@ unfoldable pub value_operand : Keyword → List ℕ → Result Value OrderFault
 value_operand keyword rest =
     if first_of (without_blanks rest) == at_sign then quoted_value keyword (drop 1 (without_blanks rest))
     else lone_number keyword (without_blanks rest)
-
--- the signs of relations
-abbrev pub equals : ℕ
-equals = 61
-
-abbrev pub less : ℕ
-less = 60
-
-abbrev pub greater : ℕ
-greater = 62
-
-abbrev pub is_relation : ℕ → Bool
-is_relation byte = byte == equals || byte == less || byte == greater
 
 -- the relation that begins with these bytes: the longest
 abbrev pub related : ℕ → ℕ → Option Relation

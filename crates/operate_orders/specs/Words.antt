@@ -3,6 +3,7 @@ use Rattle.std.specs.Prelude.{ℕ, nat_le, Bool, ◌&&◌, List, [], ◌∷◌, 
 use Rattle.std.specs.Str.{bytes_eq}
 use Rattle.operate_orders.specs.declared.words.Keyword.{Keyword}
 use Rattle.operate_orders.specs.declared.words.Keyword.TheVariants as keyword
+use Rattle.operate_orders.specs.declared.words.Row.{Row}
 
 -- a word, how many letters of it suffice, and how a line with it is written
 pub record WordRow : Type 0 where
@@ -12,6 +13,10 @@ pub record WordRow : Type 0 where
 
 abbrev pub word : List ℕ → ℕ → List ℕ → WordRow
 word letters shortest usage = record { letters = letters; shortest = shortest; usage = usage }
+
+-- a row of the program's table
+abbrev pub seen : Row → WordRow
+seen row = word row.letters.now row.shortest row.usage.now
 
 -- the table
 abbrev pub row_of : Keyword → WordRow

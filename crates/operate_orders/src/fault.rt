@@ -1,22 +1,18 @@
 //! Why a line says nothing.
 ghost use Rattle.std.specs.Prelude.{◌≡◌, ◌++◌, OnOk};
-ghost use Rattle.machine_notation.specs.Digits.{digits_in};
 ghost use Rattle.operate_orders.specs.FaultText.{byte_text, fault_text};
 
 use crate::text::Text;
 use crate::words::Keyword;
-use machine_notation::put_digits;
+use machine_notation::put_named_digits;
 use std::alloc::AllocError;
-use thiserror::Error;
 
 /// Why a line says nothing: its first fault from left to right. Each text is as it is typed.
-#[derive(Clone, Copy, Debug, Error)]
+#[derive(Clone, Copy)]
 pub enum OrderFault {
     /// The line has more than 200 bytes.
-    #[error("a line has at most 200 bytes")]
     Length,
     /// A byte is none of a line: a tab, a NUL, byte 255.
-    #[error("byte {byte} in column {column} is no character")]
     Byte {
         /// The byte.
         byte: u8,
@@ -24,42 +20,25 @@ pub enum OrderFault {
         column: u8,
     },
     /// A word begins no order.
-    #[error("no such word")]
     Word(Text),
     /// An operand is missing, or is one too many, or another was wanted.
-    #[error("no such operands")]
     Usage(Keyword),
     /// An operand is no number from 1 on.
-    #[error("no number from 1 on")]
     Count(Text),
     /// A number has more than nine digits.
-    #[error("more than nine digits")]
     Digits(Text),
     /// An operand is no address.
-    #[error("no address")]
     Place(Text),
     /// An operand is no range of places.
-    #[error("no range of places")]
     Range(Text),
     /// A value is no number.
-    #[error("no number")]
     Number(Text),
     /// A byte of a text is no graphic.
-    #[error("a byte is no graphic")]
     Graphic,
     /// A deposit has more than 40 cells.
-    #[error("a deposit has at most 40 cells")]
     Cells,
     /// A card has more than 80 columns.
-    #[error("a card has 80 columns")]
     Card,
-}
-
-/// Adds a text.
-fn put_words(text: &mut Vec<u8>, words: &[u8]) -> Result<(), AllocError>
-    ensures { OnOk result (text.new.items ≡ text.old.items ++ words.now) }
-{
-    text.extend_from_slice(words)
 }
 
 /// Adds what is typed, and what is said of it.
@@ -70,22 +49,14 @@ fn put_said(text: &mut Vec<u8>, word: &Text, said: &[u8]) -> Result<(), AllocErr
     text.extend_from_slice(said)
 }
 
-/// Adds a text, and then a number.
-fn put_number(text: &mut Vec<u8>, words: &[u8], number: u8) -> Result<(), AllocError>
-    ensures { OnOk result (text.new.items ≡ text.old.items ++ words.now ++ digits_in 1 number) }
-{
-    text.extend_from_slice(words)?;
-    put_digits(text, 1, u64::from(number))
-}
-
 /// Adds the text of a byte that is no character.
 #[tactic(auto, unfolding(crate::specs::FaultText::byte_text))]
 fn put_byte(text: &mut Vec<u8>, byte: u8, column: u8) -> Result<(), AllocError>
     ensures { OnOk result (text.new.items ≡ text.old.items ++ byte_text byte column) }
 {
-    put_number(text, b"byte ", byte)?;
-    put_number(text, b" in column ", column)?;
-    put_words(text, b" is no character")?;
+    put_named_digits(text, b"byte ", 1, byte as u64)?;
+    put_named_digits(text, b" in column ", 1, column as u64)?;
+    text.extend_from_slice(b" is no character")?;
     Ok(())
 }
 

@@ -27,10 +27,9 @@ pub mod orders;
 mod lists;
 mod operands;
 
-// the lines of each kind, and all lines
+// lines with a grammar of their own, and all lines
 mod doing;
 pub mod line;
-mod looking;
 mod noting;
 
 pub use fault::{OrderFault, put_fault};

@@ -1,13 +1,9 @@
-//! The lines that note something next to the machine.
+//! The lines that note something next to the machine, and have a grammar of their own.
 ghost use Rattle.std.specs.Prelude.{◌≡◌};
-ghost use Rattle.operate_orders.specs.NoteLine.{if_in, counted_in, uncounted_in, when_in, break_of, paper_at, places_at};
-ghost use Rattle.operate_orders.specs.NoteLine.{watch_of, delete_of, do_of, transcript_of, assert_of, help_on};
-ghost use Rattle.operate_orders.specs.NoteLine.{help_of, save_of};
+ghost use Rattle.operate_orders.specs.NoteLine.{if_in, when_in, break_of, paper_at, watch_of, transcript_of, help_of};
 
 use crate::fault::OrderFault;
-use crate::lists::numbers;
-use crate::looking::alone;
-use crate::operands::{count_operand, lone_file, lone_range, place_operand};
+use crate::operands::{count_operand, ended, lone_file, lone_range, place_operand};
 use crate::orders::{Note, Order, Watched};
 use crate::parts::{beyond_first, byte_at, is_end, is_word, split_operand, without_blanks};
 use crate::text::Text;
@@ -30,39 +26,21 @@ fn condition(rest: &[u8]) -> Result<Option<Condition>, OrderFault>
     Ok(Some(condition))
 }
 
-/// A count, and a condition after it.
-#[tactic(auto, unfolding(crate::specs::NoteLine::counted_in))]
-fn counted(rest: &[u8]) -> Result<(Option<u32>, Option<Condition>), OrderFault>
-    ensures { result ≡ counted_in rest.now }
-{
-    let (word, beyond) = split_operand(rest);
-    let after = count_operand(word)?;
-    if after.is_none() {
-        return Err(OrderFault::Usage(Keyword::Break));
-    }
-    let condition = condition(beyond)?;
-    Ok((after, condition))
-}
-
-/// A condition alone.
-fn uncounted(rest: &[u8]) -> Result<(Option<u32>, Option<Condition>), OrderFault>
-    ensures { result ≡ uncounted_in rest.now }
-{
-    let condition = condition(rest)?;
-    Ok((None, condition))
-}
-
-/// When a break stops, which follows its place.
-#[tactic(auto, unfolding(crate::specs::NoteLine::when_in))]
+/// When a break stops, which follows its place: after N, if CONDITION.
+#[tactic(auto, unfolding(crate::specs::NoteLine::when_in, crate::specs::NoteLine::counted_in))]
 fn when(rest: &[u8]) -> Result<(Option<u32>, Option<Condition>), OrderFault>
     ensures { result ≡ when_in rest.now }
 {
     let (word, beyond) = split_operand(rest);
-    if is_word(word, b"AFTER") {
-        counted(beyond)
-    } else {
-        uncounted(rest)
+    if !is_word(word, b"AFTER") {
+        return Ok((None, condition(rest)?));
     }
+    let (word, beyond) = split_operand(beyond);
+    let after = count_operand(word)?;
+    if after.is_none() {
+        return Err(OrderFault::Usage(Keyword::Break));
+    }
+    Ok((after, condition(beyond)?))
 }
 
 /// `break ADDRESS [after N] [if CONDITION]`.
@@ -96,17 +74,8 @@ fn paper_at(rest: &[u8]) -> Result<Order, OrderFault>
     Ok(Order::Note(Note::Watch(Watched::Paper(Some(text)))))
 }
 
-/// Places.
-#[tactic(auto, unfolding(crate::specs::NoteLine::places_at))]
-fn places_at(rest: &[u8]) -> Result<Order, OrderFault>
-    ensures { result ≡ places_at rest.now }
-{
-    let range = lone_range(Keyword::Watch, rest)?;
-    Ok(Order::Note(Note::Watch(Watched::Places(range))))
-}
-
 /// `watch ..`.
-#[tactic(auto, unfolding(crate::specs::NoteLine::watch_of))]
+#[tactic(auto, unfolding(crate::specs::NoteLine::watch_of, crate::specs::NoteLine::places_at))]
 pub(crate) fn watch(rest: &[u8]) -> Result<Order, OrderFault>
     ensures { result ≡ watch_of rest.now }
 {
@@ -114,38 +83,21 @@ pub(crate) fn watch(rest: &[u8]) -> Result<Order, OrderFault>
     if is_word(word, b"PAPER") {
         paper_at(beyond)
     } else if is_word(word, b"READER") {
-        alone(
+        ended(
             Keyword::Watch,
             beyond,
             Order::Note(Note::Watch(Watched::Reader)),
         )
     } else if is_word(word, b"PUNCH") {
-        alone(
+        ended(
             Keyword::Watch,
             beyond,
             Order::Note(Note::Watch(Watched::Punch)),
         )
     } else {
-        places_at(rest)
+        let range = lone_range(Keyword::Watch, rest)?;
+        Ok(Order::Note(Note::Watch(Watched::Places(range))))
     }
-}
-
-/// `delete [N ..]`.
-#[tactic(auto, unfolding(crate::specs::NoteLine::delete_of))]
-pub(crate) fn delete(rest: &[u8]) -> Result<Order, OrderFault>
-    ensures { result ≡ delete_of rest.now }
-{
-    let numbers = numbers(rest)?;
-    Ok(Order::Note(Note::Delete(numbers)))
-}
-
-/// `do FILE`.
-#[tactic(auto, unfolding(crate::specs::NoteLine::do_of))]
-pub(crate) fn do_line(rest: &[u8]) -> Result<Order, OrderFault>
-    ensures { result ≡ do_of rest.now }
-{
-    let file = lone_file(Keyword::Do, rest)?;
-    Ok(Order::Note(Note::Do(file)))
 }
 
 /// `transcript FILE`, `transcript off`.
@@ -161,28 +113,8 @@ pub(crate) fn transcript(rest: &[u8]) -> Result<Order, OrderFault>
     }
 }
 
-/// `assert CONDITION`.
-#[tactic(auto, unfolding(crate::specs::NoteLine::assert_of))]
-pub(crate) fn assert_line(rest: &[u8]) -> Result<Order, OrderFault>
-    ensures { result ≡ assert_of rest.now }
-{
-    let condition = condition_operand(Keyword::Assert, rest)?;
-    Ok(Order::Note(Note::Assert(condition)))
-}
-
-/// Help on the word that some letters mean.
-#[tactic(auto, unfolding(crate::specs::NoteLine::help_on))]
-fn help_on(letters: &[u8]) -> Result<Order, OrderFault>
-    ensures { result ≡ help_on letters.now }
-{
-    match Keyword::from_letters(letters) {
-        Some(keyword) => Ok(Order::Note(Note::Help(Some(keyword)))),
-        None => Err(OrderFault::Word(Text::as_typed(letters))),
-    }
-}
-
 /// `help [WORD]`.
-#[tactic(auto, unfolding(crate::specs::NoteLine::help_of))]
+#[tactic(auto, unfolding(crate::specs::NoteLine::help_of, crate::specs::NoteLine::help_on))]
 pub(crate) fn help(rest: &[u8]) -> Result<Order, OrderFault>
     ensures { result ≡ help_of rest.now }
 {
@@ -193,14 +125,8 @@ pub(crate) fn help(rest: &[u8]) -> Result<Order, OrderFault>
     if !is_end(beyond) {
         return Err(OrderFault::Usage(Keyword::Help));
     }
-    help_on(letters)
-}
-
-/// `save FILE`.
-#[tactic(auto, unfolding(crate::specs::NoteLine::save_of))]
-pub(crate) fn save(rest: &[u8]) -> Result<Order, OrderFault>
-    ensures { result ≡ save_of rest.now }
-{
-    let file = lone_file(Keyword::Save, rest)?;
-    Ok(Order::Note(Note::Save(file)))
+    match Keyword::from_letters(letters) {
+        Some(keyword) => Ok(Order::Note(Note::Help(Some(keyword)))),
+        None => Err(OrderFault::Word(Text::as_typed(letters))),
+    }
 }

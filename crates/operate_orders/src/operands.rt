@@ -1,10 +1,11 @@
 //! The operands of a line, each with its fault.
 ghost use Rattle.std.specs.Prelude.{◌≡◌};
-ghost use Rattle.operate_orders.specs.Operands.{digits_or, place_operand, range_operand, count_operand, lone_place};
-ghost use Rattle.operate_orders.specs.Operands.{lone_range, lone_count, lone_file};
+ghost use Rattle.operate_orders.specs.Operands.{digits_or, place_operand, count_operand, lone_place};
+ghost use Rattle.operate_orders.specs.Operands.{lone_range, lone_count, lone_file, ended};
 
 use crate::fault::OrderFault;
-use crate::parts::{are_digits, file_name, is_end, numeral, split_operand};
+use crate::orders::Order;
+use crate::parts::{are_digits, blanks_at_end, is_end, numeral, split_operand, without_blanks};
 use crate::places::{Place, read_place};
 use crate::ranges::{Range, read_range};
 use crate::text::Text;
@@ -18,6 +19,21 @@ fn digits_or(word: &[u8], fault: OrderFault) -> OrderFault
         OrderFault::Digits(Text::as_typed(word))
     } else {
         fault
+    }
+}
+
+/// An order after which nothing follows.
+///
+/// # Errors
+///
+/// `Usage` if something follows.
+pub(crate) fn ended(keyword: Keyword, rest: &[u8], order: Order) -> Result<Order, OrderFault>
+    ensures { result ≡ ended keyword rest.now order }
+{
+    if is_end(rest) {
+        Ok(order)
+    } else {
+        Err(OrderFault::Usage(keyword))
     }
 }
 
@@ -37,25 +53,6 @@ pub(crate) fn place_operand(keyword: Keyword, word: &[u8]) -> Result<Place, Orde
     match read_place(capitals.as_slice()) {
         Some(place) => Ok(place),
         None => Err(digits_or(word, OrderFault::Place(Text::as_typed(word)))),
-    }
-}
-
-/// The range that a word is.
-///
-/// # Errors
-///
-/// `Usage` if there is no word, `Digits` for a number that is too long, `Range` for any other word that is no range.
-#[tactic(auto, unfolding(crate::specs::Operands::range_operand))]
-pub(crate) fn range_operand(keyword: Keyword, word: &[u8]) -> Result<Range, OrderFault>
-    ensures { result ≡ range_operand keyword word.now }
-{
-    if word.is_empty() {
-        return Err(OrderFault::Usage(keyword));
-    }
-    let capitals = Text::in_capitals(word);
-    match read_range(capitals.as_slice()) {
-        Some(range) => Ok(range),
-        None => Err(digits_or(word, OrderFault::Range(Text::as_typed(word)))),
     }
 }
 
@@ -101,16 +98,19 @@ pub(crate) fn lone_place(keyword: Keyword, rest: &[u8]) -> Result<Place, OrderFa
 /// # Errors
 ///
 /// `Usage` if there is no word or another follows; `Digits` or `Range` if it is no range.
-#[tactic(auto, unfolding(crate::specs::Operands::lone_range))]
+#[tactic(auto, unfolding(crate::specs::Operands::lone_range, crate::specs::Operands::range_operand))]
 pub(crate) fn lone_range(keyword: Keyword, rest: &[u8]) -> Result<Range, OrderFault>
     ensures { result ≡ lone_range keyword rest.now }
 {
     let (word, beyond) = split_operand(rest);
-    let range = range_operand(keyword, word)?;
-    if is_end(beyond) {
-        Ok(range)
-    } else {
-        Err(OrderFault::Usage(keyword))
+    if word.is_empty() {
+        return Err(OrderFault::Usage(keyword));
+    }
+    let capitals = Text::in_capitals(word);
+    match read_range(capitals.as_slice()) {
+        None => Err(digits_or(word, OrderFault::Range(Text::as_typed(word)))),
+        Some(range) if is_end(beyond) => Ok(range),
+        Some(_) => Err(OrderFault::Usage(keyword)),
     }
 }
 
@@ -132,16 +132,17 @@ pub(crate) fn lone_count(keyword: Keyword, rest: &[u8]) -> Result<Option<u32>, O
     }
 }
 
-/// The name of a file.
+/// The name of a file: all that follows, without the blanks around it.
 ///
 /// # Errors
 ///
 /// `Usage` if there is none.
-#[tactic(auto, unfolding(crate::specs::Operands::lone_file))]
+#[tactic(auto, unfolding(crate::specs::Operands::lone_file, crate::specs::Parts::file_in))]
 pub(crate) fn lone_file(keyword: Keyword, rest: &[u8]) -> Result<Text, OrderFault>
     ensures { result ≡ lone_file keyword rest.now }
 {
-    let name = file_name(rest);
+    let text = without_blanks(rest);
+    let name = &text[..text.len() - blanks_at_end(text)];
     if name.is_empty() {
         Err(OrderFault::Usage(keyword))
     } else {

@@ -1,11 +1,11 @@
 //! The parts of a line: its operands, and numbers among them.
 ghost use Rattle.std.specs.Prelude.{◌≡◌, ◌==◌, ◌≤◌, length, drop, slice_index};
-ghost use Rattle.std.specs.List.{prefix_len, suffix_len, position_or_len, list_all};
+ghost use Rattle.std.specs.List.{prefix_len, suffix_len, list_all};
 ghost use Rattle.std.specs.Str.{bytes_eq};
-ghost use Rattle.bcd_1401.specs.Digits.{is_digit};
 ghost use Rattle.console_text.specs.Words.{is_blank, without_blanks};
-ghost use Rattle.operate_orders.specs.Parts.{operand_in, beyond_operand, is_end, before_byte, from_byte, file_in};
-ghost use Rattle.operate_orders.specs.Parts.{are_digits, has_graphics, numeral_in};
+ghost use Rattle.operate_orders.specs.Kind.{is_letter, is_of};
+ghost use Rattle.operate_orders.specs.Parts.{operand_in, beyond_operand, is_end, before_byte, from_byte};
+ghost use Rattle.operate_orders.specs.Parts.{are_digits, numeral_in};
 ghost use Rattle.operate_orders.specs.Text.{capitals};
 
 use crate::text::Text;
@@ -15,20 +15,65 @@ use machine_notation::read_digits;
 /// The most digits that a number has.
 const MOST_DIGITS: usize = 9;
 
-/// How many blanks a text begins with.
-fn blanks_in_front(text: &[u8]) -> usize
-    ensures value { result ≡ prefix_len is_blank text.now }
-    ensures bound { result ≤ length text.now }
-{
-    text.iter().take_while(|byte| **byte == b' ').count()
+/// What the bytes of a part of a line have in common.
+#[derive(Clone, Copy)]
+pub(crate) enum Kind {
+    /// They are blanks.
+    Blank,
+    /// None of them is this byte.
+    Before(u8),
+    /// None of them is a sign.
+    BeforeSign,
+    /// None of them begins a relation.
+    BeforeRelation,
+    /// A line may have them.
+    OfLine,
+    /// They are digits.
+    Digit,
+    /// They are letters and digits.
+    LetterOrDigit,
+    /// They are the graphics of characters.
+    Graphic,
 }
 
-/// How many bytes come before the first of a kind.
-fn bytes_before(text: &[u8], end: u8) -> usize
-    ensures value { result ≡ position_or_len (λ byte. byte == end) text.now }
+impl Kind {
+    /// Whether a byte is of this kind.
+    pub(crate) fn has(self, byte: u8) -> bool
+        ensures { result ≡ is_of self byte }
+    {
+        match self {
+            Kind::Blank => byte == b' ',
+            Kind::Before(end) => byte != end,
+            Kind::BeforeSign => byte != b'+' && byte != b'-',
+            Kind::BeforeRelation => byte != b'=' && byte != b'<' && byte != b'>',
+            Kind::OfLine => byte >= b' ' && byte != 127 && byte != 255,
+            Kind::Digit => byte >= b'0' && byte <= b'9',
+            Kind::LetterOrDigit => is_letter(byte) || byte >= b'0' && byte <= b'9',
+            Kind::Graphic => Char::from_graphic(byte).is_some(),
+        }
+    }
+}
+
+/// Whether a byte is a letter.
+pub(crate) fn is_letter(byte: u8) -> bool
+    ensures { result ≡ is_letter byte }
+{
+    byte >= b'A' && byte <= b'Z'
+}
+
+/// How many bytes of a kind a text begins with.
+pub(crate) fn bytes_in_front(text: &[u8], kind: Kind) -> usize
+    ensures value { result ≡ prefix_len (is_of kind) text.now }
     ensures bound { result ≤ length text.now }
 {
-    text.iter().take_while(|byte| **byte != end).count()
+    text.iter().take_while(|byte| kind.has(**byte)).count()
+}
+
+/// Whether all bytes of a text are of a kind.
+pub(crate) fn are_all(text: &[u8], kind: Kind) -> bool
+    ensures { result ≡ list_all (is_of kind) text.now }
+{
+    bytes_in_front(text, kind) == text.len()
 }
 
 /// A byte of a text, and 0 after its end.
@@ -49,7 +94,7 @@ pub(crate) fn beyond_first(text: &[u8]) -> &[u8]
 pub(crate) fn without_blanks(text: &[u8]) -> &[u8]
     ensures { result.now ≡ without_blanks text.now }
 {
-    &text[blanks_in_front(text)..]
+    &text[bytes_in_front(text, Kind::Blank)..]
 }
 
 /// What comes before the first byte of a kind, and the text from there on.
@@ -58,7 +103,7 @@ pub(crate) fn split_before(text: &[u8], end: u8) -> (&[u8], &[u8])
     ensures before { result.0.now ≡ before_byte end text.now }
     ensures from { result.1.now ≡ from_byte end text.now }
 {
-    text.split_at(bytes_before(text, end))
+    text.split_at(bytes_in_front(text, Kind::Before(end)))
 }
 
 /// The next operand of a line, empty if none follows, and what follows it.
@@ -85,20 +130,11 @@ pub(crate) fn is_end(text: &[u8]) -> bool
 }
 
 /// How many blanks a text ends with.
-fn blanks_at_end(text: &[u8]) -> usize
+pub(crate) fn blanks_at_end(text: &[u8]) -> usize
     ensures value { result ≡ suffix_len is_blank text.now }
     ensures bound { result ≤ length text.now }
 {
     text.iter().rev().take_while(|byte| **byte == b' ').count()
-}
-
-/// The name of a file: all that follows, without the blanks around it.
-#[tactic(auto, unfolding(crate::specs::Parts::file_in))]
-pub(crate) fn file_name(text: &[u8]) -> &[u8]
-    ensures { result.now ≡ file_in text.now }
-{
-    let text = without_blanks(text);
-    &text[..text.len() - blanks_at_end(text)]
 }
 
 /// Whether a word, capitals or small letters, is this one.
@@ -106,21 +142,14 @@ pub(crate) fn is_word(word: &[u8], name: &[u8]) -> bool
     ensures { result ≡ bytes_eq (capitals word.now) name.now }
 {
     let held = Text::in_capitals(word);
-    held.as_slice() == name
+    is_same(held.as_slice(), name)
 }
 
-/// Whether a byte is a digit.
-pub(crate) fn is_digit(byte: u8) -> bool
-    ensures { result ≡ is_digit byte }
+/// Whether two texts are the same.
+pub(crate) fn is_same(text: &[u8], other: &[u8]) -> bool
+    ensures { result ≡ bytes_eq text.now other.now }
 {
-    byte >= b'0' && byte <= b'9'
-}
-
-/// Whether each byte is a digit.
-fn all_digits(text: &[u8]) -> bool
-    ensures { result ≡ list_all is_digit text.now }
-{
-    text.iter().all(|byte| is_digit(*byte))
+    text == other
 }
 
 /// Whether a text is one digit or more.
@@ -131,16 +160,8 @@ pub(crate) fn are_digits(text: &[u8]) -> bool
     if text.is_empty() {
         false
     } else {
-        all_digits(text)
+        are_all(text, Kind::Digit)
     }
-}
-
-/// Whether each byte is the graphic of a character.
-#[tactic(auto, unfolding(crate::specs::Parts::has_graphics))]
-pub(crate) fn has_graphics(text: &[u8]) -> bool
-    ensures { result ≡ has_graphics text.now }
-{
-    text.iter().all(|byte| Char::from_graphic(*byte).is_some())
 }
 
 /// The number that a text of one to nine digits is.

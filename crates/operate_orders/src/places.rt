@@ -1,12 +1,11 @@
 //! Addresses and fields: a number, a label, a line of the source or a register, with adjustments.
-ghost use Rattle.std.specs.Prelude.{◌≡◌, ◌≤◌, length, drop, slice_index};
-ghost use Rattle.std.specs.List.{position_or_len, list_all};
-ghost use Rattle.operate_orders.specs.Place.{is_letter, is_letter_or_digit, is_name, index_named, register_named};
-ghost use Rattle.operate_orders.specs.Place.{label_in, named, in_parentheses, base_in, is_sign, adjustment_len};
-ghost use Rattle.operate_orders.specs.Place.{adjustment_in, beyond_adjustment, added, subtracted};
-ghost use Rattle.operate_orders.specs.Place.{adjustment_of, adjustments_in, place_in, number_base, line_base, held_base};
+ghost use Rattle.std.specs.Prelude.{◌≡◌};
+ghost use Rattle.operate_orders.specs.Place.{index_named, register_named, label_in, base_in, adjustment_in};
+ghost use Rattle.operate_orders.specs.Place.{beyond_adjustment, adjustment_of, adjustments_in, place_in};
 
-use crate::parts::{beyond_first, byte_at, is_digit, numeral, split_before};
+use crate::parts::{
+    Kind, are_all, beyond_first, byte_at, bytes_in_front, is_letter, is_same, numeral, split_before,
+};
 use crate::text::Text;
 
 /// An index register, or its name (A24-1403, "Indexing").
@@ -66,49 +65,16 @@ pub struct Place {
     pub adjustments: [Option<Adjustment>; 3],
 }
 
-/// Whether a byte is a letter.
-fn is_letter(byte: u8) -> bool
-    ensures { result ≡ is_letter byte }
-{
-    byte >= b'A' && byte <= b'Z'
-}
-
-/// Whether a byte is a letter or a digit.
-fn is_letter_or_digit(byte: u8) -> bool
-    ensures { result ≡ is_letter_or_digit byte }
-{
-    is_letter(byte) || is_digit(byte)
-}
-
-/// Whether each byte is a letter or a digit.
-fn all_letters_or_digits(text: &[u8]) -> bool
-    ensures { result ≡ list_all is_letter_or_digit text.now }
-{
-    text.iter().all(|byte| is_letter_or_digit(*byte))
-}
-
-/// Whether a text is a name: a letter, and then letters and digits.
-#[tactic(auto, unfolding(crate::specs::Place::is_name))]
-fn is_name(text: &[u8]) -> bool
-    ensures { result ≡ is_name text.now }
-{
-    if is_letter(byte_at(text, 0)) {
-        all_letters_or_digits(text)
-    } else {
-        false
-    }
-}
-
 /// The index register with this name.
 #[tactic(auto, unfolding(crate::specs::Place::index_named))]
 fn index_named(text: &[u8]) -> Option<IndexRegister>
     ensures { result ≡ index_named text.now }
 {
-    if text == b"X1".as_slice() {
+    if is_same(text, b"X1") {
         Some(IndexRegister::X1)
-    } else if text == b"X2".as_slice() {
+    } else if is_same(text, b"X2") {
         Some(IndexRegister::X2)
-    } else if text == b"X3".as_slice() {
+    } else if is_same(text, b"X3") {
         Some(IndexRegister::X3)
     } else {
         None
@@ -120,115 +86,69 @@ fn index_named(text: &[u8]) -> Option<IndexRegister>
 fn register_named(text: &[u8]) -> Option<Register>
     ensures { result ≡ register_named text.now }
 {
-    if text == b"I".as_slice() {
+    if is_same(text, b"I") {
         Some(Register::I)
-    } else if text == b"A".as_slice() {
+    } else if is_same(text, b"A") {
         Some(Register::A)
-    } else if text == b"B".as_slice() {
+    } else if is_same(text, b"B") {
         Some(Register::B)
     } else {
         None
     }
 }
 
-/// A label.
-#[tactic(auto, unfolding(crate::specs::Place::label_in))]
+/// A label: a letter, and then letters and digits.
+#[tactic(auto, unfolding(crate::specs::Place::label_in, crate::specs::Place::is_name))]
 fn label(text: &[u8]) -> Option<Base>
     ensures { result ≡ label_in text.now }
 {
-    if is_name(text) {
+    if !is_letter(byte_at(text, 0)) {
+        return None;
+    }
+    if are_all(text, Kind::LetterOrDigit) {
         Some(Base::Label(Text::as_typed(text)))
     } else {
         None
     }
 }
 
-/// An index register, or a label.
-#[tactic(auto, unfolding(crate::specs::Place::named))]
-fn named(text: &[u8]) -> Option<Base>
-    ensures { result ≡ named text.now }
-{
-    match index_named(text) {
-        Some(register) => Some(Base::Index(register)),
-        None => label(text),
-    }
-}
-
-/// A label in parentheses, without the first of them.
-#[tactic(auto, unfolding(crate::specs::Place::in_parentheses))]
-fn in_parentheses(text: &[u8]) -> Option<Base>
-    ensures { result ≡ in_parentheses text.now }
-{
-    let (name, end) = split_before(text, b')');
-    if end == b")".as_slice() {
-        label(name)
-    } else {
-        None
-    }
-}
-
-/// A number.
-fn number(text: &[u8]) -> Option<Base>
-    ensures { result ≡ number_base text.now }
-{
-    match numeral(text) {
-        Some(number) => Some(Base::Number(number)),
-        None => None,
-    }
-}
-
-/// A line of the source, without its colon.
-fn line(text: &[u8]) -> Option<Base>
-    ensures { result ≡ line_base text.now }
-{
-    match numeral(text) {
-        Some(line) => Some(Base::Line(line)),
-        None => None,
-    }
-}
-
-/// A register, without its dollar sign.
-fn held(text: &[u8]) -> Option<Base>
-    ensures { result ≡ held_base text.now }
-{
-    match register_named(text) {
-        Some(register) => Some(Base::Held(register)),
-        None => None,
-    }
-}
-
 /// Where an address begins.
-#[tactic(auto, unfolding(crate::specs::Place::base_in))]
+#[tactic(auto, unfolding(crate::specs::Place::base_in, crate::specs::Place::in_parentheses, crate::specs::Place::named))]
 fn read_base(text: &[u8]) -> Option<Base>
     ensures { result ≡ base_in text.now }
 {
     let first = byte_at(text, 0);
-    if is_digit(first) {
-        number(text)
-    } else if first == b':' {
-        line(beyond_first(text))
-    } else if first == b'$' {
-        held(beyond_first(text))
-    } else if first == b'(' {
-        in_parentheses(beyond_first(text))
-    } else {
-        named(text)
+    if Kind::Digit.has(first) {
+        return match numeral(text) {
+            Some(number) => Some(Base::Number(number)),
+            None => None,
+        };
     }
-}
-
-/// Whether a byte begins an adjustment.
-fn is_sign(byte: u8) -> bool
-    ensures { result ≡ is_sign byte }
-{
-    byte == b'+' || byte == b'-'
-}
-
-/// How many bytes come before the first sign.
-fn bytes_before_sign(text: &[u8]) -> usize
-    ensures value { result ≡ position_or_len is_sign text.now }
-    ensures bound { result ≤ length text.now }
-{
-    text.iter().take_while(|byte| !is_sign(**byte)).count()
+    let beyond = beyond_first(text);
+    if first == b':' {
+        return match numeral(beyond) {
+            Some(line) => Some(Base::Line(line)),
+            None => None,
+        };
+    }
+    if first == b'$' {
+        return match register_named(beyond) {
+            Some(register) => Some(Base::Held(register)),
+            None => None,
+        };
+    }
+    if first == b'(' {
+        let (name, end) = split_before(beyond, b')');
+        return if is_same(end, b")") {
+            label(name)
+        } else {
+            None
+        };
+    }
+    match index_named(text) {
+        Some(register) => Some(Base::Index(register)),
+        None => label(text),
+    }
 }
 
 /// The first adjustment of a text that begins with a sign, and what follows it.
@@ -240,46 +160,30 @@ fn split_adjustment(text: &[u8]) -> (&[u8], &[u8])
     if text.is_empty() {
         return (text, text);
     }
-    text.split_at(1 + bytes_before_sign(&text[1..]))
-}
-
-/// A number or an index register, added.
-#[tactic(auto, unfolding(crate::specs::Place::added))]
-fn added(term: &[u8]) -> Option<Option<Adjustment>>
-    ensures { result ≡ added term.now }
-{
-    match index_named(term) {
-        Some(register) => Some(Some(Adjustment::Indexed(register))),
-        None => match numeral(term) {
-            Some(number) => Some(Some(Adjustment::Plus(number))),
-            None => None,
-        },
-    }
-}
-
-/// A number, taken away.
-#[tactic(auto, unfolding(crate::specs::Place::subtracted))]
-fn subtracted(term: &[u8]) -> Option<Option<Adjustment>>
-    ensures { result ≡ subtracted term.now }
-{
-    match numeral(term) {
-        Some(number) => Some(Some(Adjustment::Minus(number))),
-        None => None,
-    }
+    text.split_at(1 + bytes_in_front(&text[1..], Kind::BeforeSign))
 }
 
 /// The adjustment that a sign and a term are, none where there is no byte.
-#[tactic(auto, unfolding(crate::specs::Place::adjustment_of))]
+#[tactic(auto, unfolding(crate::specs::Place::adjustment_of, crate::specs::Place::added, crate::specs::Place::subtracted))]
 fn read_adjustment(text: &[u8]) -> Option<Option<Adjustment>>
     ensures { result ≡ adjustment_of text.now }
 {
     if text.is_empty() {
         return Some(None);
     }
-    if byte_at(text, 0) == b'+' {
-        added(beyond_first(text))
-    } else {
-        subtracted(beyond_first(text))
+    let term = beyond_first(text);
+    if byte_at(text, 0) != b'+' {
+        return match numeral(term) {
+            Some(number) => Some(Some(Adjustment::Minus(number))),
+            None => None,
+        };
+    }
+    if let Some(register) = index_named(term) {
+        return Some(Some(Adjustment::Indexed(register)));
+    }
+    match numeral(term) {
+        Some(number) => Some(Some(Adjustment::Plus(number))),
+        None => None,
     }
 }
 
@@ -306,7 +210,7 @@ fn adjustments(text: &[u8]) -> Option<[Option<Adjustment>; 3]>
 pub(crate) fn read_place(word: &[u8]) -> Option<Place>
     ensures { result ≡ place_in word.now }
 {
-    let (name, rest) = word.split_at(bytes_before_sign(word));
+    let (name, rest) = word.split_at(bytes_in_front(word, Kind::BeforeSign));
     let base = read_base(name)?;
     let adjustments = adjustments(rest)?;
     Some(Place { base, adjustments })

@@ -1,9 +1,8 @@
 //! Ranges of places.
 ghost use Rattle.std.specs.Prelude.{◌≡◌};
-ghost use Rattle.operate_orders.specs.Range.{area_named, between, counted, numbers_between, lone, range_by_minus};
-ghost use Rattle.operate_orders.specs.Range.{range_by_slash, range_by_dots, range_in, at_number};
+ghost use Rattle.operate_orders.specs.Range.{area_named, at_number, lone, range_by_minus, range_in};
 
-use crate::parts::{beyond_first, byte_at, numeral, split_before};
+use crate::parts::{beyond_first, byte_at, is_same, numeral, split_before};
 use crate::places::{Base, Place, read_place};
 
 /// The areas of the card reader, the card punch and the printer (A24-1403, "Storage Areas").
@@ -45,38 +44,14 @@ pub enum Range {
 fn area_named(word: &[u8]) -> Option<Area>
     ensures { result ≡ area_named word.now }
 {
-    if word == b"READ".as_slice() {
+    if is_same(word, b"READ") {
         Some(Area::Read)
-    } else if word == b"PUNCH".as_slice() {
+    } else if is_same(word, b"PUNCH") {
         Some(Area::Punch)
-    } else if word == b"PRINT".as_slice() {
+    } else if is_same(word, b"PRINT") {
         Some(Area::Print)
     } else {
         None
-    }
-}
-
-/// From a place to another.
-#[tactic(auto, unfolding(crate::specs::Range::between))]
-fn between(first: &[u8], last: &[u8]) -> Option<Range>
-    ensures { result ≡ between first.now last.now }
-{
-    let first = read_place(first)?;
-    let last = read_place(last)?;
-    Some(Range::Between { first, last })
-}
-
-/// So many places, from 1 on.
-#[tactic(auto, unfolding(crate::specs::Range::counted))]
-fn counted(first: &[u8], count: &[u8]) -> Option<Range>
-    ensures { result ≡ counted first.now count.now }
-{
-    let first = read_place(first)?;
-    let count = numeral(count)?;
-    if count == 0 {
-        None
-    } else {
-        Some(Range::Counted { first, count })
     }
 }
 
@@ -90,72 +65,61 @@ fn at_number(number: u32) -> Place
     }
 }
 
-/// From a number to another, if both are numbers.
-#[tactic(auto, unfolding(crate::specs::Range::numbers_between))]
-fn numbers_between(first: &[u8], last: &[u8]) -> Option<Range>
-    ensures { result ≡ numbers_between first.now last.now }
-{
-    let first = at_number(numeral(first)?);
-    let last = at_number(numeral(last)?);
-    Some(Range::Between { first, last })
-}
-
 /// A place alone.
 #[tactic(auto, unfolding(crate::specs::Range::lone))]
 fn lone(word: &[u8]) -> Option<Range>
     ensures { result ≡ lone word.now }
 {
-    let place = read_place(word)?;
-    Some(Range::At(place))
+    match read_place(word) {
+        Some(place) => Some(Range::At(place)),
+        None => None,
+    }
 }
 
 /// Two numbers with a minus between them, or a place alone.
-#[tactic(auto, unfolding(crate::specs::Range::range_by_minus))]
+#[tactic(auto, unfolding(crate::specs::Range::range_by_minus, crate::specs::Range::numbers_between))]
 fn range_by_minus(word: &[u8]) -> Option<Range>
     ensures { result ≡ range_by_minus word.now }
 {
     let (first, last) = split_before(word, b'-');
-    match numbers_between(first, beyond_first(last)) {
-        Some(range) => Some(range),
-        None => lone(word),
-    }
-}
-
-/// A range that isn't an area and has no dot.
-#[tactic(auto, unfolding(crate::specs::Range::range_by_slash))]
-fn range_by_slash(word: &[u8]) -> Option<Range>
-    ensures { result ≡ range_by_slash word.now }
-{
-    let (first, count) = split_before(word, b'/');
-    if count.is_empty() {
-        range_by_minus(word)
-    } else {
-        counted(first, beyond_first(count))
-    }
-}
-
-/// A range that isn't an area.
-#[tactic(auto, unfolding(crate::specs::Range::range_by_dots))]
-fn range_by_dots(word: &[u8]) -> Option<Range>
-    ensures { result ≡ range_by_dots word.now }
-{
-    let (first, dots) = split_before(word, b'.');
-    if dots.is_empty() {
-        range_by_slash(word)
-    } else if byte_at(dots, 1) == b'.' {
-        between(first, beyond_first(beyond_first(dots)))
-    } else {
-        None
-    }
+    let Some(first) = numeral(first) else {
+        return lone(word);
+    };
+    let Some(last) = numeral(beyond_first(last)) else {
+        return lone(word);
+    };
+    Some(Range::Between {
+        first: at_number(first),
+        last: at_number(last),
+    })
 }
 
 /// The range that a word is, in capitals.
-#[tactic(auto, unfolding(crate::specs::Range::range_in))]
+#[tactic(auto, unfolding(crate::specs::Range::range_in, crate::specs::Range::range_by_dots, crate::specs::Range::range_by_slash, crate::specs::Range::between, crate::specs::Range::counted))]
 pub(crate) fn read_range(word: &[u8]) -> Option<Range>
     ensures { result ≡ range_in word.now }
 {
-    match area_named(word) {
-        Some(area) => Some(Range::Area(area)),
-        None => range_by_dots(word),
+    if let Some(area) = area_named(word) {
+        return Some(Range::Area(area));
+    }
+    let (first, dots) = split_before(word, b'.');
+    if !dots.is_empty() {
+        if byte_at(dots, 1) != b'.' {
+            return None;
+        }
+        let first = read_place(first)?;
+        let last = read_place(beyond_first(beyond_first(dots)))?;
+        return Some(Range::Between { first, last });
+    }
+    let (first, count) = split_before(word, b'/');
+    if count.is_empty() {
+        return range_by_minus(word);
+    }
+    let first = read_place(first)?;
+    let count = numeral(beyond_first(count))?;
+    if count == 0 {
+        None
+    } else {
+        Some(Range::Counted { first, count })
     }
 }

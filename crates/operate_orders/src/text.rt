@@ -8,7 +8,7 @@ use std::marker::Model;
 
 /// A text of a line: a word, a label, the name of a file. It has at most 200 bytes, as a line has. Contracts see the
 /// list of them.
-#[derive(Clone, Copy, Debug, PartialEq, Eq)]
+#[derive(Clone, Copy, Debug)]
 pub struct Text {
     bytes: [u8; LINE_LIMIT],
     len: u8,

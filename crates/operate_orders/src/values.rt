@@ -1,15 +1,13 @@
 //! Values, and conditions on fields.
-ghost use Rattle.std.specs.Prelude.{◌≡◌, ◌≤◌, length};
-ghost use Rattle.std.specs.List.{position_or_len};
-ghost use Rattle.operate_orders.specs.Value.{text_operand, quoted, number_in, number_operand, lone_number, value_operand};
-ghost use Rattle.operate_orders.specs.Value.{is_relation, beyond_relation, compared};
-ghost use Rattle.operate_orders.specs.Value.{condition_operand, related, number_with, quoted_value};
+ghost use Rattle.std.specs.Prelude.{◌≡◌};
+ghost use Rattle.operate_orders.specs.Value.{quoted, number_with, number_in, value_operand, related, beyond_relation};
+ghost use Rattle.operate_orders.specs.Value.{condition_operand};
 
 use crate::fault::OrderFault;
 use crate::operands::lone_place;
 use crate::parts::{
-    are_digits, beyond_first, byte_at, has_graphics, is_end, split_before, split_operand,
-    without_blanks,
+    Kind, are_all, are_digits, beyond_first, byte_at, bytes_in_front, is_end, split_before,
+    split_operand, without_blanks,
 };
 use crate::places::Place;
 use crate::text::Text;
@@ -57,24 +55,8 @@ pub struct Condition {
     pub value: Value,
 }
 
-/// The text that some bytes spell.
-#[tactic(auto, unfolding(crate::specs::Value::text_operand))]
-fn text_operand(keyword: Keyword, bytes: &[u8]) -> Result<Text, OrderFault>
-    ensures { result ≡ text_operand keyword bytes.now }
-{
-    if bytes.is_empty() {
-        return Err(OrderFault::Usage(keyword));
-    }
-    let capitals = Text::in_capitals(bytes);
-    if has_graphics(capitals.as_slice()) {
-        Ok(capitals)
-    } else {
-        Err(OrderFault::Graphic)
-    }
-}
-
 /// The text up to the at sign after it, and nothing after that.
-#[tactic(auto, unfolding(crate::specs::Value::quoted))]
+#[tactic(auto, unfolding(crate::specs::Value::quoted, crate::specs::Value::text_operand))]
 pub(crate) fn quoted(keyword: Keyword, rest: &[u8]) -> Result<Text, OrderFault>
     ensures { result ≡ quoted keyword rest.now }
 {
@@ -85,7 +67,15 @@ pub(crate) fn quoted(keyword: Keyword, rest: &[u8]) -> Result<Text, OrderFault>
     if !is_end(beyond_first(end)) {
         return Err(OrderFault::Usage(keyword));
     }
-    text_operand(keyword, bytes)
+    if bytes.is_empty() {
+        return Err(OrderFault::Usage(keyword));
+    }
+    let capitals = Text::in_capitals(bytes);
+    if are_all(capitals.as_slice(), Kind::Graphic) {
+        Ok(capitals)
+    } else {
+        Err(OrderFault::Graphic)
+    }
 }
 
 /// The number with these digits, if they are digits.
@@ -117,72 +107,29 @@ fn number(word: &[u8]) -> Option<Value>
     }
 }
 
-/// A number with its fault.
-#[tactic(auto, unfolding(crate::specs::Value::number_operand))]
-fn number_operand(keyword: Keyword, word: &[u8]) -> Result<Value, OrderFault>
-    ensures { result ≡ number_operand keyword word.now }
-{
-    if word.is_empty() {
-        return Err(OrderFault::Usage(keyword));
-    }
-    match number(word) {
-        Some(number) => Ok(number),
-        None => Err(OrderFault::Number(Text::as_typed(word))),
-    }
-}
-
-/// A number, and nothing after it.
-#[tactic(auto, unfolding(crate::specs::Value::lone_number))]
-fn lone_number(keyword: Keyword, rest: &[u8]) -> Result<Value, OrderFault>
-    ensures { result ≡ lone_number keyword rest.now }
-{
-    let (word, beyond) = split_operand(rest);
-    let number = number_operand(keyword, word)?;
-    if is_end(beyond) {
-        Ok(number)
-    } else {
-        Err(OrderFault::Usage(keyword))
-    }
-}
-
-/// A text, as a value.
-fn quoted_value(keyword: Keyword, rest: &[u8]) -> Result<Value, OrderFault>
-    ensures { result ≡ quoted_value keyword rest.now }
-{
-    let text = quoted(keyword, rest)?;
-    Ok(Value::Text(text))
-}
-
 /// A value, and nothing after it.
 ///
 /// # Errors
 ///
 /// `Usage` if there is none, its last at sign is missing or something follows; `Number`, `Graphic`.
-#[tactic(auto, unfolding(crate::specs::Value::value_operand))]
+#[tactic(auto, unfolding(crate::specs::Value::value_operand, crate::specs::Value::lone_number, crate::specs::Value::number_operand))]
 pub(crate) fn value_operand(keyword: Keyword, rest: &[u8]) -> Result<Value, OrderFault>
     ensures { result ≡ value_operand keyword rest.now }
 {
     let text = without_blanks(rest);
     if byte_at(text, 0) == b'@' {
-        quoted_value(keyword, beyond_first(text))
-    } else {
-        lone_number(keyword, text)
+        let text = quoted(keyword, beyond_first(text))?;
+        return Ok(Value::Text(text));
     }
-}
-
-/// Whether a byte begins a relation.
-fn is_relation(byte: u8) -> bool
-    ensures { result ≡ is_relation byte }
-{
-    byte == b'=' || byte == b'<' || byte == b'>'
-}
-
-/// How many bytes come before a relation.
-fn bytes_before_relation(text: &[u8]) -> usize
-    ensures value { result ≡ position_or_len is_relation text.now }
-    ensures bound { result ≤ length text.now }
-{
-    text.iter().take_while(|byte| !is_relation(**byte)).count()
+    let (word, beyond) = split_operand(text);
+    if word.is_empty() {
+        return Err(OrderFault::Usage(keyword));
+    }
+    match number(word) {
+        None => Err(OrderFault::Number(Text::as_typed(word))),
+        Some(number) if is_end(beyond) => Ok(number),
+        Some(_) => Err(OrderFault::Usage(keyword)),
+    }
 }
 
 /// The relation that two bytes spell, the second of them perhaps not a part of it.
@@ -223,30 +170,21 @@ fn beyond_relation(relation: Relation, text: &[u8]) -> &[u8]
     }
 }
 
-/// A relation and a value, which follow a field.
-#[tactic(auto, unfolding(crate::specs::Value::compared))]
-fn compared(keyword: Keyword, text: &[u8]) -> Result<(Relation, Value), OrderFault>
-    ensures { result ≡ compared keyword text.now }
-{
-    let Some(relation) = related(byte_at(text, 0), byte_at(text, 1)) else {
-        return Err(OrderFault::Usage(keyword));
-    };
-    let value = value_operand(keyword, beyond_relation(relation, text))?;
-    Ok((relation, value))
-}
-
 /// A condition, and nothing after it.
 ///
 /// # Errors
 ///
 /// `Usage` if a part of it is missing or something follows; `Place`, `Number`, `Graphic`.
-#[tactic(auto, unfolding(crate::specs::Value::condition_operand))]
+#[tactic(auto, unfolding(crate::specs::Value::condition_operand, crate::specs::Value::compared))]
 pub(crate) fn condition_operand(keyword: Keyword, rest: &[u8]) -> Result<Condition, OrderFault>
     ensures { result ≡ condition_operand keyword rest.now }
 {
-    let (field, relation) = rest.split_at(bytes_before_relation(rest));
+    let (field, text) = rest.split_at(bytes_in_front(rest, Kind::BeforeRelation));
     let field = lone_place(keyword, field)?;
-    let (relation, value) = compared(keyword, relation)?;
+    let Some(relation) = related(byte_at(text, 0), byte_at(text, 1)) else {
+        return Err(OrderFault::Usage(keyword));
+    };
+    let value = value_operand(keyword, beyond_relation(relation, text))?;
     Ok(Condition {
         field,
         relation,

@@ -11,8 +11,8 @@ regrouped a b c d e f = simp append_assoc
 pub returns : goal.returns
 unfolding byte_text
 returns c =
-    c.in_ok-put_words.ensures
-    ∙ ap (λ (text : List ℕ). text ++ codes " is no character") (c.in_ok-put_number-2.ensures
-    ∙ ap (λ (text : List ℕ). text ++ codes " in column " ++ digits_in 1 c.args.column) c.in_ok-put_number.ensures)
+    c.in_ok-extend_from_slice.ensures.items
+    ∙ ap (λ (text : List ℕ). text ++ codes " is no character") (c.in_ok-put_named_digits-2.ensures.text
+    ∙ ap (λ (text : List ℕ). text ++ codes " in column " ++ digits_in 1 c.args.column) c.in_ok-put_named_digits.ensures.text)
     ∙ regrouped c.args.text.now.items (codes "byte ") (digits_in 1 c.args.byte) (codes " in column ")
     (digits_in 1 c.args.column) (codes " is no character")

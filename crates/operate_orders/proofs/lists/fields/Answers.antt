@@ -1,11 +1,11 @@
 -- Each operand goes in front of what is left.
-use Rattle.std.proofs.Common.{◌≡◌, ℕ, suc, ◌+◌, ◌-◌, ◌<◌, ◌++◌, List, [], ◌∷◌, length, take, set, refl, sym, ◌∙◌, ap, subst, arith, take_all, append-nil}
+use Rattle.std.proofs.Common.{◌≡◌, ℕ, suc, ◌+◌, ◌-◌, ◌<◌, ◌++◌, List, [], ◌∷◌, length, take, sym, ◌∙◌, ap, arith, take_all}
 use Rattle.std.specs.Prelude.{Option, Ok, Err}
 use Rattle.std.proofs.lemmas.Result.{err_from_is_err_and}
 use Rattle.std.proofs.lemmas.List.{take_more_set, length-set}
 use Rattle.operate_orders.specs.List.{field, listed, fields_in}
 use Rattle.operate_orders.specs.declared.places.Place.{Place}
-use Rattle.operate_orders.specs.Parts.{operand_in, beyond_operand}
+use Rattle.operate_orders.specs.Parts.{operand_in}
 use Rattle.operate_orders.specs.declared.fault.OrderFault.{OrderFault}
 use Rattle.operate_orders.specs.declared.words.Keyword.TheVariants.{Print}
 use Rattle.operate_orders.proofs.ListLemmas.{with_front, one_listed, none_listed, listed_end, listed_more}

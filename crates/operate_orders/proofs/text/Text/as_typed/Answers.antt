@@ -1,5 +1,4 @@
 -- The bytes were copied in front of zeros.
-use Rattle.std.proofs.Common.{arith}
 use Rattle.operate_orders.proofs.TextLemmas.{in_front}
 use Rattle.operate_orders.proofs.text.Text.as_typed.Goals as goal
 
