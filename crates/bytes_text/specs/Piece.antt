@@ -1,0 +1,16 @@
+-- Texts as data (own).
+use Rattle.std.specs.Prelude.{ℕ, List}
+use Rattle.machine_notation.specs.Cells.{cell_text}
+use Rattle.machine_notation.specs.Characters.{graphics_of, trimmed}
+use Rattle.machine_notation.specs.Digits.{digits_in}
+use Rattle.bytes_text.specs.declared.piece.Piece.{Piece}
+use Rattle.bytes_text.specs.declared.piece.Piece.TheVariants.{Text, Number, Small, Count, Cell, Characters}
+
+-- the bytes of a piece
+abbrev pub piece_text : Piece → List ℕ
+piece_text (Text bytes) = bytes.now
+piece_text (Number width number) = digits_in width number
+piece_text (Small number) = digits_in 1 number
+piece_text (Count number) = digits_in 1 number
+piece_text (Cell cell) = cell_text cell
+piece_text (Characters chars) = graphics_of (trimmed chars.now)

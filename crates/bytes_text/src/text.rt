@@ -1,0 +1,115 @@
+//! A text that keeps its first failure.
+use crate::piece::{Piece, put_pieces};
+use bcd_1401::{Cell, Char};
+use machine_notation::{put_cell, put_characters, put_digits};
+use std::alloc::{AllocError, Global};
+use std::marker::Model;
+
+/// A text that is written piece by piece. After memory was refused nothing more is added, and `into_bytes` says so.
+#[derive(Drop)]
+pub struct Text {
+    bytes: Vec<u8>,
+    is_whole: bool,
+}
+
+impl Model for Text {
+    ghost use Rattle.bytes_text.specs.Written.{Written};
+
+    ghost Value = { Written };
+
+    ghost view = { λ text. record {
+      items = text.bytes.items;
+      is_whole = text.is_whole;
+    } };
+}
+
+impl Text {
+    ghost use Rattle.std.specs.Prelude.{◌≡◌, [], ◌∷◌, IsTrue, IfOk, true};
+    ghost use Rattle.std.specs.List.{flat_map};
+    ghost use Rattle.bytes_text.specs.Piece.{piece_text};
+    ghost use Rattle.bytes_text.specs.Written.{Adds};
+    ghost use Rattle.machine_notation.specs.Cells.{cell_text};
+    ghost use Rattle.machine_notation.specs.Characters.{graphics_of, trimmed};
+    ghost use Rattle.machine_notation.specs.Digits.{digits_in};
+
+    /// An empty text.
+    pub fn new(alloc: Global) -> Text
+        ensures { result ≡ record { items = []; is_whole = true } }
+    {
+        Text {
+            bytes: Vec::new(alloc),
+            is_whole: true,
+        }
+    }
+
+    /// Whether nothing has been written.
+    pub fn is_empty(&self) -> bool {
+        self.bytes.is_empty()
+    }
+
+    /// Adds bytes.
+    pub fn put(&mut self, bytes: &[u8])
+        ensures { Adds self.old self.new bytes.now }
+    {
+        if self.is_whole {
+            self.is_whole = self.bytes.extend_from_slice(bytes).is_ok();
+        }
+    }
+
+    /// Adds a byte.
+    pub fn put_byte(&mut self, byte: u8)
+        ensures { Adds self.old self.new (byte ∷ []) }
+    {
+        if self.is_whole {
+            self.is_whole = self.bytes.push(byte).is_ok();
+        }
+    }
+
+    /// Adds a number, with leading zeros up to the width.
+    pub fn put_number(&mut self, width: u8, number: u64)
+        ensures { Adds self.old self.new (digits_in width number) }
+    {
+        if self.is_whole {
+            self.is_whole = put_digits(&mut self.bytes, width, number).is_ok();
+        }
+    }
+
+    /// Adds a cell by its graphic, with a tilde before it if it has a word mark.
+    pub fn put_cell(&mut self, cell: Cell)
+        ensures { Adds self.old self.new (cell_text cell) }
+    {
+        if self.is_whole {
+            self.is_whole = put_cell(&mut self.bytes, cell).is_ok();
+        }
+    }
+
+    /// Adds characters by their graphics, without the blanks at their end.
+    pub fn put_characters(&mut self, chars: &[Char])
+        ensures { Adds self.old self.new (graphics_of (trimmed chars.now)) }
+    {
+        if self.is_whole {
+            self.is_whole = put_characters(&mut self.bytes, chars).is_ok();
+        }
+    }
+
+    /// Adds pieces, one after the other.
+    pub fn put_pieces(&mut self, pieces: &[Piece<'_>])
+        ensures { Adds self.old self.new (flat_map piece_text pieces.now) }
+    {
+        if self.is_whole {
+            self.is_whole = put_pieces(&mut self.bytes, pieces).is_ok();
+        }
+    }
+
+    /// The bytes that were written.
+    ///
+    /// # Errors
+    ///
+    /// If memory for some of them was refused.
+    pub fn into_bytes(self) -> Result<Vec<u8>, AllocError>
+        ensures { IfOk result (λ bytes. IsTrue self.is_whole × (bytes.items ≡ self.items)) }
+    {
+        let Text { bytes, is_whole } = self;
+        if is_whole { Ok(bytes) } else { Err(AllocError) }
+    }
+}
