@@ -25,7 +25,7 @@ impl Model for Text {
 }
 
 impl Text {
-    ghost use Rattle.std.specs.Prelude.{◌≡◌, ◌==◌, [], ◌∷◌, length, replicate, IsTrue, IsOk, IfOk, true};
+    ghost use Rattle.std.specs.Prelude.{◌≡◌, ◌==◌, [], ◌∷◌, length, replicate, IsTrue, IsOk, IfOk, true, false};
     ghost use Rattle.std.specs.List.{flat_map};
     ghost use Rattle.bytes_text.specs.Piece.{piece_text};
     ghost use Rattle.bytes_text.specs.Written.{Adds};
@@ -80,6 +80,13 @@ impl Text {
         ensures whole { IsTrue self.new.is_whole → IsTrue self.old.is_whole × IsTrue other.now.is_whole }
     {
         self.is_whole = self.is_whole && other.is_whole;
+    }
+
+    /// Adds nothing, and keeps that memory for something was refused.
+    pub fn fail(&mut self)
+        ensures { self.new.is_whole ≡ false }
+    {
+        self.is_whole = false;
     }
 
     /// Takes the bytes out for a function that adds to a `Vec`. `put_back` gives them back.
