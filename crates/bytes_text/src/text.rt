@@ -1,9 +1,10 @@
 //! A text that keeps its first failure.
-use crate::piece::{Piece, put_pieces};
+use crate::piece::{Piece, put_blanks, put_pieces};
 use bcd_1401::{Cell, Char};
 use machine_notation::{put_cell, put_characters, put_digits};
 use std::alloc::{AllocError, Global};
 use std::marker::Model;
+use std::mem;
 
 /// A text that is written piece by piece. After memory was refused nothing more is added, and `into_bytes` says so.
 #[derive(Drop)]
@@ -24,7 +25,7 @@ impl Model for Text {
 }
 
 impl Text {
-    ghost use Rattle.std.specs.Prelude.{◌≡◌, [], ◌∷◌, IsTrue, IfOk, true};
+    ghost use Rattle.std.specs.Prelude.{◌≡◌, ◌==◌, [], ◌∷◌, length, replicate, IsTrue, IsOk, IfOk, true, false};
     ghost use Rattle.std.specs.List.{flat_map};
     ghost use Rattle.bytes_text.specs.Piece.{piece_text};
     ghost use Rattle.bytes_text.specs.Written.{Adds};
@@ -42,9 +43,68 @@ impl Text {
         }
     }
 
+    /// A text that begins with these bytes.
+    pub fn of(bytes: Vec<u8>) -> Text
+        ensures { result ≡ record { items = bytes.items; is_whole = true } }
+    {
+        Text {
+            bytes,
+            is_whole: true,
+        }
+    }
+
     /// Whether nothing has been written.
-    pub fn is_empty(&self) -> bool {
+    pub fn is_empty(&self) -> bool
+        ensures { result ≡ (length self.now.items == 0) }
+    {
         self.bytes.is_empty()
+    }
+
+    /// How many bytes have been written.
+    pub fn len(&self) -> usize
+        ensures { result ≡ length self.now.items }
+    {
+        self.bytes.len()
+    }
+
+    /// What has been written.
+    pub fn as_slice(&self) -> &[u8]
+        ensures { result.now ≡ self.now.items }
+    {
+        self.bytes.as_slice()
+    }
+
+    /// Adds nothing, but this text is whole only if another one is, of which it is made.
+    pub fn rests_on(&mut self, other: &Text)
+        ensures items { self.new.items ≡ self.old.items }
+        ensures whole { IsTrue self.new.is_whole → IsTrue self.old.is_whole × IsTrue other.now.is_whole }
+    {
+        self.is_whole = self.is_whole && other.is_whole;
+    }
+
+    /// Adds nothing, and keeps that memory for something was refused.
+    pub fn fail(&mut self)
+        ensures { self.new.is_whole ≡ false }
+    {
+        self.is_whole = false;
+    }
+
+    /// Takes the bytes out for a function that adds to a `Vec`. `put_back` gives them back.
+    pub fn take(&mut self) -> Vec<u8>
+        ensures items { result.items ≡ self.old.items }
+        ensures whole { self.new.is_whole ≡ self.old.is_whole }
+    {
+        let alloc = *self.bytes.allocator();
+        mem::replace(&mut self.bytes, Vec::new(alloc))
+    }
+
+    /// Gives the bytes back, and whether all was added to them.
+    pub fn put_back(&mut self, bytes: Vec<u8>, added: Result<(), AllocError>)
+        ensures items { self.new.items ≡ bytes.items }
+        ensures whole { IsTrue self.new.is_whole → IsTrue self.old.is_whole × IsOk added }
+    {
+        self.bytes = bytes;
+        self.is_whole = self.is_whole && added.is_ok();
     }
 
     /// Adds bytes.
@@ -62,6 +122,15 @@ impl Text {
     {
         if self.is_whole {
             self.is_whole = self.bytes.push(byte).is_ok();
+        }
+    }
+
+    /// Adds blanks.
+    pub fn put_blanks(&mut self, count: usize)
+        ensures { Adds self.old self.new (replicate count 32) }
+    {
+        if self.is_whole {
+            self.is_whole = put_blanks(&mut self.bytes, count).is_ok();
         }
     }
 

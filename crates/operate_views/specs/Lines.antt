@@ -1,21 +1,18 @@
 -- The lines of `list`: an instruction or a constant with the line of the source that made it (own).
-use Rattle.std.specs.Prelude.{ℕ, ◌-◌, Bool, if◌then◌else◌, List, [], ◌∷◌, ◌++◌, codes, drop, length, min, replicate}
+use Rattle.std.specs.Prelude.{ℕ, ◌-◌, Bool, if◌then◌else◌, List, [], ◌∷◌, ◌++◌, codes, drop, length, min}
 use Rattle.std.specs.Prelude.{take, Option, None, Some}
 use Rattle.std.specs.List.{suffix_len}
 use Rattle.std.specs.Char.{is_ascii_whitespace}
 use Rattle.bcd_1401.specs.declared.cell.Cell.{Cell}
 use Rattle.core_1401.specs.Field.{next_mark_from}
 use Rattle.core_1401.specs.Storage.{Storage, cell_at}
+use Rattle.bytes_text.specs.Piece.{padded}
 use Rattle.cpu_1401.specs.Fetched.{instruction_at}
 use Rattle.machine_mnemonics.specs.ShownText.{shown_text}
 use Rattle.machine_notation.specs.Characters.{graphics_of, trimmed}
 use Rattle.machine_notation.specs.Digits.{digits_in}
 use Rattle.operate_views.specs.Ruler.{chars_of}
 use Rattle.operate_views.specs.declared.lines.Statement.{Statement}
-
--- a text with blanks after it, up to a width
-abbrev pub padded : ℕ → List ℕ → List ℕ
-padded width text = text ++ replicate (width - length text) 32
 
 -- a text without the blanks at its end
 abbrev pub without_last_blanks : List ℕ → List ℕ
