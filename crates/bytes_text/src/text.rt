@@ -67,6 +67,20 @@ impl Text {
         self.bytes.len()
     }
 
+    /// Whether memory was refused for nothing of it.
+    pub fn is_whole(&self) -> bool
+        ensures { result ≡ self.now.is_whole }
+    {
+        self.is_whole
+    }
+
+    /// Drops what was written after so many bytes.
+    pub fn cut(&mut self, len: usize)
+        ensures { self.new.is_whole ≡ self.old.is_whole }
+    {
+        self.bytes.truncate(len);
+    }
+
     /// What has been written.
     pub fn as_slice(&self) -> &[u8]
         ensures { result.now ≡ self.now.items }

@@ -77,13 +77,6 @@ pub(crate) fn put_some_cells(text: &mut Text, cells: &[Cell])
     text.put_byte(b')');
 }
 
-/// Adds blanks, so many as are left of a width.
-pub(crate) fn put_blanks(text: &mut Text, len: usize, width: usize) {
-    for _ in len..width {
-        text.put_byte(b' ');
-    }
-}
-
 /// The label of an address, filled up with blanks; blank if it has none.
 pub(crate) fn label_at(program: &Program, at: u16) -> [u8; 6] {
     match program.symbol_at(at) {

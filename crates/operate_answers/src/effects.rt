@@ -10,7 +10,7 @@ use devices_1401::{Card, Movement};
 use job_trace::next_change;
 use operate_program::Program;
 use operate_views::{cells_down, put_change, put_comparison, put_labelled};
-use std::alloc::{AllocError, Global};
+use std::alloc::Global;
 
 /// The most places that are shown before and after a step.
 const MOST_SHOWN: u16 = 60;
@@ -260,12 +260,7 @@ fn put_changes(
 /// What a step did, by the machine before and after it: the card that it read, what changed in core storage but for the
 /// places of that card, the card that it punched, where the carriage is or goes next, what a comparison found, and
 /// where a branch led.
-pub(crate) fn effect_of(
-    alloc: Global,
-    program: &Program,
-    before: &Machine,
-    after: &Machine,
-) -> Result<Vec<u8>, AllocError>
+pub(crate) fn effect_of(alloc: Global, program: &Program, before: &Machine, after: &Machine) -> Text
     requires { length before.now.storage ≡ length after.now.storage }
 {
     let mut effect = Text::new(alloc);
@@ -284,5 +279,5 @@ pub(crate) fn effect_of(
     }
     put_carriage(&mut effect, before, after);
     put_outcome(&mut effect, program, before, after);
-    effect.into_bytes()
+    effect
 }

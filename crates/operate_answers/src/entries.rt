@@ -1,6 +1,6 @@
 //! The last commands that were recorded, and the cards that are still in the hopper.
 
-use crate::counted::{put_blanks, put_count};
+use crate::counted::put_count;
 use bytes_text::Text;
 use console_text::{put_command, reply_text};
 use devices_1401::{Card, Devices};
@@ -18,18 +18,6 @@ const COMMAND_COLUMNS: usize = 29;
 /// How many cards of the hopper are shown.
 const CARDS_SHOWN: usize = 5;
 
-/// Adds a command in its columns, and the answer.
-fn put_entry(alloc: Global, text: &mut Text, entry: &Entry) -> Result<(), AllocError> {
-    let mut command = Vec::new(alloc);
-    put_command(&mut command, &entry.command)?;
-    let answer = reply_text(alloc, &entry.answer)?;
-    text.put(command.as_slice());
-    put_blanks(text, command.len(), COMMAND_COLUMNS);
-    text.put(b"  ");
-    text.put(answer.as_slice());
-    Ok(())
-}
-
 /// Adds the last entries of a journal, a line each: its number, the command and the answer.
 pub(crate) fn put_journal(alloc: Global, text: &mut Text, journal: &[Entry], most: Option<u32>) {
     let most = match most {
@@ -41,10 +29,18 @@ pub(crate) fn put_journal(alloc: Global, text: &mut Text, journal: &[Entry], mos
         return;
     }
     for i in journal.len().saturating_sub(most)..journal.len() {
+        let entry = &journal[i];
         text.put_number(1, i as u64 + 1);
         text.put(b"  ");
-        if put_entry(alloc, text, &journal[i]).is_err() {
-            text.fail();
+        let from = text.len();
+        let mut bytes = text.take();
+        let added = put_command(&mut bytes, &entry.command);
+        text.put_back(bytes, added);
+        text.put_blanks(COMMAND_COLUMNS.saturating_sub(text.len().saturating_sub(from)));
+        text.put(b"  ");
+        match reply_text(alloc, &entry.answer) {
+            Ok(answer) => text.put(answer.as_slice()),
+            Err(_) => text.fail(),
         }
         text.put_byte(b'\n');
     }

@@ -45,16 +45,15 @@ fn put_panel(alloc: Global, text: &mut Text, program: &Program, seen: &Seen<'_>)
     let regs = machine.regs();
     let a_label = label_at(program, regs.a);
     let b_label = label_at(program, regs.b);
-    match instruction_at(alloc, program, machine.core(), regs.i) {
-        Ok(there) => put_registers(
-            text,
-            machine,
-            there.as_slice(),
-            word_in(a_label.as_slice()),
-            word_in(b_label.as_slice()),
-        ),
-        Err(_) => text.fail(),
-    }
+    let there = instruction_at(alloc, program, machine.core(), regs.i);
+    text.rests_on(&there);
+    put_registers(
+        text,
+        machine,
+        there.as_slice(),
+        word_in(a_label.as_slice()),
+        word_in(b_label.as_slice()),
+    );
     let mut is_fitted = false;
     for feature in Feature::ALL {
         if machine.features().has(feature) {

@@ -1,6 +1,6 @@
 //! The source around a place, and its labels.
 
-use crate::counted::{ADDRESS_DIGITS, put_blanks, put_count};
+use crate::counted::{ADDRESS_DIGITS, put_count};
 use crate::fault::LookFault;
 use autocoder_statements::word_in;
 use bytes_text::Text;
@@ -105,7 +105,7 @@ pub(crate) fn put_symbols(text: &mut Text, program: &Program, letters: &[u8]) {
         if symbol.label.text.as_slice().starts_with(letters) {
             let label = word_in(symbol.label.text.as_slice());
             text.put(label);
-            put_blanks(text, label.len(), LABEL_COLUMNS);
+            text.put_blanks(LABEL_COLUMNS.saturating_sub(label.len()));
             if symbol.value < 0 {
                 text.put_byte(b'-');
             }

@@ -25,15 +25,14 @@ fn put_stepped(alloc: Global, text: &mut Text, program: &Program, before: &Machi
 {
     let at = before.regs().i;
     let core = before.core();
-    match effect_of(alloc, program, before, after) {
+    let effect = effect_of(alloc, program, before, after);
+    let cells = instruction_cells(core, at);
+    text.rests_on(&effect);
+    match program.statement_at(alloc, core, at) {
         Err(_) => text.fail(),
-        Ok(effect) => match program.statement_at(alloc, core, at) {
-            Err(_) => text.fail(),
-            Ok(statement) => {
-                let cells = instruction_cells(core, at);
-                put_step(alloc, text, at, statement, cells.as_slice(), effect.as_slice());
-            }
-        },
+        Ok(statement) => {
+            put_step(alloc, text, at, statement, cells.as_slice(), effect.as_slice());
+        }
     }
     put_lines_from(alloc, text, after.devices(), before.devices().paper());
 }

@@ -1,8 +1,8 @@
 //! Breaks and watches in words: as they are set, as they are met, and all of them.
 ghost use Rattle.std.specs.Prelude.{◌≡◌};
 ghost use Rattle.bytes_text.specs.Written.{Adds};
-ghost use Rattle.operate_answers.specs.StopText.{name_text, no_instruction_text, nth_text, other_text, others_text};
-ghost use Rattle.operate_answers.specs.StopText.{terms_text, times_text, watched_text};
+ghost use Rattle.operate_answers.specs.StopText.{name_text, no_instruction_text, nth_text, often_text, other_text, others_text};
+ghost use Rattle.operate_answers.specs.StopText.{printed_with_text, there_too_text, terms_text, times_text, watched_text};
 
 use crate::counted::{label_at, put_count, put_some_cells, put_span};
 use crate::stop_test::StopTest;
@@ -43,18 +43,23 @@ fn put_terms(text: &mut Text, after: Option<u32>, condition: &Option<Condition>)
     }
 }
 
-/// Adds what is watched.
+/// Adds a printed line with a text.
 #[tactic(auto, unfolding(crate::specs::StopText::printed_with_text))]
+fn put_printed_with(text: &mut Text, printed: &[u8])
+    ensures { Adds text.old text.new (printed_with_text printed.now) }
+{
+    text.put(b"a printed line with ");
+    put_quoted(text, printed);
+}
+
+/// Adds what is watched.
 fn put_watched(text: &mut Text, watched: &Watched)
     ensures { Adds text.old text.new (watched_text watched.now) }
 {
     match watched {
         Watched::Places(range) => put_typed_range(text, range),
         Watched::Paper(None) => text.put(b"a printed line"),
-        Watched::Paper(Some(printed)) => {
-            text.put(b"a printed line with ");
-            put_quoted(text, printed.as_slice());
-        }
+        Watched::Paper(Some(printed)) => put_printed_with(text, printed.as_slice()),
         Watched::Reader => text.put(b"a card that is read"),
         Watched::Punch => text.put(b"a card that is punched"),
     }
@@ -103,15 +108,22 @@ fn put_no_instruction(text: &mut Text, core: &Core, at: u16)
     text.put(b"; no instruction begins there now");
 }
 
+/// Adds that the break of this number is there too.
+#[tactic(auto, unfolding(crate::specs::StopText::there_too_text))]
+fn put_there_too(text: &mut Text, number: u32)
+    ensures { Adds text.old text.new (there_too_text number) }
+{
+    text.put(b"; break ");
+    text.put_number(1, number as u64);
+    text.put(b" is there too");
+}
+
 /// Adds a break that is at an address, if it has another number.
-#[tactic(auto, unfolding(crate::specs::StopText::other_name_text, crate::specs::StopText::there_too_text))]
 fn put_other_at(text: &mut Text, stop: &NumberedStop, number: u32, at: u16)
     ensures { Adds text.old text.new (other_text number at stop.now) }
 {
     if stop.number != number && stop.is_break_at(at) {
-        text.put(b"; break ");
-        text.put_number(1, u64::from(stop.number));
-        text.put(b" is there too");
+        put_there_too(text, stop.number);
     }
 }
 
@@ -224,8 +236,18 @@ pub(crate) fn put_met(text: &mut Text, stop: &NumberedStop) {
     }
 }
 
+/// Adds that a break or a watch ended so many runs.
+#[tactic(auto, unfolding(crate::specs::StopText::often_text))]
+fn put_often(text: &mut Text, times: u64)
+    ensures { Adds text.old text.new (often_text times) }
+{
+    text.put(b", met ");
+    put_count(text, times, b"time");
+    text.put(b"\n");
+}
+
 /// Adds how often a break or a watch ended a run.
-#[tactic(auto, unfolding(crate::specs::StopText::often_text, crate::specs::StopText::times_text))]
+#[tactic(auto, unfolding(crate::specs::StopText::times_text))]
 fn put_times(text: &mut Text, times: u64)
     ensures { Adds text.old text.new (times_text times) }
 {
@@ -234,9 +256,7 @@ fn put_times(text: &mut Text, times: u64)
     } else if times == 1 {
         text.put(b", met once\n");
     } else {
-        text.put(b", met ");
-        put_count(text, times, b"time");
-        text.put(b"\n");
+        put_often(text, times);
     }
 }
 

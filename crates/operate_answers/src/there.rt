@@ -5,16 +5,11 @@ use core_1401::Core;
 use cpu_1401::{Machine, instruction_cells};
 use operate_program::Program;
 use operate_views::{put_instruction_words, put_place, put_statement_words};
-use std::alloc::{AllocError, Global};
+use std::alloc::Global;
 
 /// The instruction at a place, empty if none begins there: the number and the statement of the line of the source that
 /// made it, else the instruction as Autocoder writes it.
-pub(crate) fn instruction_at(
-    alloc: Global,
-    program: &Program,
-    core: &Core,
-    at: u16,
-) -> Result<Vec<u8>, AllocError> {
+pub(crate) fn instruction_at(alloc: Global, program: &Program, core: &Core, at: u16) -> Text {
     let mut there = Text::new(alloc);
     if core.in_core(at) && core.get(at).mark {
         match program.statement_at(alloc, core, at) {
@@ -25,15 +20,14 @@ pub(crate) fn instruction_at(
             }
         }
     }
-    there.into_bytes()
+    there
 }
 
 /// Adds an address with the instruction there, if one begins there.
 pub(crate) fn put_address(alloc: Global, text: &mut Text, program: &Program, core: &Core, at: u16) {
-    match instruction_at(alloc, program, core, at) {
-        Ok(there) => put_place(text, at, there.as_slice()),
-        Err(_) => text.fail(),
-    }
+    let there = instruction_at(alloc, program, core, at);
+    text.rests_on(&there);
+    put_place(text, at, there.as_slice());
 }
 
 /// Adds the line that says which instruction is next.

@@ -95,6 +95,7 @@ fn relation_sign(relation: Relation) -> &'static [u8]
 }
 
 /// Adds a text between at signs.
+#[tactic(auto, unfolding(crate::specs::Typed::quoted_text))]
 pub(crate) fn put_quoted(text: &mut Text, quoted: &[u8])
     ensures { Adds text.old text.new (quoted_text quoted.now) }
 {
