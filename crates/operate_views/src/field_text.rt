@@ -1,13 +1,13 @@
 //! A field as `print` shows it, and how it changed.
-ghost use Rattle.std.specs.Prelude.{◌≡◌, ◌+◌, ◌<◌, ◌≤◌, ◌++◌, length, take};
+ghost use Rattle.std.specs.Prelude.{◌≡◌, ◌+◌, ◌<◌, ◌≤◌, length, take};
 ghost use Rattle.bytes_text.specs.Written.{Adds};
 ghost use Rattle.machine_notation.specs.Characters.{graphics_of};
-ghost use Rattle.operate_views.specs.FieldText.{change_text, characters_down, characters_text, equals_text, field_text};
-ghost use Rattle.operate_views.specs.FieldText.{name_text, places_text};
+ghost use Rattle.operate_views.specs.FieldText.{change_text, characters_down, characters_text, field_text, name_text};
+ghost use Rattle.operate_views.specs.FieldText.{places_text};
 
 use crate::numbers::{is_number, put_number};
 use bcd_1401::Cell;
-use bytes_text::Text;
+use bytes_text::{Piece, Text};
 
 /// The most places of a field whose characters are all shown.
 const MOST_SHOWN: usize = 60;
@@ -22,11 +22,10 @@ const ADDRESS_DIGITS: u8 = 5;
 fn put_name(text: &mut Text, name: &[u8])
     ensures { Adds text.old text.new (name_text name.now) }
 {
-    if name.is_empty() {
-        return;
+    if !name.is_empty() {
+        text.put(name);
+        text.put(b"  ");
     }
-    text.put(name);
-    text.put(b"  ".as_slice())
 }
 
 /// Adds the places of a field with its units at an address: the lowest and the highest.
@@ -40,7 +39,7 @@ fn put_places(text: &mut Text, at: u16, len: usize)
         text.put_number(ADDRESS_DIGITS, u64::from(at) + 1 - len as u64);
         text.put_byte(b'-');
     }
-    text.put_number(ADDRESS_DIGITS, u64::from(at))
+    text.put_number(ADDRESS_DIGITS, u64::from(at));
 }
 
 /// Adds the first characters of a field, given units first, from its high place on.
@@ -63,26 +62,16 @@ fn put_characters(text: &mut Text, cells: &[Cell])
         return put_graphics(text, cells, cells.len());
     }
     put_graphics(text, cells, FIRST_SHOWN);
-    text.put(b"..  (".as_slice());
-    text.put_number(1, cells.len() as u64);
-    text.put(b" places)".as_slice())
-}
-
-/// Adds the number of a field, given units first, if it is one.
-#[tactic(auto, unfolding(crate::specs::FieldText::equals_text))]
-fn put_equals(text: &mut Text, cells: &[Cell])
-    ensures { Adds text.old text.new (equals_text cells.now) }
-{
-    if !is_number(cells) {
-        return;
-    }
-    text.put(b"  = ".as_slice());
-    put_number(text, cells)
+    text.put_pieces(&[
+        Piece::Text(b"..  ("),
+        Piece::Count(cells.len() as u64),
+        Piece::Text(b" places)"),
+    ]);
 }
 
 /// Adds the line of the field with its units at a place, without a line feed. `name` is what it is called, or empty;
 /// `cells` are its cells, units first.
-#[tactic(auto, unfolding(crate::specs::FieldText::field_text))]
+#[tactic(auto, unfolding(crate::specs::FieldText::field_text, crate::specs::FieldText::equals_text))]
 pub fn put_field(text: &mut Text, name: &[u8], at: u16, cells: &[Cell])
     requires some { 0 < length cells.now }
     requires len { length cells.now ≤ at + 1 }
@@ -90,9 +79,12 @@ pub fn put_field(text: &mut Text, name: &[u8], at: u16, cells: &[Cell])
 {
     put_name(text, name);
     put_places(text, at, cells.len());
-    text.put(b"  ".as_slice());
+    text.put(b"  ");
     put_characters(text, cells);
-    put_equals(text, cells)
+    if is_number(cells) {
+        text.put(b"  = ");
+        put_number(text, cells);
+    }
 }
 
 /// Adds a field that changed, by its name or its places, with its characters before and after, both given units first.
@@ -103,6 +95,6 @@ pub fn put_change(text: &mut Text, name: &[u8], before: &[Cell], after: &[Cell])
     text.put(name);
     text.put_byte(b' ');
     put_graphics(text, before, before.len());
-    text.put(b" -> ".as_slice());
-    put_graphics(text, after, after.len())
+    text.put(b" -> ");
+    put_graphics(text, after, after.len());
 }

@@ -1,11 +1,10 @@
 //! The lines of `list` and of `step`.
-ghost use Rattle.std.specs.Prelude.{◌≡◌, ◌-◌, ◌<◌, ◌≤◌, ◌++◌, length, IsTrue, IfOk};
+ghost use Rattle.std.specs.Prelude.{◌≡◌, ◌<◌, ◌≤◌, ◌++◌, length, IsTrue, IfOk};
 ghost use Rattle.bytes_text.specs.Written.{Adds};
 ghost use Rattle.machine_mnemonics.specs.ShownText.{shown_text};
-ghost use Rattle.bytes_text.specs.Piece.{padded};
 ghost use Rattle.operate_views.specs.Lines.{cells_line, cells_to_mark, front_text, instruction_line, listed_line};
-ghost use Rattle.operate_views.specs.Lines.{listed_places, shown_cells, source_line, step_line, stepped_columns};
-ghost use Rattle.operate_views.specs.Lines.{unsourced_line, without_last_blanks};
+ghost use Rattle.operate_views.specs.Lines.{listed_places, shown_cells, source_line, step_front, step_line};
+ghost use Rattle.operate_views.specs.Lines.{stepped_columns, unsourced_line, without_last_blanks};
 
 use crate::ruler::chars_of;
 use bcd_1401::Cell;
@@ -59,13 +58,6 @@ fn put_shown_cells(alloc: Global, text: &mut Text, cells: &[Cell])
     }
 }
 
-/// Adds bytes with blanks after them, up to a width.
-fn put_padded(text: &mut Text, width: u8, bytes: &[u8])
-    ensures { Adds text.old text.new (padded width bytes.now) }
-{
-    text.put_pieces(&[Piece::Padded(width, bytes)]);
-}
-
 /// Adds a mark, an address and cells.
 #[tactic(auto, unfolding(crate::specs::Lines::front_text))]
 fn put_front(alloc: Global, text: &mut Text, mark: u8, at: u16, cells: &[Cell])
@@ -74,11 +66,13 @@ fn put_front(alloc: Global, text: &mut Text, mark: u8, at: u16, cells: &[Cell])
     let mut shown = Text::new(alloc);
     put_shown_cells(alloc, &mut shown, cells);
     text.rests_on(&shown);
-    text.put_byte(mark);
-    text.put_number(ADDRESS_DIGITS, u64::from(at));
-    text.put_byte(b' ');
-    put_padded(text, CELL_COLUMNS, shown.as_slice());
-    text.put_byte(b' ');
+    text.put_pieces(&[
+        Piece::Byte(mark),
+        Piece::Number(ADDRESS_DIGITS, at),
+        Piece::Text(b" "),
+        Piece::Padded(CELL_COLUMNS, shown.as_slice()),
+        Piece::Text(b" "),
+    ]);
 }
 
 /// Adds the line of a place whose cells a line of the source made: `mark` is the byte in front.
@@ -94,12 +88,14 @@ fn put_source_line(
     ensures { Adds text.old text.new (source_line mark at cells.now statement.now) }
 {
     put_front(alloc, text, mark, at, cells);
-    put_padded(text, LABEL_COLUMNS, statement.label);
-    put_padded(text, OPERATION_COLUMNS, statement.operation);
-    put_padded(text, OPERAND_COLUMNS, statement.operands);
-    text.put(b" line ".as_slice());
-    text.put_number(1, statement.line);
-    text.put_byte(b'\n');
+    text.put_pieces(&[
+        Piece::Padded(LABEL_COLUMNS, statement.label),
+        Piece::Padded(OPERATION_COLUMNS, statement.operation),
+        Piece::Padded(OPERAND_COLUMNS, statement.operands),
+        Piece::Text(b" line "),
+        Piece::Count(statement.line),
+        Piece::Text(b"\n"),
+    ]);
 }
 
 /// A text without the blanks at its end.
@@ -130,9 +126,11 @@ fn put_instruction_line(alloc: Global, text: &mut Text, mark: u8, at: u16, cells
     let whole = written(alloc, cells);
     text.rests_on(&whole);
     put_front(alloc, text, mark, at, cells);
-    text.put(b"       ".as_slice());
-    text.put(without_last_blanks(whole.as_slice()));
-    text.put_byte(b'\n');
+    text.put_pieces(&[
+        Piece::Text(b"       "),
+        Piece::Text(without_last_blanks(whole.as_slice())),
+        Piece::Text(b"\n"),
+    ]);
 }
 
 /// Adds the line of a place where no instruction begins: `mark` is the byte in front.
@@ -231,20 +229,43 @@ fn put_stepped(alloc: Global, text: &mut Text, statement: Option<Statement<'_>>,
         None => {
             let whole = written(alloc, cells);
             text.rests_on(&whole);
-            text.put(b"       ".as_slice());
-            put_padded(text, OPERATION_COLUMNS + STEP_COLUMNS, whole.as_slice());
+            text.put_pieces(&[
+                Piece::Text(b"       "),
+                Piece::Padded(OPERATION_COLUMNS + STEP_COLUMNS, whole.as_slice()),
+            ]);
         }
-        Some(statement) => {
-            put_padded(text, LABEL_COLUMNS, statement.label);
-            put_padded(text, OPERATION_COLUMNS, statement.operation);
-            put_padded(text, STEP_COLUMNS, statement.operands);
-        }
+        Some(statement) => text.put_pieces(&[
+            Piece::Padded(LABEL_COLUMNS, statement.label),
+            Piece::Padded(OPERATION_COLUMNS, statement.operation),
+            Piece::Padded(STEP_COLUMNS, statement.operands),
+        ]),
     }
+}
+
+/// The line of a step, with blanks at its end if it did nothing that is shown.
+#[tactic(auto, unfolding(crate::specs::Lines::step_front))]
+fn step_whole(
+    alloc: Global,
+    at: u16,
+    statement: Option<Statement<'_>>,
+    cells: &[Cell],
+    effect: &[u8],
+) -> Text
+    requires { length cells.now ≤ 8 }
+    ensures { IsTrue result.is_whole → result.items ≡ step_front at statement.entry cells.now ++ effect.now }
+{
+    let mut whole = Text::new(alloc);
+    whole.put_number(ADDRESS_DIGITS, u64::from(at));
+    whole.put_byte(b' ');
+    put_stepped(alloc, &mut whole, statement, cells);
+    whole.put_byte(b' ');
+    whole.put(effect);
+    whole
 }
 
 /// Adds the line of a step: where it was, the statement of the line of the source that made its instruction, else the
 /// instruction, and what it did. `cells` are those of the instruction, `effect` is the text of what it did.
-#[tactic(auto, unfolding(crate::specs::Lines::step_front, crate::specs::Lines::step_line))]
+#[tactic(auto, unfolding(crate::specs::Lines::step_line))]
 pub fn put_step(
     alloc: Global,
     text: &mut Text,
@@ -256,12 +277,7 @@ pub fn put_step(
     requires { length cells.now ≤ 8 }
     ensures { Adds text.old text.new (step_line at statement.entry cells.now effect.now) }
 {
-    let mut whole = Text::new(alloc);
-    whole.put_number(ADDRESS_DIGITS, u64::from(at));
-    whole.put_byte(b' ');
-    put_stepped(alloc, &mut whole, statement, cells);
-    whole.put_byte(b' ');
-    whole.put(effect);
+    let whole = step_whole(alloc, at, statement, cells, effect);
     text.rests_on(&whole);
     text.put(without_last_blanks(whole.as_slice()));
     text.put_byte(b'\n');

@@ -1,10 +1,9 @@
 //! Core storage under a ruler.
-ghost use Rattle.std.specs.Prelude.{◌≡◌, ◌+◌, ◌-◌, ◌*◌, ◌<◌, ◌≤◌, ◌++◌, length, map, IfOk};
+ghost use Rattle.std.specs.Prelude.{◌≡◌, ◌+◌, ◌-◌, ◌*◌, ◌<◌, ◌≤◌, length, map, IfOk};
 ghost use Rattle.std.specs.List.{list_all, suffix_len};
 ghost use Rattle.bytes_text.specs.Written.{Adds};
 ghost use Rattle.operate_views.specs.Ruler.{chars_columns, chars_of, core_text, is_blank, is_unmarked, mark_column};
-ghost use Rattle.operate_views.specs.Ruler.{marks_columns, marks_row, numbered_row, row_cells, row_places, row_text};
-ghost use Rattle.operate_views.specs.Ruler.{rows_text, ruler, shown_at};
+ghost use Rattle.operate_views.specs.Ruler.{marks_row, numbered_row, row_cells, shown_at};
 
 use bcd_1401::{Cell, Char};
 use bytes_text::Text;
@@ -18,18 +17,9 @@ const ROW_PLACES: u16 = 50;
 const ADDRESS_DIGITS: u8 = 5;
 
 /// The columns by tens and by fives.
-const TENS: &[u8] = b"       0         10        20        30        40\n";
-
-const FIVES: &[u8] = b"       |....:....|....:....|....:....|....:....|....:....\n";
-
-/// Adds the ruler.
-#[tactic(auto, unfolding(crate::specs::Ruler::ruler))]
-fn put_ruler(text: &mut Text)
-    ensures { Adds text.old text.new (ruler) }
-{
-    text.put(TENS);
-    text.put(FIVES)
-}
+const RULER: &[u8] = b"       0         10        20        30        40
+       |....:....|....:....|....:....|....:....|....:....
+";
 
 /// What is shown in the column of a place: its cell if it is shown.
 fn shown_at(core: &Core, first: u16, end: u16, at: u16) -> Cell
@@ -103,7 +93,7 @@ fn put_chars(alloc: Global, text: &mut Text, cells: &[Cell])
     if are_blank(cells) {
         return;
     }
-    text.put(b"  ".as_slice());
+    text.put(b"  ");
     match chars_of(alloc, cells) {
         Ok(chars) => text.put_characters(chars.as_slice()),
         Err(_) => text.fail(),
@@ -111,19 +101,12 @@ fn put_chars(alloc: Global, text: &mut Text, cells: &[Cell])
 }
 
 /// Adds a tilde for each cell with a word mark, and a blank for each other.
-fn put_each_mark(text: &mut Text, cells: &[Cell])
+fn put_marks(text: &mut Text, cells: &[Cell])
     ensures { Adds text.old text.new (map mark_column cells.now) }
 {
     for cell in cells {
         text.put_byte(if cell.mark { b'~' } else { b' ' });
     }
-}
-
-/// Adds the columns of the word marks, up to the last.
-fn put_marks(text: &mut Text, cells: &[Cell])
-    ensures { Adds text.old text.new (marks_columns cells.now) }
-{
-    put_each_mark(text, &cells[..cells.len() - unmarked_at_end(cells)])
 }
 
 /// Adds the row of word marks, if there is one.
@@ -134,46 +117,26 @@ fn put_marks_row(text: &mut Text, cells: &[Cell])
     if are_unmarked(cells) {
         return;
     }
-    text.put(b"       ".as_slice());
-    put_marks(text, cells);
+    text.put(b"       ");
+    put_marks(text, &cells[..cells.len() - unmarked_at_end(cells)]);
     text.put_byte(b'\n');
-}
-
-/// Adds a row by its cells.
-#[tactic(auto, unfolding(crate::specs::Ruler::row_text))]
-fn put_row(alloc: Global, text: &mut Text, row: u16, cells: &[Cell])
-    ensures { Adds text.old text.new (row_text row cells.now) }
-{
-    text.put_number(ADDRESS_DIGITS, u64::from(row));
-    put_chars(alloc, text, cells);
-    text.put_byte(b'\n');
-    put_marks_row(text, cells)
 }
 
 /// Adds the row of this number.
-fn put_numbered_row(alloc: Global, text: &mut Text, core: &Core, first: u16, end: u16, number: u16)
+#[tactic(auto, unfolding(crate::specs::Ruler::row_text))]
+fn put_row(alloc: Global, text: &mut Text, core: &Core, first: u16, end: u16, number: u16)
     requires end { end ≤ length core.now }
     requires number { number < 1000 }
     ensures { Adds text.old text.new (numbered_row core.now first end number) }
 {
     let row = ROW_PLACES * number;
-    match row_cells(alloc, core, first, end, row) {
-        Ok(cells) => put_row(alloc, text, row, cells.as_slice()),
-        Err(_) => text.fail(),
-    }
-}
-
-/// Adds the rows of the places from the first to before the end.
-#[tactic(auto, using(crate::proofs::RulerLemmas::row_more))]
-fn put_rows(alloc: Global, text: &mut Text, core: &Core, first: u16, end: u16)
-    requires end { end ≤ length core.now }
-    ensures { Adds text.old text.new (rows_text core.now first end) }
-{
-    // No core storage has more than 16,000 places.
-    let _ = core.size();
-    for number in first / ROW_PLACES..end.div_ceil(ROW_PLACES) {
-        put_numbered_row(alloc, text, core, first, end, number);
-    }
+    let Ok(cells) = row_cells(alloc, core, first, end, row) else {
+        return text.fail();
+    };
+    text.put_number(ADDRESS_DIGITS, u64::from(row));
+    put_chars(alloc, text, cells.as_slice());
+    text.put_byte(b'\n');
+    put_marks_row(text, cells.as_slice());
 }
 
 /// Adds the places from the first to before the end, fifty a row under a ruler; a tilde is below each place with a word
@@ -182,6 +145,10 @@ pub fn put_core(alloc: Global, text: &mut Text, core: &Core, first: u16, end: u1
     requires end { end ≤ length core.now }
     ensures { Adds text.old text.new (core_text core.now first end) }
 {
-    put_ruler(text);
-    put_rows(alloc, text, core, first, end)
+    // No core storage has more than 16,000 places.
+    let _ = core.size();
+    text.put(RULER);
+    for number in first / ROW_PLACES..end.div_ceil(ROW_PLACES) {
+        put_row(alloc, text, core, first, end, number);
+    }
 }

@@ -17,7 +17,7 @@ fn put_part(text: &mut Text, part: &[u8]) {
 
 /// Adds the number and the statement of a line of the source, as in `line 7, PRINT MCW HEAD,210`.
 pub fn put_statement_words(text: &mut Text, statement: &Statement<'_>) {
-    text.put(b"line ".as_slice());
+    text.put(b"line ");
     text.put_number(1, statement.line);
     text.put_byte(b',');
     put_part(text, statement.label);
