@@ -25,7 +25,7 @@ impl Model for Text {
 }
 
 impl Text {
-    ghost use Rattle.std.specs.Prelude.{◌≡◌, ◌==◌, [], ◌∷◌, length, replicate, IsTrue, IsOk, IfOk, true, false};
+    ghost use Rattle.std.specs.Prelude.{◌≡◌, ◌==◌, ◌-◌, [], ◌∷◌, length, replicate, IsTrue, IsOk, IfOk, true, false};
     ghost use Rattle.std.specs.List.{flat_map};
     ghost use Rattle.bytes_text.specs.Piece.{piece_text};
     ghost use Rattle.bytes_text.specs.Written.{Adds};
@@ -146,6 +146,14 @@ impl Text {
         if self.is_whole {
             self.is_whole = put_blanks(&mut self.bytes, count).is_ok();
         }
+    }
+
+    /// Adds blanks up to a width of what was added from a place on.
+    pub fn pad(&mut self, from: usize, width: usize)
+        ensures { Adds self.old self.new (replicate (width - (length self.old.items - from)) 32) }
+    {
+        let count = width.saturating_sub(self.bytes.len().saturating_sub(from));
+        self.put_blanks(count);
     }
 
     /// Adds a number, with leading zeros up to the width.
