@@ -36,7 +36,7 @@ pub(crate) fn put_journal(alloc: Global, text: &mut Text, journal: &[Entry], mos
         let mut bytes = text.take();
         let added = put_command(&mut bytes, &entry.command);
         text.put_back(bytes, added);
-        text.put_blanks(COMMAND_COLUMNS.saturating_sub(text.len().saturating_sub(from)));
+        text.pad(from, COMMAND_COLUMNS);
         text.put(b"  ");
         match reply_text(alloc, &entry.answer) {
             Ok(answer) => text.put(answer.as_slice()),
