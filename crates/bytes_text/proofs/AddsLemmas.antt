@@ -12,7 +12,7 @@ adds old between new first second one other whole =
     let front = one last.0 in
     (front.0, last.1 ∙ ap (λ (text : List ℕ). text ++ second) front.1 ∙ append_assoc old.items first second)
 
--- a part more of a text, of which some is left
+-- a part more, and what is left after it
 pub adds_part : (old between new : Written) (part left before all : List ℕ) → before ≡ part ++ left
     → AddsBut old between before all → Adds between new part → AddsBut old new left all
 adds_part old between new part left before all parts one other whole =

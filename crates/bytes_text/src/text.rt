@@ -88,7 +88,7 @@ impl Text {
         self.bytes.as_slice()
     }
 
-    /// Adds nothing, but this text is whole only if another one is, of which it is made.
+    /// Adds nothing, but from now on this text is whole only if another is, whose bytes it takes.
     pub fn rests_on(&mut self, other: &Text)
         ensures items { self.new.items ≡ self.old.items }
         ensures whole { IsTrue self.new.is_whole → IsTrue self.old.is_whole × IsTrue other.now.is_whole }
