@@ -1,19 +1,17 @@
 -- Cells that are equal, by eights and one by one.
-use Rattle.std.proofs.Common.{◌≡◌, ℕ, ◌+◌, ◌-◌, ◌<◌, ◌≤◌, ◌==◌, suc, Bool, true, false, List, [], ◌∷◌, ◌++◌, length}
-use Rattle.std.proofs.Common.{get_or, take, drop, replicate}
-use Rattle.std.proofs.Common.{append_assoc, not, refl, sym, ◌∙◌, ap, subst, arith, inl, inr, ◌&&◌, ◌||◌}
+use Rattle.std.proofs.Common.{◌≡◌, ℕ, ◌+◌, ◌-◌, ◌<◌, ◌≤◌, ◌==◌, suc, Bool, true, false, List, ◌++◌, length}
+use Rattle.std.proofs.Common.{get_or, take, drop}
+use Rattle.std.proofs.Common.{not, refl, sym, ◌∙◌, ap, subst, arith, inl, inr, ◌&&◌, ◌||◌}
 use Rattle.std.specs.Prelude.{if◌then◌else◌}
 use Rattle.machine_notation.specs.Cells.{cell_text, cells_text}
 use Rattle.std.proofs.lemmas.Bool.{cases_lt, eq-eqb, eqb-true, false≢true}
 use Rattle.std.proofs.lemmas.List.{drop_more, get_or_past, same_lists, get_or_default, get_or-drop, length-drop}
-use Rattle.std.proofs.lemmas.List.{length-append}
 use Rattle.std.proofs.lemmas.List.FromFn.{get_or-map-range_with_len}
 use Rattle.std.proofs.lemmas.Nat.{le_bytes_8}
 use Rattle.bcd_1401.specs.declared.cell.Cell.{Cell}
 use Rattle.core_1401.specs.EightCells.{AreEightCells, codes_at}
 use Rattle.core_1401.specs.Storage.{Storage, blank, cell_at}
 use Rattle.job_trace.specs.Changes.{is_changed}
-use Rattle.job_trace.specs.TraceLine.{padded}
 
 -- the i-th of eight codes
 code_at : (s : Storage) (at i : ℕ) → i < 8 → get_or (codes_at s at) i 0 ≡ (cell_at s (at + i)).char
@@ -100,26 +98,16 @@ eight_more s t from at codes marks codes' marks' a b same before i least most =
           ∙ ap (cell_at t) (sym j))
     ]
 
--- a cell more after a text
-pub cell_more : (text : List ℕ) (xs : List Cell) (at end : ℕ) → at < end → end ≤ length xs
-    → (text ++ cell_text (cell_at xs at)) ++ cells_text (take (end - (at + 1)) (drop (at + 1) xs))
-    ≡ text ++ cells_text (take (end - at) (drop at xs))
+-- the cell at a place, and those above it
+pub cell_more : (xs : List Cell) (at end : ℕ) → at < end → end ≤ length xs
+    → cells_text (take (end - at) (drop at xs))
+    ≡ cell_text (cell_at xs at) ++ cells_text (take (end - (at + 1)) (drop (at + 1) xs))
 unfolding cells_text
-cell_more text xs at end lt within =
-    let rest = take (end - (at + 1)) (drop (at + 1) xs) in
+cell_more xs at end lt within =
     let count : end - at ≡ suc (end - (at + 1)) = omega (arith, lt) in
-    append_assoc text (cell_text (cell_at xs at)) (cells_text rest)
-    ∙ ap (λ (cells : List Cell). text ++ cells_text cells)
-    (sym (ap (λ (n : ℕ). take n (drop at xs)) count
-    ∙ ap (λ (ys : List Cell). take (suc (end - (at + 1))) ys) (drop_more xs at blank (omega (arith, lt, within)))))
-
--- a blank more after a text
-pub blank_more : (text : List ℕ) (column width : ℕ) → column < width
-    → (text ++ 32 ∷ []) ++ replicate (width - (column + 1)) 32 ≡ text ++ replicate (width - column) 32
-blank_more text column width lt =
-    let count : suc (width - (column + 1)) ≡ width - column = omega (arith, lt) in
-    append_assoc text (32 ∷ []) (replicate (width - (column + 1)) 32)
-    ∙ ap (λ (n : ℕ). text ++ replicate n 32) count
+    ap cells_text
+    (ap (λ (n : ℕ). take n (drop at xs)) count
+    ∙ ap (λ (ys : List Cell). take (suc (end - (at + 1))) ys) (drop_more xs at blank (omega (arith, lt, within))))
 
 -- core storage is known by its cells
 pub same_storage : (xs ys : Storage) → length xs ≡ length ys
@@ -133,13 +121,3 @@ pub same_rest : (xs ys : Storage) (at : ℕ) → length xs ≡ length ys
 same_rest xs ys at size same =
     same_storage (drop at xs) (drop at ys) (omega (arith, length-drop at xs, length-drop at ys, size))
     (λ i lt. get_or-drop at xs i blank ∙ same (at + i) (omega arith) ∙ sym (get_or-drop at ys i blank))
-
--- blanks after what was added, up to a width
-pub pad_added : (old text new added : List ℕ) (width : ℕ) → text ≡ old ++ added
-    → new ≡ text ++ replicate (width - (length text - length old)) 32 → new ≡ old ++ padded width added
-pad_added old text new added width e f =
-    let count : width - (length text - length old) ≡ width - length added =
-    ap (λ (xs : List ℕ). width - (length xs - length old)) e ∙ omega (arith, length-append old added) in
-    f ∙ ap (λ (n : ℕ). text ++ replicate n 32) count
-    ∙ ap (λ (xs : List ℕ). xs ++ replicate (width - length added) 32) e
-    ∙ append_assoc old added (replicate (width - length added) 32)

@@ -2,7 +2,7 @@
 use Rattle.std.specs.Prelude.{◌≡◌, ℕ, ◌+◌, ◌<◌, ◌≤◌, ◌==◌, ◌||◌, not, Bool, true, false, if◌then◌else◌, List, [], ◌∷◌}
 use Rattle.std.specs.Prelude.{◌++◌}
 use Rattle.std.specs.Prelude.{codes, drop, length, take}
-use Rattle.std.specs.List.{flat_map}
+use Rattle.std.specs.List.{concat, flat_map}
 use Rattle.bcd_1401.specs.declared.cell.Cell.{Cell}
 use Rattle.core_1401.specs.Storage.{Storage, cell_at}
 use Rattle.machine_notation.specs.Cells.{cells_text}
@@ -45,7 +45,8 @@ changes_of before after = changes_from 0 before after
 -- a change: its first address, its cells before, its cells after
 unfoldable pub change_text : Change → List ℕ
 change_text each =
-    codes "\t" ++ digits_in 5 each.address ++ codes "|" ++ cells_text each.before ++ codes "|" ++ cells_text each.after
+    concat (codes "\t" ∷ digits_in 5 each.address ∷ codes "|" ∷ [])
+    ++ cells_text each.before ++ codes "|" ++ cells_text each.after
 
 -- changes, each after a tab
 abbrev pub changes_text : List Change → List ℕ

@@ -1,7 +1,9 @@
 -- The line of a step (own).
-use Rattle.std.specs.Prelude.{ℕ, ◌-◌, ◌==◌, ◌&&◌, nat_lt, Bool, false, if◌then◌else◌, List, [], ◌++◌, length}
-use Rattle.std.specs.Prelude.{Option, None, Some, codes, replicate}
+use Rattle.std.specs.Prelude.{ℕ, ◌==◌, ◌&&◌, nat_lt, Bool, false, if◌then◌else◌, List, [], ◌∷◌, ◌++◌, length}
+use Rattle.std.specs.Prelude.{Option, None, Some, codes}
+use Rattle.std.specs.List.{concat}
 use Rattle.bcd_1401.specs.declared.cell.Cell.{Cell}
+use Rattle.bytes_text.specs.Piece.{padded}
 use Rattle.core_1401.specs.Storage.{Storage}
 use Rattle.machine_panel.specs.declared.stop.Stop.{Stop}
 use Rattle.cpu_1401.specs.Fetched.{instruction_at}
@@ -34,10 +36,6 @@ seen_of s = record {
   pending = s.devices.carriage.pending;
 }
 
--- a text with blanks after it, up to a width
-abbrev pub padded : ℕ → List ℕ → List ℕ
-padded width text = text ++ replicate (width - length text) 32
-
 -- an instruction by its cells, and as Autocoder writes it
 unfoldable pub instruction_columns : List Cell → List ℕ
 instruction_columns cells = padded 9 (cells_text cells) ++ codes "\t" ++ padded 20 (shown_text cells)
@@ -48,11 +46,11 @@ fetched_text storage i = digits_in 5 i ++ codes "\t" ++ instruction_columns (ins
 
 -- the A and the B register
 unfoldable pub registers_text : ℕ → ℕ → List ℕ
-registers_text a b = codes "\t" ++ digits_in 5 a ++ codes "\t" ++ digits_in 5 b
+registers_text a b = concat (codes "\t" ∷ digits_in 5 a ∷ codes "\t" ∷ digits_in 5 b ∷ [])
 
 -- a form and a line of it
 unfoldable pub position_text : ℕ → ℕ → List ℕ
-position_text form line = digits_in 4 form ++ codes "/" ++ digits_in 2 line
+position_text form line = concat (digits_in 4 form ∷ codes "/" ∷ digits_in 2 line ∷ [])
 
 -- a text, if there is cause for it
 abbrev pub text_if : Bool → List ℕ → List ℕ
@@ -65,7 +63,8 @@ print_text form line = codes "\tPRINT " ++ position_text form line
 -- the unit of a tape instruction, and how many records its head has passed
 unfoldable pub tape_text : Option TapeMark → List ℕ
 tape_text None = []
-tape_text (Some mark) = codes "\tTAPE " ++ digits_in 1 mark.unit ++ codes " RECORD " ++ digits_in 1 mark.passed
+tape_text (Some mark) =
+    concat (codes "\tTAPE " ∷ digits_in 1 mark.unit ∷ codes " RECORD " ∷ digits_in 1 mark.passed ∷ [])
 
 unfoldable pub work_text : Seen → Work → List ℕ
 work_text before work =

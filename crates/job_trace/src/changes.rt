@@ -1,6 +1,6 @@
 //! What a step changed in core storage.
-ghost use Rattle.std.specs.Prelude.{◌≡◌, ℕ, ◌+◌, ◌-◌, ◌<◌, ◌≤◌, ◌++◌, length, take, drop, true, false, IfErr, IfOk};
-ghost use Rattle.std.specs.Prelude.{OnOk};
+ghost use Rattle.std.specs.Prelude.{◌≡◌, ℕ, ◌+◌, ◌-◌, ◌<◌, ◌≤◌, length, take, drop, true, false, IfErr, IfOk};
+ghost use Rattle.bytes_text.specs.Written.{Adds};
 ghost use Rattle.core_1401.specs.Storage.{cell_at};
 ghost use Rattle.machine_notation.specs.Cells.{cells_text};
 ghost use Rattle.job_trace.specs.Changes.{IsEndOfChange, IsNextChange, change_at, change_text, changes_of};
@@ -8,9 +8,9 @@ ghost use Rattle.job_trace.specs.Changes.{changes_text, is_changed};
 
 use crate::blocks::past_blocks;
 use bcd_1401::Cell;
+use bytes_text::{Piece, Text};
 use core_1401::{Core, CoreFault};
-use machine_notation::{put_cell, put_named_digits};
-use std::alloc::{AllocError, Global};
+use std::alloc::Global;
 
 /// Whether a place has another character or another word mark.
 fn is_changed(before: Cell, after: Cell) -> bool
@@ -51,15 +51,14 @@ pub fn next_change(before: &Core, after: &Core, from: u16) -> u16
 
 /// Adds the cells from one place up to another.
 #[tactic(auto, unfolding(machine_notation::specs::Cells::cells_text))]
-fn put_cells_from(text: &mut Vec<u8>, core: &Core, at: u16, end: u16) -> Result<(), AllocError>
+fn put_cells_from(text: &mut Text, core: &Core, at: u16, end: u16)
     requires order { at ≤ end }
     requires within { end ≤ length core.now }
-    ensures { OnOk result (text.new.items ≡ text.old.items ++ cells_text (take (end - at) (drop at core.now))) }
+    ensures { Adds text.old text.new (cells_text (take (end - at) (drop at core.now))) }
 {
     for place in at..end {
-        put_cell(text, core.get(place))?;
+        text.put_cell(core.get(place));
     }
-    Ok(())
 }
 
 /// The first place from one on that didn't change, or the end of core.
@@ -78,24 +77,16 @@ fn end_of_change(before: &Core, after: &Core, from: u16) -> u16
 
 /// Adds the change of the places from one up to another.
 #[tactic(auto, unfolding(crate::specs::Changes::change_text))]
-fn put_change(
-    text: &mut Vec<u8>,
-    before: &Core,
-    after: &Core,
-    at: u16,
-    end: u16,
-) -> Result<(), AllocError>
+fn put_change(text: &mut Text, before: &Core, after: &Core, at: u16, end: u16)
     requires order { at ≤ end }
     requires before_in { end ≤ length before.now }
     requires after_in { end ≤ length after.now }
-    ensures { OnOk result
-        (text.new.items ≡ text.old.items ++ change_text (change_at at (end - at) before.now after.now)) }
+    ensures { Adds text.old text.new (change_text (change_at at (end - at) before.now after.now)) }
 {
-    put_named_digits(text, b"\t", 5, u64::from(at))?;
-    text.push(b'|')?;
-    put_cells_from(text, before, at, end)?;
-    text.push(b'|')?;
-    put_cells_from(text, after, at, end)
+    text.put_pieces(&[Piece::Text(b"\t"), Piece::Number(5, at), Piece::Text(b"|")]);
+    put_cells_from(text, before, at, end);
+    text.put_byte(b'|');
+    put_cells_from(text, after, at, end);
 }
 
 /// Copies the cells of the places from one up to another.
@@ -116,26 +107,19 @@ fn copy_cells(before: &mut Core, after: &Core, at: u16, end: u16)
 }
 
 /// Adds what changed in core storage, and brings the storage before it up to date.
-pub(crate) fn put_changes(
-    text: &mut Vec<u8>,
-    before: &mut Core,
-    after: &Core,
-) -> Result<(), AllocError>
+pub(crate) fn put_changes(text: &mut Text, before: &mut Core, after: &Core)
     requires { length before.old ≡ length after.now }
-    ensures text { OnOk result
-        (text.new.items ≡ text.old.items ++ changes_text (changes_of before.old after.now)) }
-    ensures same { OnOk result (before.new ≡ after.now) }
-    ensures size { length before.new ≡ length after.now }
+    ensures text { Adds text.old text.new (changes_text (changes_of before.old after.now)) }
+    ensures same { before.new ≡ after.now }
 {
     let size = after.size();
     let mut at = next_change(before, after, 0);
     while at < size {
         let end = end_of_change(before, after, at);
-        put_change(text, before, after, at, end)?;
+        put_change(text, before, after, at, end);
         copy_cells(before, after, at, end);
         at = next_change(before, after, end);
     }
-    Ok(())
 }
 
 /// Core storage with the same cells.

@@ -1,15 +1,16 @@
 //! The instruction of a step, as it is in core.
-ghost use Rattle.std.specs.Prelude.{◌≡◌, ◌-◌, ◌≤◌, ◌++◌, length, replicate, OnOk};
+ghost use Rattle.std.specs.Prelude.{◌≤◌, length};
+ghost use Rattle.bytes_text.specs.Piece.{padded};
+ghost use Rattle.bytes_text.specs.Written.{Adds};
 ghost use Rattle.machine_mnemonics.specs.ShownText.{shown_text};
 ghost use Rattle.machine_notation.specs.Cells.{cells_text};
-ghost use Rattle.job_trace.specs.TraceLine.{fetched_text, instruction_columns, padded};
+ghost use Rattle.job_trace.specs.TraceLine.{fetched_text};
 
 use bcd_1401::Cell;
+use bytes_text::{Piece, Text};
 use core_1401::Core;
 use cpu_1401::instruction_cells;
 use machine_mnemonics::put_shown;
-use machine_notation::{put_cell, put_digits};
-use std::alloc::AllocError;
 
 /// The columns of an instruction's cells.
 const CELL_COLUMNS: usize = 9;
@@ -19,64 +20,43 @@ const TEXT_COLUMNS: usize = 20;
 
 /// Adds cells.
 #[tactic(auto, unfolding(machine_notation::specs::Cells::cells_text))]
-fn put_cells(text: &mut Vec<u8>, cells: &[Cell]) -> Result<(), AllocError>
-    ensures { OnOk result (text.new.items ≡ text.old.items ++ cells_text cells.now) }
+fn put_cells(text: &mut Text, cells: &[Cell])
+    ensures { Adds text.old text.new (cells_text cells.now) }
 {
     for cell in cells {
-        put_cell(text, *cell)?;
+        text.put_cell(*cell);
     }
-    Ok(())
-}
-
-/// Adds blanks up to a width of what was added from a place on.
-fn put_blanks(text: &mut Vec<u8>, from: usize, width: usize) -> Result<(), AllocError>
-    requires { from ≤ length text.old.items }
-    ensures { OnOk result
-        (text.new.items ≡ text.old.items ++ replicate (width - (length text.old.items - from)) 32) }
-{
-    let start = text.len() - from;
-    for column in start..width {
-        text.push(b' ')?;
-    }
-    Ok(())
 }
 
 /// Adds the cells of an instruction, with blanks after them.
-fn put_cell_columns(text: &mut Vec<u8>, cells: &[Cell]) -> Result<(), AllocError>
-    ensures { OnOk result (text.new.items ≡ text.old.items ++ padded 9 (cells_text cells.now)) }
+fn put_cell_columns(text: &mut Text, cells: &[Cell])
+    ensures { Adds text.old text.new (padded 9 (cells_text cells.now)) }
 {
     let from = text.len();
-    put_cells(text, cells)?;
-    Ok(put_blanks(text, from, CELL_COLUMNS)?)
+    put_cells(text, cells);
+    text.pad(from, CELL_COLUMNS);
 }
 
 /// Adds an instruction as Autocoder writes it, with blanks after it.
-fn put_text_columns(text: &mut Vec<u8>, cells: &[Cell]) -> Result<(), AllocError>
+fn put_text_columns(text: &mut Text, cells: &[Cell])
     requires { length cells.now ≤ 8 }
-    ensures { OnOk result (text.new.items ≡ text.old.items ++ padded 20 (shown_text cells.now)) }
+    ensures { Adds text.old text.new (padded 20 (shown_text cells.now)) }
 {
     let from = text.len();
-    put_shown(text, cells)?;
-    Ok(put_blanks(text, from, TEXT_COLUMNS)?)
-}
-
-/// Adds an instruction by its cells, and as Autocoder writes it.
-#[tactic(auto, unfolding(crate::specs::TraceLine::instruction_columns))]
-fn put_columns(text: &mut Vec<u8>, cells: &[Cell]) -> Result<(), AllocError>
-    requires { length cells.now ≤ 8 }
-    ensures { OnOk result (text.new.items ≡ text.old.items ++ instruction_columns cells.now) }
-{
-    put_cell_columns(text, cells)?;
-    text.push(b'\t')?;
-    put_text_columns(text, cells)
+    let mut bytes = text.take();
+    let shown = put_shown(&mut bytes, cells);
+    text.put_back(bytes, shown);
+    text.pad(from, TEXT_COLUMNS);
 }
 
 /// Adds the address and the instruction of a step.
-#[tactic(auto, unfolding(crate::specs::TraceLine::fetched_text))]
-pub(crate) fn put_fetched(text: &mut Vec<u8>, core: &Core, i: u16) -> Result<(), AllocError>
-    ensures { OnOk result (text.new.items ≡ text.old.items ++ fetched_text core.now i) }
+#[tactic(auto, unfolding(crate::specs::TraceLine::fetched_text, crate::specs::TraceLine::instruction_columns))]
+pub(crate) fn put_fetched(text: &mut Text, core: &Core, i: u16)
+    ensures { Adds text.old text.new (fetched_text core.now i) }
 {
-    put_digits(text, 5, u64::from(i))?;
-    text.push(b'\t')?;
-    put_columns(text, instruction_cells(core, i).as_slice())
+    let fetched = instruction_cells(core, i);
+    text.put_pieces(&[Piece::Number(5, i), Piece::Text(b"\t")]);
+    put_cell_columns(text, fetched.as_slice());
+    text.put_byte(b'\t');
+    put_text_columns(text, fetched.as_slice());
 }

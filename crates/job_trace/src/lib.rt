@@ -3,7 +3,7 @@
 //! ```text
 //! let mut before = Snapshot::of(alloc, &machine)?;
 //! let stop = machine.step();
-//! before.put_line(alloc, &mut text, &machine, work, stop)?
+//! before.put_line(&mut text, &machine, work, stop);
 //! // 00453  ~M510509  MCW  510,509  00507  00506  00507|000|275, with tabs between
 //! ```
 #![tactic(auto)]

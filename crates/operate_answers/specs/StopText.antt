@@ -62,11 +62,8 @@ no_instruction_text storage at =
     if is_in_core storage at && (cell_at storage at).mark then [] else codes "; no instruction begins there now"
 
 -- another break at the same address
-unfoldable pub other_name_text : ℕ → List ℕ
-other_name_text number = codes "; break " ++ digits_in 1 number
-
 unfoldable pub there_too_text : ℕ → List ℕ
-there_too_text number = other_name_text number ++ codes " is there too"
+there_too_text number = codes "; break " ++ digits_in 1 number ++ codes " is there too"
 
 abbrev pub other_text : ℕ → ℕ → NumberedStop → List ℕ
 other_text number at stop =

@@ -67,7 +67,7 @@ relation_text relation.AtMost = codes "<="
 relation_text relation.AtLeast = codes ">="
 
 -- a text between at signs
-abbrev pub quoted_text : List ℕ → List ℕ
+unfoldable pub quoted_text : List ℕ → List ℕ
 quoted_text text = codes "@" ++ text ++ codes "@"
 
 abbrev pub minus_text : Bool → List ℕ

@@ -1,18 +1,16 @@
 //! What a step did, in words.
 ghost use Rattle.std.specs.Prelude.{◌≡◌, ◌<◌, ◌≤◌, length};
 
-use crate::counted::{label_at, put_column, put_span};
+use crate::counted::{ADDRESS_DIGITS, label_at, put_span};
 use autocoder_statements::word_in;
-use bcd_1401::{Cell, Char};
+use bytes_text::Text;
 use core_1401::{ADDRESSES, Core};
 use cpu_1401::Machine;
 use devices_1401::{Card, Movement};
 use job_trace::next_change;
-use machine_notation::{put_characters, put_digits};
-use machine_panel::Regs;
 use operate_program::Program;
-use operate_views::{put_change, put_comparison, put_labelled};
-use std::alloc::{AllocError, Global};
+use operate_views::{cells_down, put_change, put_comparison, put_labelled};
+use std::alloc::Global;
 
 /// The most places that are shown before and after a step.
 const MOST_SHOWN: u16 = 60;
@@ -26,152 +24,81 @@ const BEYOND_READ: u16 = 81;
 /// The operation that compares.
 const COMPARE: u8 = b'C';
 
-/// The operation that does nothing.
+/// The operation that does nothing, and goes on with the instruction after it, however long it is.
 const NO_OPERATION: u8 = b'N';
 
-/// Adds what parts two effects, if there is one.
-fn put_semicolon(effect: &mut Vec<u8>) -> Result<(), AllocError> {
-    if effect.is_empty() {
-        return Ok(());
+/// Begins an effect with these words, after what parts it from the one before it.
+fn begin(effect: &mut Text, words: &[u8]) {
+    if !effect.is_empty() {
+        effect.put(b"; ");
     }
-    effect.extend_from_slice(b"; ".as_slice())
-}
-
-/// Whether a character is a blank.
-fn is_blank(card: &Card) -> bool {
-    card.0.iter().all(|char| *char == Char::BLANK)
+    effect.put(words);
 }
 
 /// Adds a word, and then a card without the blanks at its end.
-fn put_card(effect: &mut Vec<u8>, word: &[u8], card: &Card) -> Result<(), AllocError> {
-    put_semicolon(effect)?;
-    effect.extend_from_slice(word)?;
-    if is_blank(card) {
-        return effect.extend_from_slice(b"a blank card".as_slice());
-    }
-    put_characters(effect, card.0.as_slice())
-}
-
-/// Adds the card that a step read, if it read one, and answers whether it did.
-fn put_read(effect: &mut Vec<u8>, before: &Machine, after: &Machine) -> Result<bool, AllocError> {
-    if after.devices().hopper() >= before.devices().hopper() {
-        return Ok(false);
-    }
-    if let Some(card) = before.devices().next_card() {
-        put_card(effect, b"reads ", &card)?;
-    }
-    Ok(true)
-}
-
-/// Adds the card that a step punched, if it punched one.
-fn put_punched(effect: &mut Vec<u8>, before: &Machine, after: &Machine) -> Result<(), AllocError> {
-    if after.devices().stacker() <= before.devices().stacker() {
-        return Ok(());
-    }
-    if let Some(card) = after.devices().last_punched() {
-        put_card(effect, b"punches ", &card)?;
-    }
-    Ok(())
-}
-
-/// Adds a movement of the carriage.
-fn put_movement(effect: &mut Vec<u8>, movement: Movement) -> Result<(), AllocError> {
-    match movement {
-        Movement::SpaceBy(spaces) => {
-            effect.extend_from_slice(b"space ".as_slice())?;
-            put_digits(effect, 1, u64::from(spaces.count()))
-        }
-        Movement::SkipTo(hole) => {
-            effect.extend_from_slice(b"skip to line ".as_slice())?;
-            put_digits(effect, 1, u64::from(hole.line()))
-        }
+fn put_card(effect: &mut Text, word: &[u8], card: &Card) {
+    begin(effect, word);
+    let len = effect.len();
+    effect.put_characters(card.0.as_slice());
+    if effect.len() == len {
+        effect.put(b"a blank card");
     }
 }
 
-/// Adds the movement that waits for the next print, if another one did before the step.
-fn put_waiting(effect: &mut Vec<u8>, before: &Machine, after: &Machine) -> Result<(), AllocError> {
+/// Adds the movement that waits for the next print, if another one did before the step, and where the carriage is, if
+/// the step moved it without a print.
+fn put_carriage(effect: &mut Text, before: &Machine, after: &Machine) {
     let pending = after.pending_movement();
-    if pending == before.pending_movement() {
-        return Ok(());
+    if pending != before.pending_movement() {
+        match pending {
+            None => {}
+            Some(Movement::SpaceBy(spaces)) => {
+                begin(effect, b"carriage waits: space ");
+                effect.put_number(1, u64::from(spaces.count()));
+            }
+            Some(Movement::SkipTo(hole)) => {
+                begin(effect, b"carriage waits: skip to line ");
+                effect.put_number(1, u64::from(hole.line()));
+            }
+        }
     }
-    if let Some(movement) = pending {
-        put_semicolon(effect)?;
-        effect.extend_from_slice(b"carriage waits: ".as_slice())?;
-        put_movement(effect, movement)?;
-    }
-    Ok(())
-}
-
-/// Adds where the carriage is, if the step moved it without a print.
-fn put_moved(effect: &mut Vec<u8>, before: &Machine, after: &Machine) -> Result<(), AllocError> {
     let (old, new) = (before.regs(), after.regs());
-    if new.paper != old.paper || (new.line == old.line && new.form == old.form) {
-        return Ok(());
+    if new.paper == old.paper && (new.line != old.line || new.form != old.form) {
+        begin(effect, b"carriage goes to line ");
+        effect.put_number(1, u64::from(new.line));
+        effect.put(b" of form ");
+        effect.put_number(1, u64::from(new.form));
     }
-    put_semicolon(effect)?;
-    effect.extend_from_slice(b"carriage goes to line ".as_slice())?;
-    put_digits(effect, 1, u64::from(new.line))?;
-    effect.extend_from_slice(b" of form ".as_slice())?;
-    put_digits(effect, 1, u64::from(new.form))
 }
 
-/// Whether the last comparison found the same.
-fn is_same_comparison(one: &Regs, other: &Regs) -> bool {
-    one.unequal == other.unequal && one.low == other.low && one.high == other.high
-}
-
-/// Adds what a comparison found, if the step was one.
-fn put_compared(effect: &mut Vec<u8>, before: &Machine, after: &Machine) -> Result<(), AllocError> {
+/// Adds what a comparison found, if the step was one, and where the machine goes on, if it was a branch that was taken.
+fn put_outcome(effect: &mut Text, program: &Program, before: &Machine, after: &Machine) {
     let Some(cells) = before.next_instruction() else {
-        return Ok(());
+        return;
     };
     let [first, ..] = cells.as_slice() else {
-        return Ok(());
+        return;
     };
-    if first.char.graphic() != COMPARE {
-        return Ok(());
+    let (old, new) = (before.regs(), after.regs());
+    let len = cells.as_slice().len();
+    let operation = first.char.graphic();
+    if operation == COMPARE {
+        // One of one character leaves the indicators if it finds its fields equal.
+        let is_same = old.unequal == new.unequal && old.low == new.low && old.high == new.high;
+        let words: &[u8] = if len == 1 && is_same {
+            b"the comparison stays "
+        } else {
+            b"finds "
+        };
+        begin(effect, words);
+        put_comparison(effect, &new);
     }
-    put_semicolon(effect)?;
-    // One of one character leaves the indicators if it finds its fields equal.
-    let word = if cells.as_slice().len() == 1 && is_same_comparison(&before.regs(), &after.regs()) {
-        b"the comparison stays ".as_slice()
-    } else {
-        b"finds ".as_slice()
-    };
-    effect.extend_from_slice(word)?;
-    put_comparison(effect, &after.regs())
-}
-
-/// Whether an instruction goes on with the one after it, however long it is.
-fn is_passed_over(cells: &[Cell]) -> bool {
-    match cells {
-        [] => true,
-        [first, ..] => first.char.graphic() == NO_OPERATION,
+    let beyond = usize::from(old.i) + len;
+    if operation != NO_OPERATION && beyond % usize::from(ADDRESSES) != usize::from(new.i) {
+        begin(effect, b"goes to ");
+        let label = label_at(program, new.i);
+        put_labelled(effect, new.i, word_in(label.as_slice()));
     }
-}
-
-/// Adds where the machine goes on, if the step was a branch that was taken.
-fn put_branch(
-    effect: &mut Vec<u8>,
-    program: &Program,
-    before: &Machine,
-    after: &Machine,
-) -> Result<(), AllocError> {
-    let Some(cells) = before.next_instruction() else {
-        return Ok(());
-    };
-    let to = after.regs().i;
-    if is_passed_over(cells.as_slice()) {
-        return Ok(());
-    }
-    let beyond = usize::from(before.regs().i) + cells.as_slice().len();
-    if beyond % usize::from(ADDRESSES) == usize::from(to) {
-        return Ok(());
-    }
-    put_semicolon(effect)?;
-    effect.extend_from_slice(b"goes to ".as_slice())?;
-    let label = label_at(program, to);
-    put_labelled(effect, to, word_in(label.as_slice()))
 }
 
 /// The end of the places from one on that have no word mark but at the first.
@@ -202,75 +129,20 @@ fn down_to_mark(core: &Core, at: u16) -> u16
     0
 }
 
-/// The cells from one place up to another, the upper ones first.
-fn cells_down(alloc: Global, core: &Core, low: u16, end: u16) -> Result<Vec<Cell>, AllocError>
-    requires { end ≤ length core.now }
-{
-    let mut cells = Vec::new(alloc);
-    for i in low..end {
-        cells.push(core.get(end - 1 - (i - low)))?;
-    }
-    Ok(cells)
-}
-
-/// Adds what some places held and hold, with a name for them.
-fn put_held(
-    alloc: Global,
-    effect: &mut Vec<u8>,
-    name: &[u8],
-    before: &Core,
-    after: &Core,
-    low: u16,
-    end: u16,
-) -> Result<(), AllocError>
+/// Adds what the places from a low one up to another held and hold, the upper ones first.
+fn put_held(alloc: Global, effect: &mut Text, before: &Core, after: &Core, low: u16, end: u16)
     requires before_in { end ≤ length before.now }
     requires after_in { end ≤ length after.now }
 {
-    let old = cells_down(alloc, before, low, end)?;
-    let new = cells_down(alloc, after, low, end)?;
-    put_semicolon(effect)?;
-    put_change(effect, name, old.as_slice(), new.as_slice())
-}
-
-/// The name of the places from a low one up to another: the lowest and the highest.
-fn span_name(alloc: Global, low: u16, end: u16) -> Result<Vec<u8>, AllocError> {
-    let mut name = Vec::new(alloc);
-    put_span(&mut name, low, end.saturating_sub(1))?;
-    Ok(name)
-}
-
-/// Adds that many places changed.
-fn put_many(effect: &mut Vec<u8>, low: u16, end: u16) -> Result<(), AllocError> {
-    put_semicolon(effect)?;
-    put_span(effect, low, end.saturating_sub(1))?;
-    effect.extend_from_slice(b" change".as_slice())
-}
-
-/// Adds what places without a label held and hold.
-fn put_places(
-    alloc: Global,
-    effect: &mut Vec<u8>,
-    before: &Core,
-    after: &Core,
-    low: u16,
-    end: u16,
-) -> Result<(), AllocError>
-    requires before_in { end ≤ length before.now }
-    requires after_in { end ≤ length after.now }
-{
-    if end.saturating_sub(low) > MOST_SHOWN {
-        return put_many(effect, low, end);
+    if low >= end {
+        return;
     }
-    let name = span_name(alloc, low, end)?;
-    put_held(alloc, effect, name.as_slice(), before, after, low, end)
-}
-
-/// Whether a place holds another character.
-fn is_rewritten(before: &Core, after: &Core, at: u16) -> bool
-    requires before_in { at < length before.now }
-    requires after_in { at < length after.now }
-{
-    before.get(at).char != after.get(at).char
+    let old = cells_down(alloc, before, end - 1, end - low);
+    let new = cells_down(alloc, after, end - 1, end - low);
+    match (old, new) {
+        (Ok(old), Ok(new)) => put_change(effect, &[], old.as_slice(), new.as_slice()),
+        _ => effect.fail(),
+    }
 }
 
 /// The first place of some that holds another character, or the end.
@@ -279,7 +151,7 @@ fn first_rewritten(before: &Core, after: &Core, from: u16, end: u16) -> u16
     requires after_in { end ≤ length after.now }
 {
     for at in from..end {
-        if is_rewritten(before, after, at) {
+        if before.get(at).char != after.get(at).char {
             return at;
         }
     }
@@ -294,7 +166,7 @@ fn beyond_rewritten(before: &Core, after: &Core, from: u16, end: u16) -> u16
 {
     for i in from..end {
         let at = end - 1 - (i - from);
-        if is_rewritten(before, after, at) {
+        if before.get(at).char != after.get(at).char {
             return at + 1;
         }
     }
@@ -302,118 +174,110 @@ fn beyond_rewritten(before: &Core, after: &Core, from: u16, end: u16) -> u16
 }
 
 /// Adds the characters of a field before and after a step, if they changed: all of a field with a label, else from the
-/// first place that changed to the last.
+/// first place that changed to the last; and of many places only that they change.
 fn put_rewritten(
     alloc: Global,
-    effect: &mut Vec<u8>,
+    effect: &mut Text,
     program: &Program,
     before: &Core,
     after: &Core,
     low: u16,
     end: u16,
-) -> Result<(), AllocError>
+)
     requires before_in { end ≤ length before.now }
     requires after_in { end ≤ length after.now }
 {
     let first = first_rewritten(before, after, low, end);
     if first == end {
-        return Ok(());
+        return;
     }
     let label = label_at(program, end.saturating_sub(1));
     let label = word_in(label.as_slice());
     if !label.is_empty() && end.saturating_sub(low) <= MOST_SHOWN {
-        return put_held(alloc, effect, label, before, after, low, end);
+        begin(effect, label);
+        put_held(alloc, effect, before, after, low, end);
+        return;
     }
     let beyond = beyond_rewritten(before, after, first, end);
-    put_places(alloc, effect, before, after, first, beyond)
-}
-
-/// Adds that a place gets or loses a word mark, if it does.
-fn put_mark(effect: &mut Vec<u8>, before: Cell, after: Cell, at: u16) -> Result<(), AllocError> {
-    if before.mark == after.mark || effect.len() > MOST_BYTES {
-        return Ok(());
-    }
-    put_semicolon(effect)?;
-    put_column(effect, at)?;
-    if after.mark {
-        effect.extend_from_slice(b" gets a word mark".as_slice())
+    begin(effect, &[]);
+    put_span(effect, first, beyond.saturating_sub(1));
+    if beyond.saturating_sub(first) > MOST_SHOWN {
+        effect.put(b" change");
     } else {
-        effect.extend_from_slice(b" loses its word mark".as_slice())
+        put_held(alloc, effect, before, after, first, beyond);
     }
 }
 
 /// Adds the word marks that places get and lose.
-fn put_marks(
-    effect: &mut Vec<u8>,
-    before: &Core,
-    after: &Core,
-    low: u16,
-    end: u16,
-) -> Result<(), AllocError>
+fn put_marks(effect: &mut Text, before: &Core, after: &Core, low: u16, end: u16)
     requires before_in { end ≤ length before.now }
     requires after_in { end ≤ length after.now }
 {
     for at in low..end {
-        put_mark(effect, before.get(at), after.get(at), at)?;
+        let mark = after.get(at).mark;
+        if before.get(at).mark != mark && effect.len() <= MOST_BYTES {
+            begin(effect, &[]);
+            effect.put_number(ADDRESS_DIGITS, u64::from(at));
+            let words: &[u8] = if mark {
+                b" gets a word mark"
+            } else {
+                b" loses its word mark"
+            };
+            effect.put(words);
+        }
     }
-    Ok(())
 }
 
 /// Adds what changed in core storage, from a place on.
 fn put_changes(
     alloc: Global,
-    effect: &mut Vec<u8>,
+    effect: &mut Text,
     program: &Program,
     before: &Core,
     after: &Core,
     from: u16,
-) -> Result<(), AllocError>
+)
     requires { length before.now ≡ length after.now }
 {
     let size = after.size();
     let mut at = next_change(before, after, from.min(size));
     for _ in 0..size {
         if at >= size {
-            return Ok(());
+            return;
         }
         let low = down_to_mark(after, at);
         let end = beyond_unmarked(after, at);
         if effect.len() > MOST_BYTES {
-            return effect.extend_from_slice(b"; ..".as_slice());
+            effect.put(b"; ..");
+            return;
         }
-        put_rewritten(alloc, effect, program, before, after, low, end)?;
-        put_marks(effect, before, after, low, end)?;
+        put_rewritten(alloc, effect, program, before, after, low, end);
+        put_marks(effect, before, after, low, end);
         at = next_change(before, after, end);
     }
-    Ok(())
 }
 
 /// What a step did, by the machine before and after it: the card that it read, what changed in core storage but for the
 /// places of that card, the card that it punched, where the carriage is or goes next, what a comparison found, and
 /// where a branch led.
-pub(crate) fn effect_of(
-    alloc: Global,
-    program: &Program,
-    before: &Machine,
-    after: &Machine,
-) -> Result<Vec<u8>, AllocError>
+pub(crate) fn effect_of(alloc: Global, program: &Program, before: &Machine, after: &Machine) -> Text
     requires { length before.now.storage ≡ length after.now.storage }
 {
-    let mut effect = Vec::new(alloc);
-    let has_read = put_read(&mut effect, before, after)?;
-    let from = if has_read { BEYOND_READ } else { 0 };
-    put_changes(
-        alloc,
-        &mut effect,
-        program,
-        before.core(),
-        after.core(),
-        from,
-    )?;
-    put_punched(&mut effect, before, after)?;
-    put_waiting(&mut effect, before, after)?;
-    put_moved(&mut effect, before, after)?;
-    put_compared(&mut effect, before, after)?;
-    put_branch(&mut effect, program, before, after)?;
-    Ok(effect)
+    let mut effect = Text::new(alloc);
+    let mut from = 0;
+    if after.devices().hopper() < before.devices().hopper() {
+        from = BEYOND_READ;
+        if let Some(card) = before.devices().next_card() {
+            put_card(&mut effect, b"reads ", &card);
+        }
+    }
+    put_changes(alloc, &mut effect, program, before.core(), after.core(), from);
+    if after.devices().stacker() > before.devices().stacker() {
+        if let Some(card) = after.devices().last_punched() {
+            put_card(&mut effect, b"punches ", &card);
+        }
+    }
+    put_carriage(&mut effect, before, after);
+    put_outcome(&mut effect, program, before, after);
+    effect
 }

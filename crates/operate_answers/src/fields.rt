@@ -2,6 +2,7 @@
 
 use crate::fault::LookFault;
 use crate::typed::put_typed_condition;
+use bytes_text::Text;
 use cpu_1401::Machine;
 use operate_orders::{Base, Condition, MOST_LISTED, Place};
 use operate_program::{Program, index_name};
@@ -21,52 +22,39 @@ fn name_of(place: &Place) -> &[u8] {
 }
 
 /// Adds the field that a place names, without a line feed.
-fn put_named_field(
+pub(crate) fn put_named_field(
     alloc: Global,
-    text: &mut Vec<u8>,
+    text: &mut Text,
     program: &Program,
     machine: &Machine,
     place: &Place,
 ) -> Result<(), LookFault> {
-    let field = match program.field(machine, place) {
-        Ok(field) => field,
-        Err(fault) => return Err(LookFault::Place(fault)),
-    };
-    let cells = field.cells(alloc, machine.core())?;
-    put_field(text, name_of(place), field.units(), cells.as_slice())?;
-    Ok(())
-}
-
-/// Adds the line of a field.
-pub(crate) fn put_field_line(
-    alloc: Global,
-    text: &mut Vec<u8>,
-    program: &Program,
-    machine: &Machine,
-    place: &Place,
-) -> Result<(), LookFault> {
-    match put_named_field(alloc, text, program, machine, place) {
-        Err(fault) => Err(fault),
-        Ok(()) => {
-            text.extend_from_slice(b"\n".as_slice())?;
-            Ok(())
-        }
+    match program.field(machine, place) {
+        Err(fault) => Err(LookFault::Place(fault)),
+        Ok(field) => match field.cells(alloc, machine.core()) {
+            Err(fault) => Err(LookFault::Field(fault)),
+            Ok(cells) => {
+                put_field(text, name_of(place), field.units(), cells.as_slice());
+                Ok(())
+            }
+        },
     }
 }
 
 /// Adds the lines of fields.
 pub(crate) fn put_field_lines(
     alloc: Global,
-    text: &mut Vec<u8>,
+    text: &mut Text,
     program: &Program,
     machine: &Machine,
     places: &[Option<Place>; MOST_LISTED],
 ) -> Result<(), LookFault> {
     for i in 0..MOST_LISTED {
         if let Some(place) = &places[i] {
-            if let Err(fault) = put_field_line(alloc, text, program, machine, place) {
+            if let Err(fault) = put_named_field(alloc, text, program, machine, place) {
                 return Err(fault);
             }
+            text.put_byte(b'\n');
         }
     }
     Ok(())
@@ -80,13 +68,13 @@ pub(crate) fn put_field_lines(
 /// `Place` or `Field` if there is no such field; `Memory`. Some of the text may have been added then.
 pub fn put_not_so(
     alloc: Global,
-    text: &mut Vec<u8>,
+    text: &mut Text,
     program: &Program,
     machine: &Machine,
     condition: &Condition,
 ) -> Result<(), LookFault> {
-    text.extend_from_slice(b"not so: ".as_slice())?;
-    put_typed_condition(text, condition)?;
-    text.extend_from_slice(b"; ".as_slice())?;
+    text.put(b"not so: ");
+    put_typed_condition(text, condition);
+    text.put(b"; ");
     put_named_field(alloc, text, program, machine, &condition.field)
 }

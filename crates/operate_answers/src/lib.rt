@@ -4,8 +4,8 @@
 //! ```text
 //! let number = stops.add_break(&program, &machine, &place, None, None)?   // `break LOOK`: 1
 //! put_look(alloc, &mut text, &program, &seen, &look)?                     // `print TOTAL`: its line
-//! put_steps(alloc, &mut text, &program, &mut copy, 3)?                    // `step 3`: three lines
-//! put_ended(alloc, &mut text, &program, &machine, &stops, ended, 16)?     // HALT at 0463 (..) after 16 steps
+//! put_steps(alloc, &mut text, &program, &mut copy, 3)                     // `step 3`: three lines
+//! put_ended(alloc, &mut text, &program, &machine, &stops, ended, 16)      // HALT at 0463 (..) after 16 steps
 //! ```
 #![tactic(auto)]
 

@@ -2,93 +2,59 @@
 ghost use Rattle.std.specs.Prelude.{◌≡◌, length};
 
 use crate::effects::effect_of;
+use bytes_text::Text;
 use cpu_1401::{Machine, instruction_cells};
 use devices_1401::Devices;
 use operate_program::Program;
 use operate_views::{put_printed, put_step};
-use std::alloc::{AllocError, Global};
+use std::alloc::Global;
 
 /// Adds the lines on the paper from one on, counted from the oldest, 0: those that a run has printed, if it began with
 /// so many.
-///
-/// # Errors
-///
-/// If memory is refused. Some of the text may have been added then.
-pub fn put_lines_from(
-    alloc: Global,
-    text: &mut Vec<u8>,
-    devices: &Devices,
-    from: u16,
-) -> Result<(), AllocError> {
+pub fn put_lines_from(alloc: Global, text: &mut Text, devices: &Devices, from: u16) {
     for at in from..devices.paper() {
         if let Some(line) = devices.printed_line(usize::from(at)) {
-            put_printed(alloc, text, &line)?;
+            put_printed(alloc, text, &line);
         }
     }
-    Ok(())
 }
 
-/// Adds the line of a step, by the machine before and after it.
-fn put_step_line(
-    alloc: Global,
-    text: &mut Vec<u8>,
-    program: &Program,
-    before: &Machine,
-    after: &Machine,
-) -> Result<(), AllocError>
+/// Adds the line of a step, by the machine before and after it, and the lines that it printed.
+fn put_stepped(alloc: Global, text: &mut Text, program: &Program, before: &Machine, after: &Machine)
     requires { length before.now.storage ≡ length after.now.storage }
 {
     let at = before.regs().i;
     let core = before.core();
-    let effect = effect_of(alloc, program, before, after)?;
+    let effect = effect_of(alloc, program, before, after);
     let cells = instruction_cells(core, at);
+    text.rests_on(&effect);
     match program.statement_at(alloc, core, at) {
-        Err(fault) => Err(fault),
-        Ok(statement) => put_step(
-            alloc,
-            text,
-            at,
-            statement,
-            cells.as_slice(),
-            effect.as_slice(),
-        ),
+        Err(_) => text.fail(),
+        Ok(statement) => {
+            put_step(alloc, text, at, statement, cells.as_slice(), effect.as_slice());
+        }
     }
-}
-
-/// Adds the line of a step, and the lines that it printed.
-fn put_stepped(
-    alloc: Global,
-    text: &mut Vec<u8>,
-    program: &Program,
-    before: &Machine,
-    after: &Machine,
-) -> Result<(), AllocError>
-    requires { length before.now.storage ≡ length after.now.storage }
-{
-    put_step_line(alloc, text, program, before, after)?;
-    put_lines_from(alloc, text, after.devices(), before.devices().paper())
+    put_lines_from(alloc, text, after.devices(), before.devices().paper());
 }
 
 /// Has a machine carry out so many instructions, and adds a line for each with what it did, and after it the lines that
 /// it printed. The machine is a copy from before the run.
-///
-/// # Errors
-///
-/// If memory is refused. Some of the text may have been added then.
 pub fn put_steps(
     alloc: Global,
-    text: &mut Vec<u8>,
+    text: &mut Text,
     program: &Program,
     machine: &mut Machine,
     steps: u32,
-) -> Result<(), AllocError> {
-    let mut after = machine.copy(alloc)?;
+) {
+    let Ok(mut after) = machine.copy(alloc) else {
+        text.fail();
+        return;
+    };
     for _ in 0..steps {
         let _done = after.run(1);
         if machine.core().size() == after.core().size() {
-            put_stepped(alloc, text, program, machine, &after)?;
+            put_stepped(alloc, text, program, machine, &after);
         }
         let _done = machine.run(1);
     }
-    Ok(())
 }

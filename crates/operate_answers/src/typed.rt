@@ -1,106 +1,80 @@
 //! Places, ranges, values and conditions as they are typed.
-ghost use Rattle.std.specs.Prelude.{◌≡◌, ◌++◌, OnOk};
-ghost use Rattle.operate_answers.specs.Typed.{adjustment_text, area_word, base_text, condition_text, held_name, minus_text};
-ghost use Rattle.operate_answers.specs.Typed.{place_text, quoted_text, range_text, relation_text, value_text};
+ghost use Rattle.std.specs.Prelude.{◌≡◌};
+ghost use Rattle.bytes_text.specs.Written.{Adds};
+ghost use Rattle.operate_answers.specs.Typed.{adjustment_text, base_text, condition_text, place_text, quoted_text};
+ghost use Rattle.operate_answers.specs.Typed.{range_text, relation_text, value_text};
 
-use machine_notation::put_digits;
+use bytes_text::Text;
 use operate_orders::{Adjustment, Area, Base, Condition, Place, Range, Register, Relation, Value};
 use operate_program::index_name;
-use std::alloc::AllocError;
-
-/// The name of a register that holds an address.
-fn held_name(register: Register) -> &'static [u8]
-    ensures { result.now ≡ held_name register }
-{
-    match register {
-        Register::I => b"$I",
-        Register::A => b"$A",
-        Register::B => b"$B",
-    }
-}
 
 /// Adds where an address begins.
-fn put_base(text: &mut Vec<u8>, base: &Base) -> Result<(), AllocError>
-    ensures { OnOk result (text.new.items ≡ text.old.items ++ base_text base.now) }
+fn put_base(text: &mut Text, base: &Base)
+    ensures { Adds text.old text.new (base_text base.now) }
 {
     match base {
-        Base::Number(number) => put_digits(text, 1, u64::from(*number)),
-        Base::Label(label) => text.extend_from_slice(label.as_slice()),
+        Base::Number(number) => text.put_number(1, u64::from(*number)),
+        Base::Label(label) => text.put(label.as_slice()),
         Base::Line(line) => {
-            text.extend_from_slice(b":".as_slice())?;
-            put_digits(text, 1, u64::from(*line))
+            text.put_byte(b':');
+            text.put_number(1, u64::from(*line));
         }
-        Base::Index(register) => text.extend_from_slice(index_name(*register)),
-        Base::Held(register) => text.extend_from_slice(held_name(*register)),
+        Base::Index(register) => text.put(index_name(*register)),
+        Base::Held(Register::I) => text.put(b"$I"),
+        Base::Held(Register::A) => text.put(b"$A"),
+        Base::Held(Register::B) => text.put(b"$B"),
     }
 }
 
 /// Adds an adjustment with its sign, if there is one.
-fn put_adjustment(text: &mut Vec<u8>, adjustment: Option<Adjustment>) -> Result<(), AllocError>
-    ensures { OnOk result (text.new.items ≡ text.old.items ++ adjustment_text adjustment) }
+fn put_adjustment(text: &mut Text, adjustment: Option<Adjustment>)
+    ensures { Adds text.old text.new (adjustment_text adjustment) }
 {
     match adjustment {
-        None => Ok(()),
+        None => {}
         Some(Adjustment::Plus(number)) => {
-            text.extend_from_slice(b"+".as_slice())?;
-            put_digits(text, 1, u64::from(number))
+            text.put_byte(b'+');
+            text.put_number(1, u64::from(number));
         }
         Some(Adjustment::Minus(number)) => {
-            text.extend_from_slice(b"-".as_slice())?;
-            put_digits(text, 1, u64::from(number))
+            text.put_byte(b'-');
+            text.put_number(1, u64::from(number));
         }
         Some(Adjustment::Indexed(register)) => {
-            text.extend_from_slice(b"+".as_slice())?;
-            text.extend_from_slice(index_name(register))
+            text.put_byte(b'+');
+            text.put(index_name(register));
         }
     }
 }
 
 /// Adds an address as it is typed.
-///
-/// # Errors
-///
-/// If the memory for the text is refused. Some of the text may have been added then.
 #[tactic(auto, unfolding(crate::specs::Typed::place_text))]
-pub fn put_typed_place(text: &mut Vec<u8>, place: &Place) -> Result<(), AllocError>
-    ensures { OnOk result (text.new.items ≡ text.old.items ++ place_text place.now) }
+pub fn put_typed_place(text: &mut Text, place: &Place)
+    ensures { Adds text.old text.new (place_text place.now) }
 {
-    put_base(text, &place.base)?;
-    put_adjustment(text, place.adjustments[0])?;
-    put_adjustment(text, place.adjustments[1])?;
-    put_adjustment(text, place.adjustments[2])
-}
-
-/// The word of an area.
-fn area_word(area: Area) -> &'static [u8]
-    ensures { result.now ≡ area_word area }
-{
-    match area {
-        Area::Read => b"read",
-        Area::Punch => b"punch",
-        Area::Print => b"print",
-    }
+    put_base(text, &place.base);
+    put_adjustment(text, place.adjustments[0]);
+    put_adjustment(text, place.adjustments[1]);
+    put_adjustment(text, place.adjustments[2]);
 }
 
 /// Adds a range as it is typed.
-///
-/// # Errors
-///
-/// If the memory for the text is refused. Some of the text may have been added then.
-pub fn put_typed_range(text: &mut Vec<u8>, range: &Range) -> Result<(), AllocError>
-    ensures { OnOk result (text.new.items ≡ text.old.items ++ range_text range.now) }
+pub fn put_typed_range(text: &mut Text, range: &Range)
+    ensures { Adds text.old text.new (range_text range.now) }
 {
     match range {
-        Range::Area(area) => text.extend_from_slice(area_word(*area)),
+        Range::Area(Area::Read) => text.put(b"read"),
+        Range::Area(Area::Punch) => text.put(b"punch"),
+        Range::Area(Area::Print) => text.put(b"print"),
         Range::Between { first, last } => {
-            put_typed_place(text, first)?;
-            text.extend_from_slice(b"..".as_slice())?;
-            put_typed_place(text, last)
+            put_typed_place(text, first);
+            text.put(b"..");
+            put_typed_place(text, last);
         }
         Range::Counted { first, count } => {
-            put_typed_place(text, first)?;
-            text.extend_from_slice(b"/".as_slice())?;
-            put_digits(text, 1, u64::from(*count))
+            put_typed_place(text, first);
+            text.put_byte(b'/');
+            text.put_number(1, u64::from(*count));
         }
         Range::At(place) => put_typed_place(text, place),
     }
@@ -121,50 +95,40 @@ fn relation_sign(relation: Relation) -> &'static [u8]
 }
 
 /// Adds a text between at signs.
-pub(crate) fn put_quoted(text: &mut Vec<u8>, quoted: &[u8]) -> Result<(), AllocError>
-    ensures { OnOk result (text.new.items ≡ text.old.items ++ quoted_text quoted.now) }
+#[tactic(auto, unfolding(crate::specs::Typed::quoted_text))]
+pub(crate) fn put_quoted(text: &mut Text, quoted: &[u8])
+    ensures { Adds text.old text.new (quoted_text quoted.now) }
 {
-    text.extend_from_slice(b"@".as_slice())?;
-    text.extend_from_slice(quoted)?;
-    text.extend_from_slice(b"@".as_slice())
-}
-
-/// Adds a minus, if there is one.
-fn put_minus(text: &mut Vec<u8>, minus: bool) -> Result<(), AllocError>
-    ensures { OnOk result (text.new.items ≡ text.old.items ++ minus_text minus) }
-{
-    if minus {
-        text.extend_from_slice(b"-".as_slice())
-    } else {
-        Ok(())
-    }
+    text.put_byte(b'@');
+    text.put(quoted);
+    text.put_byte(b'@');
 }
 
 /// Adds a value as it is typed.
-fn put_typed_value(text: &mut Vec<u8>, value: &Value) -> Result<(), AllocError>
-    ensures { OnOk result (text.new.items ≡ text.old.items ++ value_text value.now) }
+fn put_typed_value(text: &mut Text, value: &Value)
+    ensures { Adds text.old text.new (value_text value.now) }
 {
     match value {
         Value::Number { minus, digits } => {
-            put_minus(text, *minus)?;
-            text.extend_from_slice(digits.as_slice())
+            if *minus {
+                text.put_byte(b'-');
+                text.put(digits.as_slice());
+            } else {
+                text.put(digits.as_slice());
+            }
         }
         Value::Text(quoted) => put_quoted(text, quoted.as_slice()),
     }
 }
 
 /// Adds a condition as it is typed.
-///
-/// # Errors
-///
-/// If the memory for the text is refused. Some of the text may have been added then.
 #[tactic(auto, unfolding(crate::specs::Typed::condition_text))]
-pub fn put_typed_condition(text: &mut Vec<u8>, condition: &Condition) -> Result<(), AllocError>
-    ensures { OnOk result (text.new.items ≡ text.old.items ++ condition_text condition.now) }
+pub fn put_typed_condition(text: &mut Text, condition: &Condition)
+    ensures { Adds text.old text.new (condition_text condition.now) }
 {
-    put_typed_place(text, &condition.field)?;
-    text.extend_from_slice(b" ".as_slice())?;
-    text.extend_from_slice(relation_sign(condition.relation))?;
-    text.extend_from_slice(b" ".as_slice())?;
-    put_typed_value(text, &condition.value)
+    put_typed_place(text, &condition.field);
+    text.put_byte(b' ');
+    text.put(relation_sign(condition.relation));
+    text.put_byte(b' ');
+    put_typed_value(text, &condition.value);
 }

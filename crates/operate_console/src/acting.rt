@@ -50,7 +50,7 @@ fn put_acted(
         act,
         commands,
     ) {
-        Ok(()) => Ok(()),
+        Ok(()) => notebook.page.written(),
         Err(LookFault::Memory) => Err(AllocError),
         Err(fault) => {
             notebook.page.cut(from);
@@ -250,7 +250,8 @@ fn do_cards<K: Keeper + Drop>(
     }
     let hand = sitting.hand();
     let text = &mut notebook.page.text;
-    match put_deck(text, name, count, sitting.machine(), hand) {
+    put_deck(text, name, count, sitting.machine(), hand);
+    match notebook.page.written() {
         Ok(()) => Ok(()),
         Err(_) => Err(OperateEnd::Memory),
     }
@@ -303,7 +304,8 @@ fn do_card<K: Keeper + Drop>(
         Err(Cut::Over(end)) => return Err(end),
     }
     let hand = sitting.hand();
-    match put_fed(&mut notebook.page.text, sitting.machine(), hand) {
+    put_fed(&mut notebook.page.text, sitting.machine(), hand);
+    match notebook.page.written() {
         Ok(()) => Ok(()),
         Err(_) => Err(OperateEnd::Memory),
     }
@@ -342,7 +344,10 @@ fn put_loaded(
 {
     match refusal_of_last(room.journal(), commands) {
         Some(refusal) => put_refusal(notebook, refusal),
-        None => put_next(alloc, &mut notebook.page.text, program, room.machine()),
+        None => {
+            put_next(alloc, &mut notebook.page.text, program, room.machine());
+            notebook.page.written()
+        }
     }
 }
 

@@ -1,9 +1,8 @@
 //! The files that a person names.
 
+use bytes_text::Text;
 use devices_1401::Card;
-use machine_notation::put_digits;
 use room_alone::Room;
-use std::alloc::AllocError;
 use thiserror::Error;
 
 /// Why a file can't be used.
@@ -80,29 +79,18 @@ pub trait Desk {
 }
 
 /// Adds why a file can't be used, after its name.
-///
-/// # Errors
-///
-/// If the memory for the text is refused. Some of the text may have been added by then.
-pub fn put_file_fault(text: &mut Vec<u8>, name: &[u8], fault: FileFault) -> Result<(), AllocError> {
-    text.extend_from_slice(name)?;
+pub fn put_file_fault(text: &mut Text, name: &[u8], fault: FileFault) {
+    text.put(name);
     match fault {
-        FileFault::Unreadable => text.extend_from_slice(b" can't be read".as_slice()),
-        FileFault::Irregular => text.extend_from_slice(b" isn't a regular file".as_slice()),
-        FileFault::Exists => text.extend_from_slice(
-            b" is there already, and isn't written over".as_slice(),
-        ),
-        FileFault::Unwritable => text.extend_from_slice(b" can't be written".as_slice()),
-        FileFault::Wrong { line } => put_wrong(text, line),
-        FileFault::Memory => text.extend_from_slice(
-            b" can't be read: there is no memory for it".as_slice(),
-        ),
+        FileFault::Unreadable => text.put(b" can't be read"),
+        FileFault::Irregular => text.put(b" isn't a regular file"),
+        FileFault::Exists => text.put(b" is there already, and isn't written over"),
+        FileFault::Unwritable => text.put(b" can't be written"),
+        FileFault::Wrong { line } => {
+            text.put(b": line ");
+            text.put_number(1, line);
+            text.put(b" is wrong");
+        }
+        FileFault::Memory => text.put(b" can't be read: there is no memory for it"),
     }
-}
-
-/// Adds which line is wrong.
-fn put_wrong(text: &mut Vec<u8>, line: u64) -> Result<(), AllocError> {
-    text.extend_from_slice(b": line ".as_slice())?;
-    put_digits(text, 1, line)?;
-    text.extend_from_slice(b" is wrong".as_slice())
 }

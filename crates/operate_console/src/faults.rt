@@ -7,7 +7,6 @@ use crate::desk::{FileFault, put_file_fault};
 use crate::ends::OperateEnd;
 use crate::notebook::Notebook;
 use machine_execution::Refusal;
-use machine_notation::put_digits;
 use operate_answers::{LookFault, put_look_fault, put_order_fault};
 use operate_orders::OrderFault;
 use operate_program::{ActFault, PlaceFault, Program, put_act_fault, put_place_fault};
@@ -20,7 +19,7 @@ pub(crate) fn put_no_order(notebook: &mut Notebook, fault: &OrderFault) -> Resul
     ensures { notebook.new ≡ faulted notebook.old }
 {
     let from = notebook.begin_fault()?;
-    put_order_fault(&mut notebook.page.text, fault)?;
+    put_order_fault(&mut notebook.page.text, fault);
     notebook.end_fault(from)
 }
 
@@ -34,7 +33,7 @@ pub(crate) fn put_no_act(
     ensures { notebook.new ≡ faulted notebook.old }
 {
     let from = notebook.begin_fault()?;
-    put_act_fault(alloc, &mut notebook.page.text, program, fault)?;
+    put_act_fault(alloc, &mut notebook.page.text, program, fault);
     notebook.end_fault(from)
 }
 
@@ -48,7 +47,7 @@ pub(crate) fn put_no_place(
     ensures { notebook.new ≡ faulted notebook.old }
 {
     let from = notebook.begin_fault()?;
-    put_place_fault(alloc, &mut notebook.page.text, program, fault)?;
+    put_place_fault(alloc, &mut notebook.page.text, program, fault);
     notebook.end_fault(from)
 }
 
@@ -62,7 +61,7 @@ pub(crate) fn put_no_look(
     ensures { notebook.new ≡ faulted notebook.old }
 {
     let from = notebook.begin_fault()?;
-    put_look_fault(alloc, &mut notebook.page.text, program, fault)?;
+    put_look_fault(alloc, &mut notebook.page.text, program, fault);
     notebook.end_fault(from)
 }
 
@@ -75,7 +74,7 @@ pub(crate) fn put_no_file(
     ensures { notebook.new ≡ faulted notebook.old }
 {
     let from = notebook.begin_fault()?;
-    put_file_fault(&mut notebook.page.text, name, fault)?;
+    put_file_fault(&mut notebook.page.text, name, fault);
     notebook.end_fault(from)
 }
 
@@ -86,12 +85,12 @@ fn put_undoable(notebook: &mut Notebook, lines: usize) -> Result<(), AllocError>
     let from = notebook.begin_fault()?;
     let text = &mut notebook.page.text;
     match lines {
-        0 => text.extend_from_slice(b"no line has recorded anything by now".as_slice())?,
-        1 => text.extend_from_slice(b"only one line has recorded anything".as_slice())?,
+        0 => text.put(b"no line has recorded anything by now"),
+        1 => text.put(b"only one line has recorded anything"),
         lines => {
-            text.extend_from_slice(b"only ".as_slice())?;
-            put_digits(text, 1, lines as u64)?;
-            text.extend_from_slice(b" lines have recorded anything".as_slice())?;
+            text.put(b"only ");
+            text.put_number(1, lines as u64);
+            text.put(b" lines have recorded anything");
         }
     }
     notebook.end_fault(from)

@@ -9,6 +9,7 @@ use crate::faults::{put_no_file, put_no_past};
 use crate::listening::Listener;
 use crate::manner::Manner;
 use crate::notebook::Notebook;
+use crate::page::Page;
 use crate::setting::Setting;
 use crate::terminal::Terminal;
 use crate::waiting::Waiting;
@@ -101,12 +102,11 @@ fn name_in(past: &Past) -> &[u8] {
 }
 
 /// Adds that the file of this name, if there is one, has the journal of the machine.
-fn put_file(text: &mut Vec<u8>, file: &[u8]) -> Result<(), AllocError> {
-    if file.is_empty() {
-        return Ok(());
+fn put_file(page: &mut Page, file: &[u8]) {
+    if !file.is_empty() {
+        page.text.put(file);
+        page.text.put(b" has the journal up to here; ");
     }
-    text.extend_from_slice(file)?;
-    text.extend_from_slice(b" has the journal up to here; ".as_slice())
 }
 
 /// What is gone after a line that went back.
@@ -136,23 +136,32 @@ fn put_gone(
         .why
         .extend_from_slice(b"nothing has run since the machine went back".as_slice())?;
     notebook.pass_paper(machine);
-    let text = &mut notebook.page.text;
+    let page = &mut notebook.page;
     match past {
         Past::Undo(_) => {
             let file = if file.is_empty() { None } else { Some(file) };
             let Gone { commands, cards } = gone;
-            put_undone(alloc, text, program, machine, commands, cards as u64, file)
+            put_undone(
+                alloc,
+                &mut page.text,
+                program,
+                machine,
+                commands,
+                cards as u64,
+                file,
+            );
         }
         Past::Back(_) | Past::Restart => {
-            put_file(text, file)?;
-            put_next(alloc, text, program, machine)
+            put_file(page, file);
+            put_next(alloc, &mut page.text, program, machine);
         }
         Past::Restore(_) => {
-            put_dropped(text, gone.cards)?;
-            put_file(text, file)?;
-            put_next(alloc, text, program, machine)
+            put_dropped(&mut page.text, gone.cards);
+            put_file(page, file);
+            put_next(alloc, &mut page.text, program, machine);
         }
     }
+    page.written()
 }
 
 /// Goes back to an earlier room.

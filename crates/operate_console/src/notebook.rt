@@ -56,7 +56,8 @@ impl Notebook {
     {
         let from = self.shown;
         self.pass_paper(machine);
-        put_lines_from(alloc, &mut self.page.text, machine.devices(), from)
+        put_lines_from(alloc, &mut self.page.text, machine.devices(), from);
+        self.page.written()
     }
 
     /// What is on the paper by now was shown, or isn't to be.

@@ -28,7 +28,7 @@ fn shown(
     ensures { notebook.new.stops ≡ notebook.old.stops }
 {
     match looked {
-        Ok(()) => Ok(()),
+        Ok(()) => notebook.page.written(),
         Err(LookFault::Memory) => Err(AllocError),
         Err(fault) => {
             notebook.page.cut(from);
@@ -80,7 +80,8 @@ fn put_last_set(
         program,
         core,
         &notebook.stops,
-    )
+    );
+    notebook.page.written()
 }
 
 /// Ends a line that sets a break or a watch, or takes some away: a fault is reported.
@@ -265,12 +266,11 @@ fn do_save<D: Desk>(
     let journal = room.journal();
     let text = write_journal(alloc, room.machine().core().size(), journal)?;
     match desk.save(name.as_slice(), text.as_slice()) {
-        Ok(()) => put_saved(
-            &mut notebook.page.text,
-            journal.len() as u64,
-            name.as_slice(),
-            hand,
-        ),
+        Ok(()) => {
+            let text = &mut notebook.page.text;
+            put_saved(text, journal.len() as u64, name.as_slice(), hand);
+            notebook.page.written()
+        }
         Err(fault) => put_no_file(notebook, name.as_slice(), fault),
     }
 }
@@ -304,7 +304,10 @@ pub(crate) fn do_note<D: Desk>(
         Note::Do(name) => do_file(alloc, notebook, name, desk),
         Note::Transcript(name) => do_transcript(notebook, name, desk),
         Note::Assert(condition) => do_assert(alloc, program, notebook, machine, condition),
-        Note::Help(keyword) => put_help(&mut notebook.page.text, *keyword),
+        Note::Help(keyword) => {
+            put_help(&mut notebook.page.text, *keyword);
+            notebook.page.written()
+        }
         Note::Save(name) => do_save(alloc, notebook, room, hand, name, desk),
     }
 }

@@ -281,7 +281,8 @@ fn show_last<D: Desk, W: Sink>(
     match end {
         OperateEnd::Write | OperateEnd::Memory | OperateEnd::Unkept => end,
         OperateEnd::Quit | OperateEnd::EndOfInput | OperateEnd::Read | OperateEnd::Bound => {
-            if put_dropped(&mut notebook.page.text, hand).is_err() {
+            put_dropped(&mut notebook.page.text, hand);
+            if notebook.page.written().is_err() {
                 return OperateEnd::Memory;
             }
             match notebook.page.show(alloc, manner, desk, writer) {

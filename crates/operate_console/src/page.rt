@@ -5,6 +5,7 @@ use crate::ends::OperateEnd;
 use crate::manner::Manner;
 use crate::waiting::line_len;
 use bytes_streams::{Sink, put_all};
+use bytes_text::Text;
 use std::alloc::{AllocError, Global};
 
 /// What a terminal is sent before red and bold text, and after it.
@@ -27,7 +28,7 @@ pub(crate) enum Paint {
 #[derive(Drop)]
 pub(crate) struct Page {
     /// The text so far.
-    pub(crate) text: Vec<u8>,
+    pub(crate) text: Text,
     from: usize,
     to: usize,
     paint: Paint,
@@ -37,7 +38,7 @@ impl Page {
     /// A page without a text.
     pub(crate) fn new(alloc: Global) -> Page {
         Page {
-            text: Vec::new(alloc),
+            text: Text::new(alloc),
             from: 0,
             to: 0,
             paint: Paint::Bold,
@@ -51,12 +52,22 @@ impl Page {
 
     /// Adds a text.
     pub(crate) fn put(&mut self, text: &[u8]) -> Result<(), AllocError> {
-        self.text.extend_from_slice(text)
+        self.text.put(text);
+        self.written()
+    }
+
+    /// Whether there was memory for all of the text.
+    pub(crate) fn written(&self) -> Result<(), AllocError> {
+        if self.text.is_whole() {
+            Ok(())
+        } else {
+            Err(AllocError)
+        }
     }
 
     /// The text from a place on is dropped.
     pub(crate) fn cut(&mut self, from: usize) {
-        self.text.truncate(from);
+        self.text.cut(from);
     }
 
     /// The text from a place on is in colour.
@@ -126,7 +137,7 @@ impl Page {
         } else {
             put_all(writer, self.text.as_slice())
         };
-        self.text.clear();
+        self.text.cut(0);
         self.from = 0;
         self.to = 0;
         match written {

@@ -148,7 +148,8 @@ fn put_slice(
     match ahead {
         Some(mut ahead) => {
             notebook.pass_paper(machine);
-            put_steps(alloc, &mut notebook.page.text, program, &mut ahead, steps)
+            put_steps(alloc, &mut notebook.page.text, program, &mut ahead, steps);
+            notebook.page.written()
         }
         None => notebook.put_printed(alloc, machine),
     }

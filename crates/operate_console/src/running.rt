@@ -16,6 +16,7 @@ use crate::run_stops::RunStops;
 use crate::setting::Setting;
 use crate::terminal::Terminal;
 use bytes_streams::{Sink, Source};
+use bytes_text::Text;
 use cpu_1401::Machine;
 use operate_answers::{Ended, Stops, put_ended, put_why};
 use operate_program::Program;
@@ -138,20 +139,14 @@ fn put_end(
 ) -> Result<(), AllocError>
     ensures { notebook.new ≡ notebook.old }
 {
-    notebook.why.clear();
-    put_why(
-        alloc,
-        &mut notebook.why,
-        program,
-        machine,
-        &notebook.stops,
-        ended,
-    )?;
+    let mut why = Text::new(alloc);
+    put_why(alloc, &mut why, program, machine, &notebook.stops, ended);
+    notebook.why = why.into_bytes()?;
     let from = notebook.page.here();
     let text = &mut notebook.page.text;
-    put_ended(alloc, text, program, machine, &notebook.stops, ended, steps)?;
+    put_ended(alloc, text, program, machine, &notebook.stops, ended, steps);
     notebook.page.paint_line(from);
-    Ok(())
+    notebook.page.written()
 }
 
 /// Adds how a run ended. The breaks and watches that ended it are counted.

@@ -1,9 +1,9 @@
 -- What the assembler makes of a statement at an address (own): of a source that gives the labels their values, places
 -- the statement and ends there.
-use Rattle.std.specs.Prelude.{ℕ, ◌-◌, ◌==◌, Bool, true, false, ◌||◌, if◌then◌else◌, List, [], ◌∷◌, ◌++◌, length, map, drop}
-use Rattle.std.specs.Prelude.{replicate, codes, Option, None, Some, Result, Ok, Err}
+use Rattle.std.specs.Prelude.{ℕ, ◌==◌, Bool, true, false, ◌||◌, if◌then◌else◌, List, [], ◌∷◌, ◌++◌, length, map, drop}
+use Rattle.std.specs.Prelude.{codes, Option, None, Some, Result, Ok, Err}
 use Rattle.std.specs.Char.{is_ascii_whitespace}
-use Rattle.std.specs.List.{flat_map, prefix_len}
+use Rattle.std.specs.List.{concat, flat_map, prefix_len}
 use Rattle.std.specs.Str.{bytes_eq}
 use Rattle.autocoder_1401.specs.Assembly.{assembly_in}
 use Rattle.autocoder_1401.specs.declared.assembly.Assembly.{Assembly}
@@ -22,6 +22,7 @@ use Rattle.autocoder_statements.specs.declared.operands.OperandField.{OperandFie
 use Rattle.autocoder_statements.specs.declared.operands.OperandField.TheVariants as fields
 use Rattle.autocoder_statements.specs.declared.statement.Statement.{Statement}
 use Rattle.autocoder_symbols.specs.declared.fault.AsmFault.{AsmFault}
+use Rattle.bytes_text.specs.Piece.{padded}
 use Rattle.machine_commands.specs.declared.command.Command.{Command}
 use Rattle.machine_image.specs.declared.image.Image.{Image}
 use Rattle.machine_image.specs.declared.image.Segment.{Segment}
@@ -32,17 +33,10 @@ use Rattle.operate_program.specs.Value.{place_of}
 use Rattle.operate_program.specs.declared.fault.ActFault.{ActFault}
 use Rattle.operate_program.specs.declared.fault.ActFault.TheVariants as fault
 
--- the blanks in front of an operation
-abbrev front : List ℕ
-front = codes "               "
-
--- a line of the assembler's own with a number as its operand
-unfoldable pub placed_line : List ℕ → ℕ → List ℕ
-placed_line operation at = front ++ operation ++ digits_in 1 at ++ codes "\n"
-
 -- the line that gives a label a value
 unfoldable pub equate_line : Symbol → ℕ → List ℕ
-equate_line symbol value = codes "     " ++ symbol.label.text ++ codes "    EQU  " ++ digits_in 1 value
+equate_line symbol value =
+    concat (codes "     " ∷ symbol.label.text ∷ codes "    EQU  " ∷ digits_in 1 value ∷ [])
 
 abbrev is_label_of : Symbol → Option Label → Bool
 is_label_of symbol None = false
@@ -62,10 +56,6 @@ equate_with language symbol (Some value) =
 abbrev pub equate : Language → Symbol → List ℕ
 equate language symbol = equate_with language symbol (place_of symbol.value)
 
--- an operation in its five columns
-abbrev pub padded_five : List ℕ → List ℕ
-padded_five operation = operation ++ replicate (5 - length operation) 32
-
 -- a text without the blanks in front
 abbrev pub without_front : List ℕ → List ℕ
 without_front text = drop (prefix_len is_ascii_whitespace text) text
@@ -73,13 +63,15 @@ without_front text = drop (prefix_len is_ascii_whitespace text) text
 -- the line of a statement: its first word in the columns of the operation, and what follows in those of the operands
 unfoldable pub statement_line : List ℕ → List ℕ
 statement_line statement =
-    front ++ padded_five (word_in statement) ++ without_front (drop (length (word_in statement)) statement)
+    concat (codes "               " ∷ padded 5 (word_in statement)
+    ∷ without_front (drop (length (word_in statement)) statement) ∷ [])
 
--- the source by which the line of a statement is read
+-- the source by which the line of a statement is read: the labels, where it is placed, the line, and an end
 unfoldable pub statement_source : Known → ℕ → List ℕ → List ℕ
 statement_source known at line =
-    flat_map (equate known.language) known.symbols ++ placed_line (codes "ORG  ") at ++ line ++ codes "\n"
-    ++ placed_line (codes "END  ") at
+    flat_map (equate known.language) known.symbols
+    ++ concat (codes "               ORG  " ∷ digits_in 1 at ∷ codes "\n" ∷ line
+    ∷ codes "\n               END  " ∷ digits_in 1 at ∷ codes "\n" ∷ [])
 
 -- an operand is a literal
 abbrev is_literal_operand : Operand → Bool

@@ -1,46 +1,22 @@
 //! The source by which the assembler reads a statement: the labels with their values, and where the statement is placed.
-ghost use Rattle.std.specs.Prelude.{◌≡◌, ◌-◌, ◌++◌, replicate, codes, Some, OnOk, IfOk};
+ghost use Rattle.std.specs.Prelude.{◌≡◌, IfOk};
 ghost use Rattle.std.specs.List.{flat_map};
 ghost use Rattle.autocoder_statements.specs.Language.{line_in};
-ghost use Rattle.operate_program.specs.Statement.{declares, equate, equate_line, equate_with, padded_five};
-ghost use Rattle.operate_program.specs.Statement.{placed_line, statement_line, statement_source, without_front};
+ghost use Rattle.bytes_text.specs.Written.{Adds};
+ghost use Rattle.operate_program.specs.Statement.{declares, equate, statement_line, statement_source, without_front};
 
 use crate::program::Program;
 use crate::values::place_of;
 use autocoder_listing::Symbol;
 use autocoder_statements::{Language, Line, word_in};
-use machine_notation::put_digits;
+use bytes_text::{Piece, Text};
 use std::alloc::{AllocError, Global};
 
 /// The blanks in front of an operation.
 const FRONT: &[u8] = b"               ";
 
 /// How many columns an operation has.
-const OPERATION_COLUMNS: usize = 5;
-
-/// Adds a line of the assembler's own with a number as its operand: five bytes with its operation.
-#[tactic(auto, unfolding(crate::specs::Statement::placed_line))]
-fn put_placed_line(text: &mut Vec<u8>, operation: &[u8], at: u16) -> Result<(), AllocError>
-    ensures { OnOk result (text.new.items ≡ text.old.items ++ placed_line operation.now at) }
-{
-    text.extend_from_slice(FRONT)?;
-    text.extend_from_slice(operation)?;
-    put_digits(text, 1, u64::from(at))?;
-    Ok(text.push(b'\n')?)
-}
-
-/// The line that gives a label a value.
-#[tactic(auto, unfolding(crate::specs::Statement::equate_line))]
-fn equate_line(alloc: Global, symbol: &Symbol, value: u32) -> Result<Vec<u8>, AllocError>
-    ensures { IfOk result (λ line. line.items ≡ equate_line symbol.now value) }
-{
-    let mut line = Vec::new(alloc);
-    line.extend_from_slice(b"     ".as_slice())?;
-    line.extend_from_slice(symbol.label.text.as_slice())?;
-    line.extend_from_slice(b"    EQU  ".as_slice())?;
-    put_digits(&mut line, 1, u64::from(value))?;
-    Ok(line)
-}
+const OPERATION_COLUMNS: u8 = 5;
 
 /// Whether a line declares the label of a symbol in a language.
 fn declares(language: Language, line: &[u8], symbol: &Symbol) -> bool
@@ -52,86 +28,35 @@ fn declares(language: Language, line: &[u8], symbol: &Symbol) -> bool
     }
 }
 
-/// A line with its line feed.
-fn with_feed(line: Vec<u8>) -> Result<Vec<u8>, AllocError>
-    ensures { IfOk result (λ whole. whole.items ≡ line.items ++ codes "\n") }
+/// Adds the line that gives a label its value, if it is a place and the language can declare the label so.
+#[tactic(auto, unfolding(crate::specs::Statement::equate_line))]
+fn put_equate(alloc: Global, text: &mut Text, language: Language, symbol: &Symbol)
+    ensures { Adds text.old text.new (equate language symbol.now) }
 {
-    let mut whole = line;
-    whole.push(b'\n')?;
-    Ok(whole)
-}
-
-/// The line that gives a label its value, if the language can declare the label so; else nothing.
-fn declaration(
-    alloc: Global,
-    language: Language,
-    symbol: &Symbol,
-    value: u32,
-) -> Result<Vec<u8>, AllocError>
-    ensures { IfOk result (λ line. line.items ≡ equate_with language symbol.now (Some value)) }
-{
-    let line = equate_line(alloc, symbol, value)?;
+    let Some(value) = place_of(symbol.value) else {
+        return;
+    };
+    let mut line = Text::new(alloc);
+    line.put_pieces(&[
+        Piece::Text(b"     "),
+        Piece::Text(symbol.label.text.as_slice()),
+        Piece::Text(b"    EQU  "),
+        Piece::Count(value as u64),
+    ]);
+    text.rests_on(&line);
     if declares(language, line.as_slice(), symbol) {
-        with_feed(line)
-    } else {
-        Ok(Vec::new(alloc))
+        text.put(line.as_slice());
+        text.put_byte(b'\n');
     }
-}
-
-/// The line that gives a label its value, if it is a place and the language can declare the label so; else nothing.
-fn equate(alloc: Global, language: Language, symbol: &Symbol) -> Result<Vec<u8>, AllocError>
-    ensures { IfOk result (λ line. line.items ≡ equate language symbol.now) }
-{
-    match place_of(symbol.value) {
-        Some(value) => declaration(alloc, language, symbol, value),
-        None => Ok(Vec::new(alloc)),
-    }
-}
-
-/// Adds the line that gives a label its value.
-fn put_equate(
-    alloc: Global,
-    text: &mut Vec<u8>,
-    language: Language,
-    symbol: &Symbol,
-) -> Result<(), AllocError>
-    ensures { OnOk result (text.new.items ≡ text.old.items ++ equate language symbol.now) }
-{
-    let line = equate(alloc, language, symbol)?;
-    text.extend_from_slice(line.as_slice())
 }
 
 /// Adds the lines that give the labels their values.
-fn put_equates(
-    alloc: Global,
-    text: &mut Vec<u8>,
-    language: Language,
-    symbols: &[Symbol],
-) -> Result<(), AllocError>
-    ensures { OnOk result (text.new.items ≡ text.old.items ++ flat_map (equate language) symbols.now) }
+fn put_equates(alloc: Global, text: &mut Text, language: Language, symbols: &[Symbol])
+    ensures { Adds text.old text.new (flat_map (equate language) symbols.now) }
 {
     for symbol in symbols {
-        put_equate(alloc, text, language, symbol)?;
+        put_equate(alloc, text, language, symbol);
     }
-    Ok(())
-}
-
-/// Adds blanks from a column of an operation to its last.
-fn put_blanks(text: &mut Vec<u8>, from: usize) -> Result<(), AllocError>
-    ensures { OnOk result (text.new.items ≡ text.old.items ++ replicate (5 - from) 32) }
-{
-    for column in from..OPERATION_COLUMNS {
-        text.push(b' ')?;
-    }
-    Ok(())
-}
-
-/// Adds an operation in its columns.
-fn put_operation(text: &mut Vec<u8>, operation: &[u8]) -> Result<(), AllocError>
-    ensures { OnOk result (text.new.items ≡ text.old.items ++ padded_five operation.now) }
-{
-    text.extend_from_slice(operation)?;
-    put_blanks(text, operation.len())
 }
 
 /// A text without the blanks in front.
@@ -148,14 +73,16 @@ pub(crate) fn statement_line(alloc: Global, statement: &[u8]) -> Result<Vec<u8>,
 {
     let operation = word_in(statement);
     let beyond = &statement[operation.len()..];
-    let mut line = Vec::new(alloc);
-    line.extend_from_slice(FRONT)?;
-    put_operation(&mut line, operation)?;
-    line.extend_from_slice(without_front(beyond))?;
-    Ok(line)
+    let mut line = Text::new(alloc);
+    line.put_pieces(&[
+        Piece::Text(FRONT),
+        Piece::Padded(OPERATION_COLUMNS, operation),
+        Piece::Text(without_front(beyond)),
+    ]);
+    line.into_bytes()
 }
 
-/// The source by which a statement is read that begins at an address.
+/// The source by which the line of a statement is read that begins at an address.
 #[tactic(auto, unfolding(crate::specs::Statement::statement_source))]
 pub(crate) fn statement_source(
     alloc: Global,
@@ -165,11 +92,27 @@ pub(crate) fn statement_source(
 ) -> Result<Vec<u8>, AllocError>
     ensures { IfOk result (λ text. text.items ≡ statement_source program.now at line.now) }
 {
-    let mut text = Vec::new(alloc);
-    put_equates(alloc, &mut text, program.language(), program.symbols())?;
-    put_placed_line(&mut text, b"ORG  ", at)?;
-    text.extend_from_slice(line)?;
-    text.push(b'\n')?;
-    put_placed_line(&mut text, b"END  ", at)?;
-    Ok(text)
+    let mut text = Text::new(alloc);
+    put_equates(alloc, &mut text, program.language(), program.symbols());
+    text.put_pieces(&[
+        Piece::Text(b"               ORG  "),
+        Piece::Number(1, at),
+        Piece::Text(b"\n"),
+        Piece::Text(line),
+        Piece::Text(b"\n               END  "),
+        Piece::Number(1, at),
+        Piece::Text(b"\n"),
+    ]);
+    text.into_bytes()
+}
+
+/// The source by which a statement is read that begins at an address.
+pub(crate) fn source_of(
+    alloc: Global,
+    program: &Program,
+    at: u16,
+    statement: &[u8],
+) -> Result<Vec<u8>, AllocError> {
+    let line = statement_line(alloc, statement)?;
+    statement_source(alloc, program, at, line.as_slice())
 }

@@ -1,20 +1,12 @@
 -- Columns of a line.
-use Rattle.std.proofs.Common.{◌≡◌, ℕ, suc, ◌+◌, ◌-◌, ◌<◌, List, [], ◌∷◌, ◌++◌, length, replicate, take}
-use Rattle.std.proofs.Common.{append_assoc, drop, ◌∙◌, ap, arith}
+use Rattle.std.proofs.Common.{◌≡◌, ℕ, ◌+◌, ◌<◌, List, [], ◌∷◌, ◌++◌, length, take}
+use Rattle.std.proofs.Common.{drop, ◌∙◌, ap, arith}
 use Rattle.std.specs.Str.{IsTrimAsciiEnd}
 use Rattle.std.proofs.lemmas.Str.Ascii.{trim_ascii_end_is}
 use Rattle.std.proofs.lemmas.List.{get_or-drop, length-drop, take_more}
 use Rattle.bcd_1401.specs.declared.cell.Cell.{Cell}
 use Rattle.core_1401.specs.Storage.{Storage, blank, cell_at}
 use Rattle.operate_views.specs.Lines.{without_last_blanks}
-
--- a blank more
-pub blank_more : (text : List ℕ) (column width : ℕ) → column < width
-    → (text ++ 32 ∷ []) ++ replicate (width - (column + 1)) 32 ≡ text ++ replicate (width - column) 32
-blank_more text column width lt =
-    let count : suc (width - (column + 1)) ≡ width - column = omega arith in
-    append_assoc text (32 ∷ []) (replicate (width - (column + 1)) 32)
-    ∙ ap (λ n. text ++ replicate {A = ℕ} n 32) count
 
 -- what a trim leaves
 pub trimmed_end : (whole left : List ℕ) → IsTrimAsciiEnd whole left → left ≡ without_last_blanks whole

@@ -13,11 +13,10 @@ use Rattle.operate_views.specs.Lines.{cells_line, front_text, instruction_column
 use Rattle.operate_views.specs.Lines.{step_line}
 use Rattle.operate_views.specs.Cards.{count_text, hopper_text, more_text, pile_text, stacker_text}
 use Rattle.operate_views.specs.Paper.{form_text as form_column, printed_text}
-use Rattle.operate_views.specs.Registers.{addresses_text, answer_text, carriage_text, compared_text, comparison_text}
-use Rattle.operate_views.specs.Registers.{counts_text, devices_text, form_text, index_at, index_text, indicators_text}
-use Rattle.operate_views.specs.Registers.{labelled_text, line_text, on_text, overflow_text, pending_text, place_text}
-use Rattle.operate_views.specs.Registers.{registers_text, switches_on_text, switches_text}
-use Rattle.operate_views.specs.Ruler.{chars_of, core_text, marks_row, row_cells, row_text, ruler}
+use Rattle.operate_views.specs.Registers.{addresses_text, comparison_text, devices_text, index_at, index_text}
+use Rattle.operate_views.specs.Registers.{indicators_text, labelled_text, pending_text, place_text, registers_text}
+use Rattle.operate_views.specs.Registers.{switches_text}
+use Rattle.operate_views.specs.Ruler.{chars_of, core_text, marks_row, row_cells, row_text}
 use Rattle.operate_views.proofs.ExampleCells.{cell, cells}
 
 -- places 1 to 6 of a storage of eight, with word marks at 1 and 4; 7 is not asked for
@@ -26,7 +25,7 @@ a_tilde_is_below_a_word_mark : core_text (blank ∷ cells (codes "000") ++ cells
     ++ codes "       |....:....|....:....|....:....|....:....|....:....\n"
     ++ codes "00000   000495\n"
     ++ codes "        ~  ~ ~\n"
-unfolding graphics cell cells graphics_of trimmed digits marks_row row_cells row_text ruler
+unfolding graphics cell cells graphics_of trimmed digits marks_row row_cells row_text
 a_tilde_is_below_a_word_mark = refl
 
 a_place_with_its_line : place_text 419 (codes "line 9, NEXT R") ≡ codes "0419 (line 9, NEXT R)"
@@ -36,9 +35,8 @@ a_place_with_its_line = refl
 registers_at_power_on : registers_text (power_on 1400) [] [] (codes "HEAD")
     ≡ codes "I  0000\nA  0000, B  0000 HEAD\nlast comparison: equal; overflow: no\nswitches on: none\n"
     ++ codes "hopper 0, stacker 0, paper 0; the carriage is at line 1 of form 1\n"
-unfolding registers_text addresses_text place_text labelled_text indicators_text compared_text overflow_text
-    answer_text comparison_text switches_text switches_on_text on_text index_text index_at devices_text counts_text
-    carriage_text line_text form_text pending_text digits
+unfolding registers_text addresses_text place_text labelled_text indicators_text comparison_text switches_text index_text
+    index_at devices_text pending_text digits
 registers_at_power_on = refl
 
 an_instruction_without_a_source : instruction_line 32 404 (cells (codes "F1"))

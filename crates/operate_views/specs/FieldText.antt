@@ -1,6 +1,7 @@
 -- A field as `print` shows it: its name if it has one, its places, its characters, and its number if it is one (own).
 use Rattle.std.specs.Prelude.{ℕ, ◌+◌, ◌-◌, ◌==◌, nat_lt, Bool, if◌then◌else◌, List, [], ◌∷◌, ◌++◌, codes, length, map}
 use Rattle.std.specs.Prelude.{reverse, take}
+use Rattle.std.specs.List.{concat}
 use Rattle.bcd_1401.specs.declared.cell.Cell.{Cell}
 use Rattle.machine_notation.specs.Characters.{graphics_of}
 use Rattle.machine_notation.specs.Digits.{digits_in}
@@ -34,8 +35,8 @@ characters_down cells = map (λ (cell : Cell). cell.char) (reverse cells)
 unfoldable pub characters_text : List Cell → List ℕ
 characters_text cells =
     if is_long cells
-    then graphics_of (take first_shown (characters_down cells)) ++ codes "..  (" ++ digits_in 1 (length cells)
-    ++ codes " places)"
+    then graphics_of (take first_shown (characters_down cells))
+    ++ concat (codes "..  (" ∷ digits_in 1 (length cells) ∷ codes " places)" ∷ [])
     else graphics_of (take (length cells) (characters_down cells))
 
 -- the number, if the cells are one

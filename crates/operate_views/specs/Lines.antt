@@ -1,21 +1,18 @@
 -- The lines of `list`: an instruction or a constant with the line of the source that made it (own).
-use Rattle.std.specs.Prelude.{ℕ, ◌-◌, Bool, if◌then◌else◌, List, [], ◌∷◌, ◌++◌, codes, drop, length, min, replicate}
+use Rattle.std.specs.Prelude.{ℕ, ◌-◌, Bool, if◌then◌else◌, List, [], ◌∷◌, ◌++◌, codes, drop, length, min}
 use Rattle.std.specs.Prelude.{take, Option, None, Some}
-use Rattle.std.specs.List.{suffix_len}
+use Rattle.std.specs.List.{concat, suffix_len}
 use Rattle.std.specs.Char.{is_ascii_whitespace}
 use Rattle.bcd_1401.specs.declared.cell.Cell.{Cell}
 use Rattle.core_1401.specs.Field.{next_mark_from}
 use Rattle.core_1401.specs.Storage.{Storage, cell_at}
+use Rattle.bytes_text.specs.Piece.{padded}
 use Rattle.cpu_1401.specs.Fetched.{instruction_at}
 use Rattle.machine_mnemonics.specs.ShownText.{shown_text}
 use Rattle.machine_notation.specs.Characters.{graphics_of, trimmed}
 use Rattle.machine_notation.specs.Digits.{digits_in}
 use Rattle.operate_views.specs.Ruler.{chars_of}
 use Rattle.operate_views.specs.declared.lines.Statement.{Statement}
-
--- a text with blanks after it, up to a width
-abbrev pub padded : ℕ → List ℕ → List ℕ
-padded width text = text ++ replicate (width - length text) 32
 
 -- a text without the blanks at its end
 abbrev pub without_last_blanks : List ℕ → List ℕ
@@ -25,26 +22,23 @@ without_last_blanks text = take (length text - suffix_len is_ascii_whitespace te
 abbrev pub shown_cells : List Cell → List ℕ
 shown_cells cells = graphics_of (trimmed (chars_of cells))
 
--- the label, the operation and the operands of a statement, in columns
-unfoldable pub statement_text : Statement → List ℕ
-statement_text statement =
-    padded 7 statement.label.now ++ padded 5 statement.operation.now ++ padded 20 statement.operands.now
-
 -- what a line begins with: a mark, the address, the characters of the cells
 unfoldable pub front_text : ℕ → ℕ → List ℕ → List ℕ
-front_text mark at shown = (mark ∷ []) ++ digits_in 5 at ++ codes " " ++ padded 9 shown ++ codes " "
+front_text mark at shown =
+    concat ((mark ∷ []) ∷ digits_in 5 at ∷ codes " " ∷ padded 9 shown ∷ codes " " ∷ [])
 
--- the line of a place whose cells a line of the source made
+-- the line of a place whose cells a line of the source made, with the fields of the statement in columns
 unfoldable pub source_line : ℕ → ℕ → List Cell → Statement → List ℕ
 source_line mark at cells statement =
-    front_text mark at (shown_cells cells) ++ statement_text statement ++ codes " line " ++ digits_in 1 statement.line
-    ++ codes "\n"
+    front_text mark at (shown_cells cells)
+    ++ concat (padded 7 statement.label.now ∷ padded 5 statement.operation.now ∷ padded 20 statement.operands.now
+    ∷ codes " line " ∷ digits_in 1 statement.line ∷ codes "\n" ∷ [])
 
 -- the line of a place where an instruction begins that no line of the source made
 unfoldable pub instruction_line : ℕ → ℕ → List Cell → List ℕ
 instruction_line mark at cells =
-    front_text mark at (shown_cells cells) ++ codes "       " ++ without_last_blanks (shown_text cells)
-    ++ codes "\n"
+    front_text mark at (shown_cells cells)
+    ++ concat (codes "       " ∷ without_last_blanks (shown_text cells) ∷ codes "\n" ∷ [])
 
 -- the line of a place where none begins
 unfoldable pub cells_line : ℕ → ℕ → List Cell → List ℕ
@@ -75,10 +69,10 @@ listed_places storage at is_sourced =
 -- what a step carried out: the statement of the line of the source that made it, if there is one, else the instruction
 unfoldable pub statement_columns : Statement → List ℕ
 statement_columns statement =
-    padded 7 statement.label.now ++ padded 5 statement.operation.now ++ padded 19 statement.operands.now
+    concat (padded 7 statement.label.now ∷ padded 5 statement.operation.now ∷ padded 19 statement.operands.now ∷ [])
 
 unfoldable pub instruction_columns : List Cell → List ℕ
-instruction_columns cells = codes "       " ++ padded 24 (shown_text cells)
+instruction_columns cells = concat (codes "       " ∷ padded 24 (shown_text cells) ∷ [])
 
 abbrev pub stepped_columns : Option Statement → List Cell → List ℕ
 stepped_columns None cells = instruction_columns cells

@@ -1,5 +1,6 @@
 -- The registers, the indicators and the devices in words (own).
 use Rattle.std.specs.Prelude.{ℕ, ◌+◌, ◌==◌, ◌&&◌, Bool, if◌then◌else◌, List, [], ◌∷◌, ◌++◌, codes, Option, None, Some}
+use Rattle.std.specs.List.{concat}
 use Rattle.core_1401.specs.Address.{index_register, value_at}
 use Rattle.core_1401.specs.Storage.{Storage, cell_at}
 use Rattle.cpu_1401.specs.State.{State, regs_of}
@@ -11,7 +12,7 @@ use Rattle.machine_panel.specs.declared.regs.Regs.{Regs}
 -- an address in four digits, and what is there, if anything is known of it
 unfoldable pub place_text : ℕ → List ℕ → List ℕ
 place_text at [] = digits_in 4 at
-place_text at (first ∷ more) = digits_in 4 at ++ codes " (" ++ (first ∷ more) ++ codes ")"
+place_text at (first ∷ more) = digits_in 4 at ++ concat (codes " (" ∷ (first ∷ more) ∷ codes ")" ∷ [])
 
 -- an address in four digits, and its label if it has one
 unfoldable pub labelled_text : ℕ → List ℕ → List ℕ
@@ -25,17 +26,11 @@ comparison_text regs =
     then (if regs.low then codes "unequal, B low" else (if regs.high then codes "unequal, B high" else codes "unequal"))
     else codes "equal"
 
-unfoldable pub answer_text : Bool → List ℕ
-answer_text is_so = if is_so then codes "yes" else codes "no"
-
-unfoldable pub compared_text : Regs → List ℕ
-compared_text regs = codes "last comparison: " ++ comparison_text regs
-
-unfoldable pub overflow_text : Regs → List ℕ
-overflow_text regs = codes "; overflow: " ++ answer_text regs.overflow
-
+-- what the last compare found, and whether there was an overflow
 unfoldable pub indicators_text : Regs → List ℕ
-indicators_text regs = compared_text regs ++ overflow_text regs ++ codes "\n"
+indicators_text regs =
+    codes "last comparison: " ++ comparison_text regs
+    ++ (if regs.overflow then codes "; overflow: yes\n" else codes "; overflow: no\n")
 
 -- the letters of the switches that are on, the first switch having this one
 abbrev pub letters_on : ℕ → List Bool → List ℕ
@@ -47,35 +42,21 @@ abbrev pub or_none : List ℕ → List ℕ
 or_none [] = codes "none"
 or_none (letter ∷ letters) = letter ∷ letters
 
-unfoldable pub on_text : List Bool → List ℕ
-on_text switches = or_none (letters_on 65 switches)
-
-unfoldable pub switches_on_text : List Bool → List ℕ
-switches_on_text switches = codes "switches on: " ++ on_text switches
-
 unfoldable pub switches_text : List Bool → List ℕ
-switches_text switches = switches_on_text switches ++ codes "\n"
+switches_text switches = codes "switches on: " ++ or_none (letters_on 65 switches) ++ codes "\n"
 
 -- whether the three characters from a place on are blank
 abbrev pub is_blank_at : Storage → ℕ → Bool
 is_blank_at storage at =
     ((cell_at storage at).char == 0) && ((cell_at storage (at + 1)).char == 0) && ((cell_at storage (at + 2)).char == 0)
 
-unfoldable pub three_cells_text : Storage → ℕ → List ℕ
-three_cells_text storage at =
-    cell_text (cell_at storage at) ++ cell_text (cell_at storage (at + 1)) ++ cell_text (cell_at storage (at + 2))
-
--- the number and the places of an index register
-unfoldable pub index_front : ℕ → ℕ → List ℕ
-index_front number at =
-    codes "X" ++ digits_in 1 number ++ codes " " ++ digits_in 5 at ++ codes "-" ++ digits_in 5 (at + 2) ++ codes "  "
-
 -- an index register by its number and its first place: its places, its cells and its value; nothing if it is blank
 unfoldable pub index_at : Storage → ℕ → ℕ → List ℕ
 index_at storage number at =
     if is_blank_at storage at then []
-    else index_front number at ++ three_cells_text storage at ++ codes " = " ++ digits_in 1 (value_at storage at)
-    ++ codes "\n"
+    else concat (codes "X" ∷ digits_in 1 number ∷ codes " " ∷ digits_in 5 at ∷ codes "-" ∷ digits_in 5 (at + 2)
+    ∷ codes "  " ∷ cell_text (cell_at storage at) ∷ cell_text (cell_at storage (at + 1))
+    ∷ cell_text (cell_at storage (at + 2)) ∷ codes " = " ∷ digits_in 1 (value_at storage at) ∷ codes "\n" ∷ [])
 
 unfoldable pub index_text : Storage → List ℕ
 index_text storage =
@@ -88,24 +69,13 @@ pending_text None = []
 pending_text (Some (Space lines)) = codes "; after the next print it spaces " ++ digits_in 1 lines
 pending_text (Some (Skip line)) = codes "; after the next print it skips to line " ++ digits_in 1 line
 
--- how many cards and lines are in the devices
-unfoldable pub counts_text : Regs → List ℕ
-counts_text regs =
-    codes "hopper " ++ digits_in 1 regs.hopper ++ codes ", stacker " ++ digits_in 1 regs.stacker ++ codes ", paper "
-    ++ digits_in 1 regs.paper
-
--- where the carriage is
-unfoldable pub line_text : ℕ → List ℕ
-line_text line = codes "; the carriage is at line " ++ digits_in 1 line
-
-unfoldable pub form_text : ℕ → List ℕ
-form_text form = codes " of form " ++ digits_in 1 form
-
-unfoldable pub carriage_text : Regs → List ℕ
-carriage_text regs = line_text regs.line ++ form_text regs.form
-
+-- how many cards and lines are in the devices, and where the carriage is
 unfoldable pub devices_text : Regs → Option Control → List ℕ
-devices_text regs pending = counts_text regs ++ carriage_text regs ++ pending_text pending ++ codes "\n"
+devices_text regs pending =
+    concat (codes "hopper " ∷ digits_in 1 regs.hopper ∷ codes ", stacker " ∷ digits_in 1 regs.stacker ∷ codes ", paper "
+    ∷ digits_in 1 regs.paper ∷ codes "; the carriage is at line " ∷ digits_in 1 regs.line ∷ codes " of form "
+    ∷ digits_in 1 regs.form ∷ [])
+    ++ pending_text pending ++ codes "\n"
 
 -- the I register with what is there, A and B with their labels
 unfoldable pub addresses_text : Regs → List ℕ → List ℕ → List ℕ → List ℕ

@@ -60,10 +60,9 @@ rows_text storage first end =
     (range_with_len (first / row_places) ((end + 49) / row_places - first / row_places))
 
 -- the columns by tens and fives
-unfoldable pub ruler : List ℕ
+abbrev pub ruler : List ℕ
 ruler =
-    codes "       0         10        20        30        40\n"
-    ++ codes "       |....:....|....:....|....:....|....:....|....:....\n"
+    codes "       0         10        20        30        40\n       |....:....|....:....|....:....|....:....|....:....\n"
 
 -- the places from the first to before the end
 abbrev pub core_text : Storage → ℕ → ℕ → List ℕ

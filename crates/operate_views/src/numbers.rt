@@ -1,13 +1,14 @@
 //! A field as a number.
-ghost use Rattle.std.specs.Prelude.{◌≡◌, ◌<◌, ◌++◌, length, OnOk};
+ghost use Rattle.std.specs.Prelude.{◌≡◌, ◌==◌, length};
 ghost use Rattle.std.specs.List.{list_all};
 ghost use Rattle.bcd_1401.specs.Digits.{value_of};
+ghost use Rattle.bytes_text.specs.Written.{Adds};
 ghost use Rattle.core_1401.specs.Address.{is_digit};
-ghost use Rattle.fields_1401.specs.Number.{magnitude_of, sign_of};
-ghost use Rattle.operate_views.specs.NumberText.{figures, is_number, is_plain_digit, number_text, or_zero, sign_text};
+ghost use Rattle.fields_1401.specs.Number.{magnitude_of};
+ghost use Rattle.operate_views.specs.NumberText.{figures, is_number, is_plain_digit, number_text, or_zero};
 
 use bcd_1401::{Cell, Char};
-use std::alloc::AllocError;
+use bytes_text::Text;
 
 /// The zone over the units of a number below zero: B alone.
 const MINUS_ZONE: u8 = 2;
@@ -44,24 +45,10 @@ pub fn is_number(cells: &[Cell]) -> bool
     }
 }
 
-/// Adds a minus, if the zone over the units says so.
-fn put_sign(text: &mut Vec<u8>, cells: &[Cell]) -> Result<(), AllocError>
-    ensures { OnOk result (text.new.items ≡ text.old.items ++ sign_text (sign_of cells.now)) }
-{
-    match cells {
-        [] => Ok(()),
-        [units, ..] => {
-            if units.char.zone() == MINUS_ZONE {
-                text.push(b'-')?;
-            }
-            Ok(())
-        }
-    }
-}
-
-/// Adds the digits of the magnitude of cells, units first, without zeros in front.
-fn put_figures(text: &mut Vec<u8>, cells: &[Cell]) -> Result<(), AllocError>
-    ensures { OnOk result (text.new.items ≡ text.old.items ++ figures cells.now) }
+/// Adds the digits of the magnitude of cells, units first, without zeros in front; true if it is zero and has none.
+fn put_figures(text: &mut Text, cells: &[Cell]) -> bool
+    ensures text { Adds text.old text.new (figures cells.now) }
+    ensures zero { result ≡ (length (figures cells.now) == 0) }
 {
     let mut left = cells.len();
     let mut is_zero = true;
@@ -69,38 +56,28 @@ fn put_figures(text: &mut Vec<u8>, cells: &[Cell]) -> Result<(), AllocError>
         left -= 1;
         let digit = cells[left].char.digit_value();
         if !is_zero || digit != 0 {
-            text.push(b'0' + digit)?;
+            text.put_byte(b'0' + digit);
             is_zero = false;
         }
     }
-    Ok(())
-}
-
-/// Adds the digits of the magnitude of cells, units first; one zero for a zero.
-fn put_magnitude(text: &mut Vec<u8>, cells: &[Cell]) -> Result<(), AllocError>
-    ensures { OnOk result (text.new.items ≡ text.old.items ++ or_zero (figures cells.now)) }
-{
-    let from = text.len();
-    put_figures(text, cells)?;
-    if text.len() == from {
-        text.push(b'0')?;
-    }
-    Ok(())
+    is_zero
 }
 
 /// Adds the number of the cells of a field, units first: a minus if it is below zero, and its digits without zeros in
 /// front.
-///
-/// # Errors
-///
-/// If the memory for the text is refused. Some of the text may have been added then.
 #[tactic(auto, using(crate::proofs::NumberLemmas::value_of_magnitude))]
-pub fn put_number(text: &mut Vec<u8>, cells: &[Cell]) -> Result<(), AllocError>
-    ensures text { OnOk result (text.new.items ≡ text.old.items ++ number_text cells.now) }
+pub fn put_number(text: &mut Text, cells: &[Cell])
+    ensures text { Adds text.old text.new (number_text cells.now) }
 
     // The digits are those of the number that the machine takes the field for.
     ensures magnitude { value_of (or_zero (figures cells.now)) ≡ magnitude_of cells.now }
 {
-    put_sign(text, cells)?;
-    put_magnitude(text, cells)
+    if let [units, ..] = cells
+        && units.char.zone() == MINUS_ZONE
+    {
+        text.put_byte(b'-');
+    }
+    if put_figures(text, cells) {
+        text.put_byte(b'0');
+    }
 }

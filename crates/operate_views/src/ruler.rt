@@ -1,13 +1,13 @@
 //! Core storage under a ruler.
-ghost use Rattle.std.specs.Prelude.{◌≡◌, ◌+◌, ◌-◌, ◌*◌, ◌<◌, ◌≤◌, ◌++◌, length, map, OnOk, IfOk};
+ghost use Rattle.std.specs.Prelude.{◌≡◌, ◌+◌, ◌-◌, ◌*◌, ◌<◌, ◌≤◌, length, map, IfOk};
 ghost use Rattle.std.specs.List.{list_all, suffix_len};
+ghost use Rattle.bytes_text.specs.Written.{Adds};
 ghost use Rattle.operate_views.specs.Ruler.{chars_columns, chars_of, core_text, is_blank, is_unmarked, mark_column};
-ghost use Rattle.operate_views.specs.Ruler.{marks_columns, marks_row, numbered_row, row_cells, row_places, row_text};
-ghost use Rattle.operate_views.specs.Ruler.{rows_text, ruler, shown_at};
+ghost use Rattle.operate_views.specs.Ruler.{marks_row, numbered_row, row_cells, shown_at};
 
 use bcd_1401::{Cell, Char};
+use bytes_text::Text;
 use core_1401::Core;
-use machine_notation::{put_characters, put_digits};
 use std::alloc::{AllocError, Global};
 
 /// How many places a row has.
@@ -17,18 +17,9 @@ const ROW_PLACES: u16 = 50;
 const ADDRESS_DIGITS: u8 = 5;
 
 /// The columns by tens and by fives.
-const TENS: &[u8] = b"       0         10        20        30        40\n";
-
-const FIVES: &[u8] = b"       |....:....|....:....|....:....|....:....|....:....\n";
-
-/// Adds the ruler.
-#[tactic(auto, unfolding(crate::specs::Ruler::ruler))]
-fn put_ruler(text: &mut Vec<u8>) -> Result<(), AllocError>
-    ensures { OnOk result (text.new.items ≡ text.old.items ++ ruler) }
-{
-    text.extend_from_slice(TENS)?;
-    text.extend_from_slice(FIVES)
-}
+const RULER: &[u8] = b"       0         10        20        30        40
+       |....:....|....:....|....:....|....:....|....:....
+";
 
 /// What is shown in the column of a place: its cell if it is shown.
 fn shown_at(core: &Core, first: u16, end: u16, at: u16) -> Cell
@@ -96,112 +87,68 @@ fn unmarked_at_end(cells: &[Cell]) -> usize
 }
 
 /// Adds the characters of a row, after two columns.
-fn put_chars(alloc: Global, text: &mut Vec<u8>, cells: &[Cell]) -> Result<(), AllocError>
-    ensures { OnOk result (text.new.items ≡ text.old.items ++ chars_columns cells.now) }
+fn put_chars(alloc: Global, text: &mut Text, cells: &[Cell])
+    ensures { Adds text.old text.new (chars_columns cells.now) }
 {
     if are_blank(cells) {
-        return Ok(());
+        return;
     }
-    let chars = chars_of(alloc, cells)?;
-    text.extend_from_slice(b"  ".as_slice())?;
-    put_characters(text, chars.as_slice())
+    text.put(b"  ");
+    match chars_of(alloc, cells) {
+        Ok(chars) => text.put_characters(chars.as_slice()),
+        Err(_) => text.fail(),
+    }
 }
 
 /// Adds a tilde for each cell with a word mark, and a blank for each other.
-fn put_each_mark(text: &mut Vec<u8>, cells: &[Cell]) -> Result<(), AllocError>
-    ensures { OnOk result (text.new.items ≡ text.old.items ++ map mark_column cells.now) }
+fn put_marks(text: &mut Text, cells: &[Cell])
+    ensures { Adds text.old text.new (map mark_column cells.now) }
 {
     for cell in cells {
-        text.push(if cell.mark { b'~' } else { b' ' })?;
+        text.put_byte(if cell.mark { b'~' } else { b' ' });
     }
-    Ok(())
-}
-
-/// Adds the columns of the word marks, up to the last.
-fn put_marks(text: &mut Vec<u8>, cells: &[Cell]) -> Result<(), AllocError>
-    ensures { OnOk result (text.new.items ≡ text.old.items ++ marks_columns cells.now) }
-{
-    put_each_mark(text, &cells[..cells.len() - unmarked_at_end(cells)])
 }
 
 /// Adds the row of word marks, if there is one.
 #[tactic(auto, unfolding(crate::specs::Ruler::marks_row))]
-fn put_marks_row(text: &mut Vec<u8>, cells: &[Cell]) -> Result<(), AllocError>
-    ensures { OnOk result (text.new.items ≡ text.old.items ++ marks_row cells.now) }
+fn put_marks_row(text: &mut Text, cells: &[Cell])
+    ensures { Adds text.old text.new (marks_row cells.now) }
 {
     if are_unmarked(cells) {
-        return Ok(());
+        return;
     }
-    text.extend_from_slice(b"       ".as_slice())?;
-    put_marks(text, cells)?;
-    Ok(text.push(b'\n')?)
-}
-
-/// Adds a row by its cells.
-#[tactic(auto, unfolding(crate::specs::Ruler::row_text))]
-fn put_row(alloc: Global, text: &mut Vec<u8>, row: u16, cells: &[Cell]) -> Result<(), AllocError>
-    ensures { OnOk result (text.new.items ≡ text.old.items ++ row_text row cells.now) }
-{
-    put_digits(text, ADDRESS_DIGITS, u64::from(row))?;
-    put_chars(alloc, text, cells)?;
-    text.push(b'\n')?;
-    put_marks_row(text, cells)
+    text.put(b"       ");
+    put_marks(text, &cells[..cells.len() - unmarked_at_end(cells)]);
+    text.put_byte(b'\n');
 }
 
 /// Adds the row of this number.
-fn put_numbered_row(
-    alloc: Global,
-    text: &mut Vec<u8>,
-    core: &Core,
-    first: u16,
-    end: u16,
-    number: u16,
-) -> Result<(), AllocError>
+#[tactic(auto, unfolding(crate::specs::Ruler::row_text))]
+fn put_row(alloc: Global, text: &mut Text, core: &Core, first: u16, end: u16, number: u16)
     requires end { end ≤ length core.now }
     requires number { number < 1000 }
-    ensures { OnOk result (text.new.items ≡ text.old.items ++ numbered_row core.now first end number) }
+    ensures { Adds text.old text.new (numbered_row core.now first end number) }
 {
     let row = ROW_PLACES * number;
-    let cells = row_cells(alloc, core, first, end, row)?;
-    put_row(alloc, text, row, cells.as_slice())
-}
-
-/// Adds the rows of the places from the first to before the end.
-#[tactic(auto, using(crate::proofs::RulerLemmas::row_more))]
-fn put_rows(
-    alloc: Global,
-    text: &mut Vec<u8>,
-    core: &Core,
-    first: u16,
-    end: u16,
-) -> Result<(), AllocError>
-    requires end { end ≤ length core.now }
-    ensures { OnOk result (text.new.items ≡ text.old.items ++ rows_text core.now first end) }
-{
-    // No core storage has more than 16,000 places.
-    let _ = core.size();
-    for number in first / ROW_PLACES..end.div_ceil(ROW_PLACES) {
-        put_numbered_row(alloc, text, core, first, end, number)?;
-    }
-    Ok(())
+    let Ok(cells) = row_cells(alloc, core, first, end, row) else {
+        return text.fail();
+    };
+    text.put_number(ADDRESS_DIGITS, u64::from(row));
+    put_chars(alloc, text, cells.as_slice());
+    text.put_byte(b'\n');
+    put_marks_row(text, cells.as_slice());
 }
 
 /// Adds the places from the first to before the end, fifty a row under a ruler; a tilde is below each place with a word
 /// mark. Each line ends with a line feed.
-///
-/// # Errors
-///
-/// If memory is refused. Some of the text may have been added then.
-pub fn put_core(
-    alloc: Global,
-    text: &mut Vec<u8>,
-    core: &Core,
-    first: u16,
-    end: u16,
-) -> Result<(), AllocError>
+pub fn put_core(alloc: Global, text: &mut Text, core: &Core, first: u16, end: u16)
     requires end { end ≤ length core.now }
-    ensures { OnOk result (text.new.items ≡ text.old.items ++ core_text core.now first end) }
+    ensures { Adds text.old text.new (core_text core.now first end) }
 {
-    put_ruler(text)?;
-    put_rows(alloc, text, core, first, end)
+    // No core storage has more than 16,000 places.
+    let _ = core.size();
+    text.put(RULER);
+    for number in first / ROW_PLACES..end.div_ceil(ROW_PLACES) {
+        put_row(alloc, text, core, first, end, number);
+    }
 }

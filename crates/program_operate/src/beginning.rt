@@ -4,6 +4,7 @@ ghost use Rattle.std.specs.Prelude.{◌≢◌, IfErr};
 use crate::decks::{NamedDeck, carry};
 use crate::fault::OperateFault;
 use crate::opening::{Opened, Reading, labels_of, open_room};
+use bytes_text::Text;
 use devices_1401::Card;
 use machine_graphics::Graphics;
 use machine_panel::SwitchName;
@@ -22,7 +23,7 @@ pub(crate) struct Around {
     /// The cards for which the hopper has no room.
     pub hand: Vec<Card>,
     /// What is said at the beginning.
-    pub greeting: Vec<u8>,
+    pub greeting: Text,
 }
 
 impl Around {
@@ -31,7 +32,22 @@ impl Around {
         Around {
             program,
             hand: Vec::new(alloc),
-            greeting: Vec::new(alloc),
+            greeting: Text::new(alloc),
+        }
+    }
+
+    /// Whether there was memory for what is said.
+    ///
+    /// # Errors
+    ///
+    /// `Run` with `Memory`.
+    pub(crate) fn written(&self) -> Result<(), OperateFault>
+        ensures { IfErr result (λ why. why ≢ OperateFault.Faulty) }
+    {
+        if self.greeting.is_whole() {
+            Ok(())
+        } else {
+            Err(OperateFault::Run(RunFault::Memory))
         }
     }
 }
@@ -96,16 +112,14 @@ fn put_beginning(
 ) -> Result<(), OperateFault>
     ensures { IfErr result (λ why. why ≢ OperateFault.Faulty) }
 {
-    match put_head(
+    put_head(
         alloc,
         &mut around.greeting,
         &around.program,
         room.machine(),
         name,
-    ) {
-        Ok(()) => Ok(()),
-        Err(_) => Err(OperateFault::Run(RunFault::Memory)),
-    }
+    );
+    around.written()
 }
 
 /// Turns sense switches on, and puts two decks into the hopper; if there is the first, which loads itself, the load key

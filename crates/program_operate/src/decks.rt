@@ -49,16 +49,14 @@ impl NamedDeck {
         ensures { IfErr result (λ why. why ≢ OperateFault.Faulty) }
     {
         feed_cards(room, self.cards.as_slice(), &mut around.hand)?;
-        match put_deck(
+        put_deck(
             &mut around.greeting,
             self.name.as_bytes(),
             self.cards.len() as u64,
             room.machine(),
             around.hand.len(),
-        ) {
-            Ok(()) => Ok(()),
-            Err(_) => Err(OperateFault::Run(RunFault::Memory)),
-        }
+        );
+        around.written()
     }
 }
 

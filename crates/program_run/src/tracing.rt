@@ -7,6 +7,7 @@ ghost use Rattle.program_run.specs.RunTrace.{IsOfSize, IsWhyUntraced, lines_afte
 
 use crate::deck_running::Broken;
 use bytes_streams::{Sink, put_all};
+use bytes_text::Text;
 use cpu_1401::{Machine, Stop};
 use job_runner::STRETCH;
 use job_trace::{Snapshot, Work};
@@ -93,13 +94,15 @@ impl<F: Sink> Trace<F> {
         let Some(file) = &mut self.file else {
             return Ok(());
         };
-        let Ok(mut text) = Vec::with_capacity(alloc, USUAL_LINE) else {
+        let Ok(bytes) = Vec::with_capacity(alloc, USUAL_LINE) else {
             return Err(Broken::Memory);
         };
-        if before.put_line(&mut text, machine, work, stop).is_err() {
+        let mut text = Text::of(bytes);
+        before.put_line(&mut text, machine, work, stop);
+        let Ok(line) = text.into_bytes() else {
             return Err(Broken::Memory);
-        }
-        match put_all(file, text.as_slice()) {
+        };
+        match put_all(file, line.as_slice()) {
             Ok(()) => Ok(()),
             Err(_) => Err(Broken::Trace),
         }

@@ -10,7 +10,7 @@ loop-at-init c =
     let at = c.next_change-at.result in
     record {
       walked = at_first before after at c.requires c.next_change-at.ensures;
-      text = first_text c.args.text.now.items before after at c.requires c.next_change-at.ensures;
+      text = λ whole. (whole, first_text c.args.text.now.items before after at c.requires c.next_change-at.ensures);
     }
 
 pub loop-at-preserved : goal.loop-at-preserved
@@ -31,17 +31,25 @@ loop-at-preserved c =
           at_next old c.loop-at.before c.copy_cells.new.before after c.loop-at.at c.end_of_change-end.result
           c.next_change-at-in-loop-at.result walked lt c.end_of_change-end.ensures copied
           c.next_change-at-in-loop-at.ensures;
-      text = next_text c.loop-at.text.items c.put_change.new.text.items old c.loop-at.before c.copy_cells.new.before
-          after c.loop-at.at c.end_of_change-end.result c.next_change-at-in-loop-at.result walked lt
-          c.end_of_change-end.ensures copied c.next_change-at-in-loop-at.ensures c.in_ok-put_change.ensures
-          ∙ c.loop-at.invariant.text;
+      text = λ whole.
+          let last = c.put_change.ensures whole in
+          let front = c.loop-at.invariant.text last.0 in (
+            front.0,
+            next_text c.loop-at.text.items c.put_change.new.text.items old c.loop-at.before c.copy_cells.new.before
+                after c.loop-at.at c.end_of_change-end.result c.next_change-at-in-loop-at.result walked lt
+                c.end_of_change-end.ensures copied c.next_change-at-in-loop-at.ensures last.1
+                ∙ front.1,
+          );
     }
 
 pub returns-clause-text : goal.returns-clause-text
-returns-clause-text c =
-    let past : length c.args.after.now ≤ c.loop-at.at = omega (arith, c.loop-at-test.false, c.size-size.ensures.value) in
-    sym (all_text c.loop-at.text.items c.args.before.now c.loop-at.before c.args.after.now c.loop-at.at
-    c.loop-at.invariant.walked past) ∙ c.loop-at.invariant.text
+returns-clause-text c whole =
+    let front = c.loop-at.invariant.text whole in
+    let past : length c.args.after.now ≤ c.loop-at.at = omega (arith, c.loop-at-test.false, c.size-size.ensures.value) in (
+      front.0,
+      sym (all_text c.loop-at.text.items c.args.before.now c.loop-at.before c.args.after.now c.loop-at.at
+          c.loop-at.invariant.walked past) ∙ front.1,
+    )
 
 pub returns-clause-same : goal.returns-clause-same
 returns-clause-same c =

@@ -1,5 +1,6 @@
--- What is added, with the changes that are left, is all of them.
-use Rattle.std.proofs.Common.{◌≡◌, ◌-◌, ◌++◌, length}
+-- All changes but those that are left.
+use Rattle.std.proofs.Common.{◌-◌, length}
+use Rattle.bytes_text.specs.Written.{AddsBut}
 use Rattle.job_trace.specs.Changes.{changes_of, changes_on, changes_text}
 use Rattle.job_trace.proofs.WalkLemmas.{Walked}
 use Rattle.job_trace.proofs.changes.put_changes.Given as goal
@@ -7,8 +8,8 @@ use Rattle.job_trace.proofs.changes.put_changes.Given as goal
 abbrev pub invariant-loop-at : goal.invariant-loop-at
 invariant-loop-at l = record {
   walked : Walked l.fn.before l.before l.after l.at;
-  text : l.text.items ++ changes_text (changes_on l.at l.fn.before l.after)
-      ≡ l.initial.text.items ++ changes_text (changes_of l.fn.before l.after);
+  text : AddsBut l.initial.text l.text (changes_text (changes_on l.at l.fn.before l.after))
+      (changes_text (changes_of l.fn.before l.after));
 }
 
 abbrev pub decreases-loop-at : goal.decreases-loop-at

@@ -1,14 +1,9 @@
 -- Blanks follow the cells.
-use Rattle.std.proofs.Common.{◌≡◌, ℕ, ◌-◌, ◌++◌, ap, ◌∙◌, length, replicate, rules}
+use Rattle.bytes_text.proofs.AddsLemmas.{adds_padded}
 use Rattle.machine_notation.specs.Cells.{cells_text}
-use Rattle.job_trace.proofs.PlaceLemmas.{pad_added}
 use Rattle.job_trace.proofs.fetched.put_cell_columns.Goals as goal
 
 pub returns : goal.returns
 returns c =
-    let from : c.len-from.result ≡ length c.args.text.now.items = search rules in
-    let text = c.put_cells.new.text.items in
-    pad_added c.args.text.now.items text c.put_blanks.new.text.items (cells_text c.args.cells.now) 9
-    c.in_ok-put_cells.ensures
-    (c.in_ok-put_blanks.ensures
-    ∙ ap (λ (n : ℕ). text ++ replicate (9 - (length text - n)) 32) from)
+    adds_padded c.args.text.now c.put_cells.new.text c.pad.new.self (cells_text c.args.cells.now) c.len-from.result 9
+    c.len-from.ensures c.put_cells.ensures c.pad.ensures
