@@ -111,16 +111,16 @@ fn carry_all(trial: &mut Trial, room: &mut Room) {
     for _ in 0..5 {
         for line in COMMANDS {
             if let Ok(Line::Command(command)) = parse_line(line.as_bytes()) {
-                carry(trial, room, command);
+                carry(trial, room, &command);
             }
         }
     }
     show_room(trial, room);
 }
 
-fn carry(trial: &mut Trial, room: &mut Room, command: Command) {
+fn carry(trial: &mut Trial, room: &mut Room, command: &Command) {
     for _ in 0..2 {
-        let given = room.carry(0, command);
+        let given = room.carry(0, *command);
         if show_given(trial, 0, room.journal().len(), &given) {
             return;
         }
@@ -152,7 +152,7 @@ fn fill(trial: &mut Trial, room: &mut Room) {
         }
     }
     reserve(trial, room);
-    carry(trial, room, Command::SetI { address: 7 });
+    carry(trial, room, &Command::SetI { address: 7 });
     let (mut alike, journal) = (0usize, room.journal());
     for entry in journal {
         if Some(entry) == journal.first() {

@@ -55,12 +55,13 @@ fn give<J: RoomId, R: Wait>(
     lines: &[&str],
 ) {
     for line in lines {
-        if let Ok(Line::Command(command)) = parse_line(line.as_bytes()) {
-            for _ in 0..2 {
-                let given = room.command(rt, seat, command);
-                if show_given(trial, seat.number(), seat.made() as usize, &given) {
-                    break;
-                }
+        for _ in 0..2 {
+            let Ok(Line::Command(command)) = parse_line(line.as_bytes()) else {
+                break;
+            };
+            let given = room.command(rt, seat, command);
+            if show_given(trial, seat.number(), seat.made() as usize, &given) {
+                break;
             }
         }
     }
