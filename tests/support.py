@@ -27,7 +27,7 @@ LAUNCHER = TOP / "ibm1401"
 PROGRAM = Path(os.environ.get("IBM1401", TOP / "crates/ibm1401/out/ibm1401")).absolute()
 # The two other programs that are tested. The environment can name them too.
 LONE = Path(os.environ.get("LONE_CONSOLE", TOP / "crates/console_program/out/console_program")).absolute()
-TRIALS = Path(os.environ.get("TRIALS", TOP / "crates/tests_allocation/out/tests_allocation")).absolute()
+TRIALS = Path(os.environ.get("TRIALS", TOP / "crates/tests_library/out/tests_library")).absolute()
 
 # The page that is served: what page/embed joins of the files in page/.
 PAGE = subprocess.run([TOP / "page/embed", "--show"], stdout=subprocess.PIPE, check=True).stdout
