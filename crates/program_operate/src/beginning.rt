@@ -35,21 +35,6 @@ impl Around {
             greeting: Text::new(alloc),
         }
     }
-
-    /// Whether there was memory for what is said.
-    ///
-    /// # Errors
-    ///
-    /// `Run` with `Memory`.
-    pub(crate) fn written(&self) -> Result<(), OperateFault>
-        ensures { IfErr result (λ why. why ≢ OperateFault.Faulty) }
-    {
-        if self.greeting.is_whole() {
-            Ok(())
-        } else {
-            Err(OperateFault::Run(RunFault::Memory))
-        }
-    }
 }
 
 /// The room at which a person sits down, and what there is next to it.
@@ -103,7 +88,7 @@ fn name_of(alloc: Global, file: &Option<String>) -> Result<Option<Vec<u8>>, Oper
     }
 }
 
-/// Adds what is loaded and which instruction is next.
+/// Adds what is loaded and which instruction is next, if there was memory for all that is said.
 fn put_beginning(
     alloc: Global,
     around: &mut Around,
@@ -119,7 +104,11 @@ fn put_beginning(
         room.machine(),
         name,
     );
-    around.written()
+    if around.greeting.is_whole() {
+        Ok(())
+    } else {
+        Err(OperateFault::Run(RunFault::Memory))
+    }
 }
 
 /// Turns sense switches on, and puts two decks into the hopper; if there is the first, which loads itself, the load key

@@ -56,7 +56,7 @@ impl NamedDeck {
             room.machine(),
             around.hand.len(),
         );
-        around.written()
+        Ok(())
     }
 }
 
