@@ -46,7 +46,7 @@ async function attractIfIdle() {
 /* The guide begins for whoever has come, with a clear machine unless somebody works at another seat. */
 async function takeOver() {
   Object.assign(attract, {on: true, stop: true});
-  if (!attract.yields) await startAfresh();
+  if (!attract.yields && mayCommand()) await startAfresh();
   Object.assign(attract, {on: false, ended: performance.now()});
   document.body.classList.remove('attracts');
   guide.begin();
@@ -59,12 +59,11 @@ function yieldToOthers() {
 }
 function stepAside() {
   document.body.classList.remove('attracts');
-  guide.state = 'aside';
-  guide.draw();
+  guide.stepAside();
 }
 /* Clears the machine, feeds a deck that needs nobody, and runs it at the machine's own pace. */
 async function playDeck() {
-  const ends = () => attract.stop || attract.yields;
+  const ends = () => attract.stop || attract.yields || !mayCommand();
   await startAfresh();
   if (ends()) return;
   const shown = PROGRAMS.filter(program => program.alone);

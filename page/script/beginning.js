@@ -21,6 +21,8 @@ function putTexts() {
   for (const step of TEXTS.guideSteps) added(byId('guide-steps'), 'li', {textContent: step});
   buildAbout();
   buildKeyboard();
+  buildNameKeys();
+  reserveGuide();
   namePanel();
 }
 /* What can be chosen, by its names. */
@@ -74,7 +76,7 @@ function listenForClicks() {
     'load-key': pressLoad, 'run-key': pressRun, 'stop-key': pressStop, 'step-key': pressStep,
     'pick-key': () => byId('file').click(), 'card-key': takeCard, 'deck-key': () => feedText(byId('deck').value),
     'feed-key': feedChosen, 'all-cards-key': takeAllCards, 'afresh-key': pressAfresh, 'guide-key': () => guide.press(),
-    'view-key': pressView, 'hold-key': pressHold, 'sound-key': pressSound, 'card-print-key': printCard,
+    'view-key': pressView, 'hold-key': pressHold, 'turn-key': pressTurn, 'sound-key': pressSound, 'card-print-key': printCard,
     'about-key': showAbout, 'about-close': () => byId('about').close(),
     'feed-again-key': () => feedDeck([...taken]),
     'save-cards-key': () => saveFile('taken.cards', `${taken.join('\n')}\n`),
@@ -99,6 +101,7 @@ function listen() {
   byId('program').addEventListener('change', drawProgram);
   byId('language').addEventListener('change', () => chooseLanguage(byId('language').value));
   byId('name-form').addEventListener('submit', punchName);
+  byId('name').addEventListener('input', drawName);
   byId('keyboard').addEventListener('keydown', moveOnKeyboard);
   byId('start-form').addEventListener('submit', pressStart);
   byId('find').addEventListener('submit', findPlace);
@@ -148,6 +151,7 @@ function listenForFiles() {
   });
 }
 function resized() {
+  reserveGuide();
   if (columnsWanted() !== core.columns) buildCore();
   if (view.picture) draw();
 }
@@ -161,6 +165,7 @@ async function poll() {
     guide.look();
     lookForRenewal();
     lookForHold();
+    lookForTurn();
     attractIfIdle();
     await delay(view.link !== 'fine' ? RETRY_MS : document.hidden ? HIDDEN_POLL_MS : POLL_MS);
   }

@@ -86,8 +86,8 @@ async function takeIn(picture) {
 function noteNewState(shown, isNewRoom) {
   if (!shown) return;
   const {newRoom, resumed, clear} = TEXTS.said, words = view.picture.after < shown.after ? newRoom : resumed;
-  if (isNewRoom) note('words', words);
   if (isClearing) return;
+  if (isNewRoom) note('words', words);
   if (isNewRoom) beginAnew(words);
   else if (isClear(view.picture) && !isClear(shown)) beginAnew(clear);
 }

@@ -6,6 +6,7 @@ function draw() {
   drawCards();
   drawPaper();
   drawKeys();
+  guide.draw();
   followI();
   showChanges(drawnLast, view.picture);
   drawnLast = view.picture;

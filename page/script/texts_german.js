@@ -185,6 +185,8 @@ LANGUAGES.de = {
     clearing: 'Die Maschine wird geleert ..', clear: 'Die Maschine ist leer: keine Karte, kein Papier, nichts im '
       + 'Speicher.',
     prepared: 'Eine neue Maschine ist da, mit dem, was das Museum vorbereitet hat.',
+    nothing: 'Die Maschine ist leer: legen Sie erst ein Programm ein.',
+    loadFirst: 'Im Kernspeicher ist noch nichts: drücken Sie erst LOAD.', yourTurn: 'Sie sind an der Reihe.',
     notClear: 'Die Maschine ist nicht leer. Vielleicht arbeitet jemand anders. Versuchen Sie es noch einmal.',
   },
   stops: {
@@ -239,33 +241,44 @@ LANGUAGES.de = {
   guideTitle: 'Ihr erstes Programm', guideOn: 'Führung beginnen', guideOff: 'Ohne Führung',
   guideSteps: ['Einlegen', 'LOAD', 'STEP', 'RUN', 'Ihr Name'], stepDone: 'Schritt {n}, {name}: getan',
   stepOpen: 'Schritt {n}, {name}',
-  guideWords: [
-    'Drücken Sie "Programm einlegen": eine Karte mit dem Programm Hallo kommt ins Magazin. Sie ist ein ganzes '
+  guideWords: {
+    feed: 'Drücken Sie "Programm einlegen": eine Karte mit dem Programm Hallo kommt ins Magazin. Sie ist ein ganzes '
       + 'Programm.',
-    'Drücken Sie LOAD: die Maschine liest die Karte in ihre Stellen 001 bis 080.',
-    'Drücken Sie STEP: die Maschine führt einen Befehl aus. Die ersten setzen Wortmarken, die die '
+    load: 'Drücken Sie LOAD: die Maschine liest die Karte in ihre Stellen 001 bis 080.',
+    step: 'Drücken Sie STEP: die Maschine führt einen Befehl aus. Die ersten setzen Wortmarken, die die '
       + 'Karte in Befehle teilen.',
-    'Drücken Sie RUN: die Maschine führt die anderen aus, druckt eine Zeile und hält an. Sehen Sie aufs Papier.',
-    'Die Zeile ist auf dem Papier. Nun Ihr Name: schreiben Sie ihn hier, und stanzen Sie eine eigene Karte.',
-    'Ihre Karte ist im Magazin. Drücken Sie LOAD, um sie zu lesen.',
-    'Drücken Sie RUN, und sehen Sie aufs Papier.',
-  ],
+    run: 'Drücken Sie RUN: die Maschine führt die anderen aus, druckt eine Zeile und hält an. Sehen Sie aufs Papier.',
+    name: 'Die Zeile ist gedruckt. Nun Ihr Name: schreiben Sie ihn hier, und stanzen Sie eine eigene Karte.',
+    loadName: 'Ihre Karte ist im Magazin. Drücken Sie LOAD, um sie zu lesen.',
+    runName: 'Drücken Sie RUN, und sehen Sie aufs Papier.',
+    done: 'Ihr Name ist auf dem Papier. Speichern Sie es, drucken Sie die Karte, oder wählen Sie ein anderes Programm.',
+    other: 'Jemand hat Karten oder ein Programm in der Maschine gelassen. "Von vorn" leert sie; oder machen Sie damit '
+      + 'weiter.',
+    program: 'Das Programm {name} ist in der Maschine. Machen Sie damit weiter; oder drücken Sie "Von vorn", dann '
+      + 'beginnt die Führung.',
+    paper: 'Der Drucker ist voll: er fasst 500 Zeilen. Drücken Sie "Abreißen".',
+  },
   guide: {
     off: 'Die Führung bringt Sie in etwa zwei Minuten zu einer gedruckten Zeile mit Ihrem Namen.',
-    left: 'Jemand hat Karten, Papier oder ein Programm in der Maschine gelassen. "Von vorn" leert sie; '
-      + 'oder machen Sie damit weiter.',
     prepared: 'Das Museum hat diese Maschine vorbereitet: sie begann mit einem Programm oder mit Karten. Drücken Sie '
       + 'LOAD, wenn Karten da sind, dann RUN. "Von vorn" würde sie leeren.',
     preparedAgain: 'Das Museum hat diese Maschine vorbereitet: sie begann mit einem Programm oder mit Karten. Drücken '
       + 'Sie LOAD, wenn Karten da sind, dann RUN. "Von vorn" bringt eine neue, die genauso vorbereitet ist.',
     aside: 'Die Führung ist zur Seite getreten. Sie beginnt wieder, wenn Sie wollen.',
-    done: 'Ihr Name ist auf dem Papier. Sichern Sie es, drucken Sie die Karte, oder wählen Sie ein anderes Programm.',
     attract: 'Niemand ist hier, darum läuft die Maschine allein. Ein Druck auf den Bildschirm oder eine Taste '
       + 'übernimmt sie.',
-    waits: '(Die Führung wartet hier.)',
+  },
+  turn: {
+    busy: 'Platz {seat} ist an der Maschine. Drücken Sie "Anstellen", dann kommen Sie an die Reihe.',
+    next: 'Platz {seat} ist an der Maschine; Sie sind der Nächste.',
+    later: {one: 'Platz {seat} ist an der Maschine. Höchstens 1 anderer Platz ist vor Ihnen dran.',
+      many: 'Platz {seat} ist an der Maschine. Höchstens {n} andere Plätze sind vor Ihnen dran.'},
+    soon: 'Die Maschine ist frei. Der Nächste kommt an die Reihe.',
+    wait: 'Anstellen', leave: 'Nicht mehr warten', give: 'An den Nächsten geben',
   },
   nameLabel: 'Ihr Name', nameKey: 'Stanzen und einlegen', nameEmpty: 'Schreiben Sie erst einen Namen.',
-  nameWrong: 'Keine Karte hat {letter}.',
+  nameWrong: 'Keine Karte hat {letter}. Wählen Sie einen Namen mit A bis Z.', nameSpelt: 'Auf der Karte: {name}',
+  nameKeys: 'Tasten für Ihren Namen', alphabet: 'ABCDEFGHIJKLMNOPQRSTUVWXYZÄÖÜß', wipe: 'löschen',
   afreshKey: 'Von vorn', afreshTitle: 'leert die Maschine: Karten, Papier, Schalter und Kernspeicher',
   afreshAsk: 'Das leert die Maschine für alle: Karten, Papier, Schalter und Kernspeicher. Was diese Seite abgerissen '
     + 'und genommen hat, ist auch fort. Von vorn beginnen?',

@@ -59,15 +59,15 @@ header button:hover{background:var(--panel-light);color:var(--ivory);}
 .notice{background:var(--ink);color:#fff;font-weight:700;padding:9px 14px;}
 .banner{background:var(--red);color:#fff;font-weight:700;padding:9px 14px;}
 main{padding:8px 10px;max-width:2200px;margin:auto;}
-.stage{display:grid;gap:8px 10px;grid-template:"stand printer" auto "console printer" minmax(210px, 1fr)
-/ minmax(380px, 1fr) minmax(0, max(932px, 57%));}
+.stage{display:grid;gap:8px 10px;align-items:start;grid-template:"stand printer" auto "stand core" 1fr
+/ minmax(360px, 1fr) minmax(0, max(932px, 57%));}
 .stand{grid-area:stand;display:flex;flex-direction:column;gap:8px;min-width:0;}
 .below{display:grid;grid-template-columns:minmax(0, 1fr) minmax(0, 1fr);gap:10px;margin-top:10px;
 align-items:start;}
 section{background:var(--cabinet);border:1px solid var(--edge);border-radius:6px;min-width:0;
 box-shadow:0 1px 0 #fff inset,0 2px 5px #0002;display:flex;flex-direction:column;}
-.printing{grid-area:printer;height:max(520px, 100vh - 76px);position:sticky;top:8px;}
-.console{grid-area:console;}
+.printing{grid-area:printer;}
+.storage{grid-area:core;}
 .title{display:flex;flex-wrap:wrap;gap:4px 14px;align-items:center;padding:4px 12px;min-height:34px;
 border-bottom:1px solid var(--edge);}
 h2{margin:0;font-size:12px;letter-spacing:.14em;text-transform:uppercase;font-weight:700;
@@ -76,6 +76,7 @@ color:var(--soft);}
 .small-key{border:1px solid #8d8878;background:#fffdf6;border-radius:4px;padding:4px 11px;font-size:13px;}
 .small-key:hover:not([aria-disabled=true]){background:var(--warm);}
 .small-key[aria-disabled=true]{color:#585851;background:#e4e0d4;}
+.small-key[aria-pressed=true]{background:var(--blue);color:#fff;box-shadow:0 2px 4px #0006 inset;}
 .small-key.main{background:var(--blue);border-color:var(--blue);color:#fff;font-weight:700;}
 .small-key.main:hover:not([aria-disabled=true]){background:#1e4a6e;}
 .small-key.main[aria-disabled=true]{background:#e4e0d4;border-color:#8d8878;color:#585851;}
@@ -92,12 +93,23 @@ border-top:4px solid #8d8878;padding-top:4px;counter-increment:step;}
 .steps li.done{border-top-color:var(--green);}
 .steps li.done::before{content:"\2713 ";}
 .steps li[aria-current]{border-top-color:var(--lit);color:var(--ink);font-weight:700;}
-.guide p{margin:0;padding:6px 12px 8px;min-height:3.9em;}
+.guide{position:relative;}
+.probe{position:absolute;visibility:hidden;min-height:0 !important;inset:0 0 auto;}
+.guide p{margin:0;padding:6px 12px 8px;}
 .guide .row{padding:0 12px 9px;margin:0;}
+.guide .over-parts{position:absolute;inset:100% -1px auto;z-index:5;padding:10px 12px;background:var(--cabinet);
+border:1px solid var(--edge);border-radius:0 0 6px 6px;box-shadow:0 6px 14px #0005;}
+.name-keys{display:grid;grid-template-columns:repeat(auto-fill, minmax(44px, 1fr));gap:5px;flex:1 1 100%;}
+.name-keys button{height:44px;border:0;border-radius:4px;background:#2d3338;color:#fff;
+font:700 17px var(--mono);box-shadow:0 2px 0 #14181b;}
+.name-keys .wide{grid-column:span 2;background:var(--ivory);color:#1f2225;font:700 14px var(--sans);}
+.name-keys button:active{transform:translateY(2px);box-shadow:none;}
+#name-words{flex:1 1 100%;min-height:1.4em;}
 #name{width:15em;font:15px var(--mono);padding:4px 8px;text-transform:uppercase;border:1px solid #8d8878;
 border-radius:4px;background:#fff;}
-.lit{outline:4px solid var(--lit) !important;outline-offset:2px;animation:lit 1.2s infinite alternate;}
+.lit{outline:4px solid var(--lit) !important;outline-offset:2px;animation:lit 1.2s steps(3) infinite alternate;}
 .board .lit{outline-color:var(--lamp) !important;}
+.lit[aria-disabled=true]{outline:0 !important;animation:none;}
 @keyframes lit{from{outline-offset:1px;}to{outline-offset:4px;}}
 .attracts .guide{border:2px solid var(--lit);}
 .board{background:linear-gradient(var(--panel-light), var(--panel));color:var(--ivory);padding:10px 12px;
@@ -123,14 +135,14 @@ white-space:pre;overflow:hidden;min-height:30px;}
 background:linear-gradient(#dcd5c0 50%, #a9a28d 50%);font:700 13px var(--mono);}
 .switches button[aria-pressed=true]{background:linear-gradient(#a9a28d 50%, #ffdf9d 50%);padding:16px 0 0;}
 .keys{flex:1 1 100%;display:flex;flex-wrap:wrap;gap:8px;align-items:flex-end;}
-.key{border:0;border-radius:4px;min-width:58px;height:40px;padding:0 10px;font-weight:700;
+.key{border:0;border-radius:4px;min-width:58px;height:44px;padding:0 10px;font-weight:700;
 font-size:13px;letter-spacing:.07em;background:var(--ivory);color:#1f2225;box-shadow:0 3px 0 #8f8a79;}
 .key.go{background:var(--green);color:#fff;box-shadow:0 3px 0 #174a2e;}
 .key.halt{background:var(--red);color:#fff;box-shadow:0 3px 0 #651a0f;}
 .key:active:not([aria-disabled=true]){transform:translateY(2px);box-shadow:none;}
 .key[aria-disabled=true]{background:var(--off);color:#d5dce2;box-shadow:none;}
 .start{display:flex;align-items:flex-end;}
-.start input{width:4.6em;height:40px;border:0;border-radius:4px 0 0 4px;background:var(--well);
+.start input{width:4.6em;height:44px;border:0;border-radius:4px 0 0 4px;background:var(--well);
 color:var(--lamp);font:700 17px var(--mono);text-align:center;padding:0;}
 .start .key{border-radius:0 4px 4px 0;}
 .pace{margin-left:auto;}
@@ -236,8 +248,7 @@ padding:0 6px;font:700 14px var(--mono);box-shadow:0 2px 0 #14181b;}
 font:700 12px var(--sans);}
 #card-to-print{display:none;}
 .keyboard button:active{transform:translateY(2px);box-shadow:none;}
-.printer{display:grid;grid-template:minmax(0, 1fr) / 30px minmax(0, 1fr);gap:6px;padding:6px;
-flex:1 1 0;min-height:300px;}
+.printer{display:grid;grid-template:minmax(0, 1fr) / 30px minmax(0, 1fr);gap:6px;padding:6px;}
 .tape{width:30px;height:100%;}
 .tape .strip{fill:#fbf6e4;stroke:#b3a885;}
 .tape .hole{fill:#2c271d;}
@@ -246,7 +257,7 @@ flex:1 1 0;min-height:300px;}
 .machine{min-width:0;display:flex;flex-direction:column;container-type:inline-size;}
 .slot{flex:0 0 13px;background:linear-gradient(#5d646a, #2b2f33);border-radius:5px 5px 2px 2px;}
 .fold{margin:0 2px;overflow:auto;background:#a6a294;box-shadow:0 4px 9px #0003;position:relative;
-scrollbar-width:thin;flex:1 1 0;min-height:0;}
+scrollbar-width:thin;height:clamp(110px,calc(var(--lines, 0) * 1.1em + 100px),46vh);}
 .sheet{position:relative;border-bottom:1px dashed #8f8a7a;padding:0 16px;width:calc(32px + 79.6em);
 min-width:100%;font:max(11px,calc((100cqi - 48px) / 79.6))/1.18 var(--mono);
 background:repeating-linear-gradient(var(--paper) 0 3.54em, var(--bar) 3.54em 7.08em);}
@@ -261,7 +272,9 @@ background:radial-gradient(circle at 50% 50%, #8f8a7a 0 .42em, transparent .48em
 .paper-keys{display:flex;flex-wrap:wrap;gap:8px;padding:0 14px 11px;align-items:center;font-size:13px;
 color:var(--soft);}
 #sheets-to-print{display:none;}
-.log{flex:1 1 0;min-height:90px;overflow:auto;padding:9px 15px;
+.newest{display:none;position:fixed;inset:auto 0 0;z-index:4;padding:6px 14px;font:700 17px/1.4 var(--mono);
+white-space:pre;overflow:hidden;color:var(--print-ink);background:var(--bar);border-top:2px solid #8f8a7a;}
+.log{height:250px;overflow:auto;padding:9px 15px;
 font:14px/20px var(--mono);background:var(--log);border-bottom:1px solid var(--edge);}
 .log p{margin:0;white-space:pre-wrap;}
 .log .you{color:var(--blue);}
@@ -297,10 +310,13 @@ dialog svg path{stroke:#ffb238;stroke-width:3;fill:none;}
 .printer{grid-template:minmax(0, 1fr) / minmax(0, 1fr);padding:4px;}
 }
 @media (max-width:1299px){
-.stage{grid-template:"stand" "printer" "console" / minmax(0, 1fr);}
-.printing{position:static;height:max(400px, min(760px, 80vh));}
-.console{min-height:260px;}
+.stage{grid-template-columns:minmax(360px, 400px) minmax(0, 1fr);}
+}
+@media (max-width:899px){
+.stage{grid-template:"stand" "printer" "core" / minmax(0, 1fr);}
 .below{grid-template-columns:minmax(0, 1fr);}
+.newest{display:block;}
+body{padding-bottom:44px;}
 }
 @media (max-width:640px){
 main{padding:6px;}
@@ -315,6 +331,12 @@ main{padding:6px;}
 .lines td:first-child{white-space:normal;}
 .lines td{padding-right:8px;}
 }
+@media (min-width:3000px){
+body{zoom:1.75;}
+}
+@media (pointer:coarse){
+button,select,summary,.find label{min-height:44px;min-width:44px;}
+}
 @media (prefers-reduced-motion:reduce){
 *{animation:none !important;transition:none !important;scroll-behavior:auto !important;}
 }
@@ -326,7 +348,9 @@ color:CanvasText;border-bottom-color:Canvas;border-top-color:Canvas;}
 .core td.next.mark.mark{border-bottom-color:HighlightText;}
 .lamp,.bulbs i,header .after i{forced-color-adjust:none;background:Canvas;color:CanvasText;
 border:1px solid CanvasText;}
-.lamp.on,.bulbs i.on{background:Highlight;color:HighlightText;border:3px solid CanvasText;}
+.bulbs i{line-height:13px;}
+.lamp.on{border:3px solid CanvasText;}
+.lamp.on,.bulbs i.on{background:Highlight;color:HighlightText;}
 .switches button,.keyboard button,.key,.tabs button,header button{border:1px solid ButtonText;}
 [aria-pressed=true]{forced-color-adjust:none;background:Highlight !important;color:HighlightText !important;}
 .seats a[aria-current]{forced-color-adjust:none;background:Highlight;color:HighlightText;}
@@ -372,18 +396,20 @@ aria-hidden="true"></span></div>
 <div class="stand">
 <section class="guide" id="guide" aria-labelledby="guide-title">
 <div class="title"><h2 id="guide-title" data-text="guideTitle"></h2>
+<button type="button" class="small-key" id="turn-key" hidden></button>
 <button type="button" class="small-key" id="guide-key"></button>
 <button type="button" class="small-key" id="afresh-key" data-text="afreshKey" data-title="afreshTitle"></button>
 </div>
 <ol class="steps" id="guide-steps"></ol>
-<p id="guide-now"></p>
-<form class="row" id="name-form" hidden>
+<div id="guide-said"><p id="guide-now" aria-live="polite"></p>
+<div class="row" id="guide-end" hidden>
+<button type="button" class="small-key" id="card-print-key" data-text="cardPrintKey"></button></div></div>
+<form class="row over-parts" id="name-form" hidden>
 <label><span data-text="nameLabel"></span> <input id="name" maxlength="40" autocomplete="off"
 spellcheck="false" autocapitalize="characters"></label>
 <button class="small-key main" id="name-key" data-text="nameKey"></button>
-<span class="wrong" id="name-words"></span></form>
-<div class="row" id="guide-end" hidden>
-<button type="button" class="small-key" id="card-print-key" data-text="cardPrintKey"></button></div>
+<span id="name-words" role="status"></span>
+<div class="name-keys" id="name-keys" role="group" data-label="nameKeys"></div></form>
 </section>
 <section class="feeder" id="feeder" aria-labelledby="feeder-title">
 <h2 id="feeder-title" class="unseen" data-text="feeder"></h2>
@@ -456,18 +482,6 @@ data-label="startLabel">
 <button type="button" class="small-key" id="drop-key" data-text="dropKey" hidden></button>
 </div>
 </section>
-<section class="console" aria-labelledby="console-title">
-<div class="title"><h2 id="console-title" data-text="console"></h2><small id="others"></small>
-<button type="button" class="small-key" id="hold-key" data-title="holdTitle" hidden></button></div>
-<div class="log" id="log" role="log" aria-live="off" tabindex="0" data-label="logLabel"></div>
-<form id="line-form">
-<input id="line" maxlength="200" autocomplete="off" autocapitalize="characters" spellcheck="false"
-data-label="lineLabel" data-hint="lineHint"><button id="send-key" data-text="sendKey"></button></form>
-<details id="lines-details"><summary data-text="linesTitle"></summary>
-<table class="lines" id="lines"></table></details>
-</section>
-</div>
-<div class="below">
 <section class="storage" aria-labelledby="core-title">
 <div class="title"><h2 id="core-title" data-text="core"></h2>
 <span class="tabs" id="tabs" role="group" data-label="tabsLabel"></span></div>
@@ -485,12 +499,14 @@ autocomplete="off"></label>
 <span><i class="next"></i><span data-text="legendNext"></span></span>
 <span><i class="mark"></i><span data-text="legendMark"></span></span>
 </div>
-<details id="core-details"><summary data-text="coreText"></summary>
+<details id="core-details" data-label="coreText"><summary data-text="coreText"></summary>
 <pre class="as-text" id="core-text" tabindex="0" data-label="coreText"></pre></details>
-<details id="source-details" open><summary id="source-title"></summary>
+<details id="source-details" aria-labelledby="source-title" open><summary id="source-title"></summary>
 <p class="about-program" id="source-about"></p>
 <pre class="as-text" id="source" tabindex="0" role="region" data-label="sourceLabel"></pre></details>
 </section>
+</div>
+<div class="below">
 <section class="reader" id="reader" aria-labelledby="cards-title">
 <div class="title"><h2 id="cards-title" data-text="cards"></h2><small data-text="dropHere"></small></div>
 <div class="cards">
@@ -507,7 +523,7 @@ autocomplete="off"></label>
 <button type="button" class="small-key" id="feed-again-key" data-text="feedAgainKey" hidden></button>
 <span class="how" id="taken-words" role="status"></span>
 </div>
-<details class="desk" id="keypunch"><summary data-text="keypunch"></summary><div class="inside">
+<details class="desk" id="keypunch" data-label="keypunch"><summary data-text="keypunch"></summary><div class="inside">
 <figure class="card" id="card-keyed"></figure>
 <input class="keyed" id="keyed" maxlength="80" spellcheck="false" autocomplete="off" autocapitalize="characters"
 data-label="keyedLabel">
@@ -516,13 +532,24 @@ data-label="keyedLabel">
 <button type="button" class="small-key" id="program-key" data-text="programKey"></button>
 <span id="keyed-words"></span></div>
 </div></details>
-<details class="desk"><summary data-text="typedDeck"></summary><div class="inside">
+<details class="desk" data-label="typedDeck"><summary data-text="typedDeck"></summary><div class="inside">
 <textarea id="deck" rows="6" spellcheck="false" autocapitalize="characters" data-label="typedDeck"></textarea>
 <div class="row"><button type="button" class="small-key main" id="deck-key" data-text="deckKey"></button></div>
 </div></details>
 </section>
+<section class="console" aria-labelledby="console-title">
+<div class="title"><h2 id="console-title" data-text="console"></h2><small id="others"></small>
+<button type="button" class="small-key" id="hold-key" data-title="holdTitle" hidden></button></div>
+<div class="log" id="log" role="log" aria-live="off" tabindex="0" data-label="logLabel"></div>
+<form id="line-form">
+<input id="line" maxlength="200" autocomplete="off" autocapitalize="characters" spellcheck="false"
+data-label="lineLabel" data-hint="lineHint"><button id="send-key" data-text="sendKey"></button></form>
+<details id="lines-details" data-label="linesTitle"><summary data-text="linesTitle"></summary>
+<table class="lines" id="lines"></table></details>
+</section>
 </div>
 </main>
+<div class="newest" id="newest" aria-hidden="true" hidden></div>
 <footer data-text="footer"></footer>
 <dialog id="help" aria-labelledby="help-title">
 <h2 id="help-title" data-text="shortcutsTitle"></h2><table class="lines" id="help-shortcuts"></table>
@@ -722,6 +749,8 @@ resumed:'The room was opened again; its machine is as you see it.',
 renewing:'A new machine is asked for ..',
 clearing:'The machine is being cleared ..',clear:'The machine is clear: no card, no paper, nothing in core.',
 prepared:'A new machine is here, with what the staff has prepared.',
+nothing:'The machine is empty: feed a program first.',loadFirst:'Nothing is in core storage yet: press LOAD first.',
+yourTurn:'It is your turn.',
 notClear:'The machine isn\'t clear. Perhaps somebody else is at work. Try again.',
 },
 stops:{
@@ -776,31 +805,40 @@ lines:[
 guideTitle:'Your first program',guideOn:'Begin the guide',guideOff:'Without the guide',
 guideSteps:['Feed','LOAD','STEP','RUN','Your name'],stepDone:'step {n}, {name}: done',
 stepOpen:'step {n}, {name}',
-guideWords:[
-'Press "Feed this program": a card with the program Hello goes into the hopper. One card is a whole program.',
-'Press LOAD: the machine reads the card into its places 001 to 080.',
-'Press STEP: the machine carries out one instruction. The first ones set word marks, which divide the '
+guideWords:{
+feed:'Press "Feed this program": a card with the program Hello goes into the hopper. One card is a whole program.',
+load:'Press LOAD: the machine reads the card into its places 001 to 080.',
+step:'Press STEP: the machine carries out one instruction. The first ones set word marks, which divide the '
 + 'card into instructions.',
-'Press RUN: the machine carries out the others, prints a line, and halts. Watch the paper.',
-'The line is on the paper. Now your name: write it here, and punch a card of your own.',
-'Your card is in the hopper. Press LOAD to read it.',
-'Press RUN, and look at the paper.',
-],
+run:'Press RUN: the machine carries out the others, prints a line, and halts. Watch the paper.',
+name:'The line is printed. Now your name: write it here, and punch a card of your own.',
+loadName:'Your card is in the hopper. Press LOAD to read it.',
+runName:'Press RUN, and look at the paper.',
+done:'Your name is on the paper. Save it, print the card to take home, or choose another program.',
+other:'Somebody has left cards or a program in the machine. Press "Start afresh" to clear it; or go on with it.',
+program:'The program {name} is in the machine. Go on with it; or press "Start afresh", and the guide begins.',
+paper:'The printer is full: it holds 500 lines. Press "Tear off" to go on.',
+},
 guide:{
 off:'The guide leads you to a printed line with your name, in about two minutes.',
-left:'Somebody has left cards, paper or a program in the machine. Press "Start afresh" to clear it; or go on '
-+ 'with it.',
 prepared:'The staff has prepared this machine: it was begun with a program or with cards. Press LOAD if there are '
 + 'cards, then RUN. "Start afresh" would clear it.',
 preparedAgain:'The staff has prepared this machine: it was begun with a program or with cards. Press LOAD if '
 + 'there are cards, then RUN. "Start afresh" brings a new one, prepared in the same way.',
 aside:'The guide has stepped aside. It begins again when you like.',
-done:'Your name is on the paper. Save it, print the card to take home, or choose another program.',
 attract:'Nobody is here, so the machine runs by itself. Touch the screen or a key to take over.',
-waits:'(The guide waits here.)',
+},
+turn:{
+busy:'Seat {seat} is at the machine. Press "Wait in line", and your turn comes.',
+next:'Seat {seat} is at the machine; you are next.',
+later:{one:'Seat {seat} is at the machine. At most 1 other seat comes before you.',
+many:'Seat {seat} is at the machine. At most {n} other seats come before you.'},
+soon:'The machine is free. The next in line is called.',
+wait:'Wait in line',leave:'Leave the line',give:'Give it to the next',
 },
 nameLabel:'Your name',nameKey:'Punch and feed',nameEmpty:'Write a name first.',
-nameWrong:'No card has {letter}.',
+nameWrong:'No card has {letter}. Choose a name in A to Z.',nameSpelt:'On the card: {name}',
+nameKeys:'keys for your name',alphabet:'ABCDEFGHIJKLMNOPQRSTUVWXYZ',wipe:'wipe',
 afreshKey:'Start afresh',afreshTitle:'clears the machine: cards, paper, switches and core storage',
 afreshAsk:'This clears the machine for everybody: cards, paper, switches and core storage. What this page has torn '
 + 'off and taken goes too. Start afresh?',
@@ -1035,6 +1073,8 @@ renewing:'Eine neue Maschine wird verlangt ..',
 clearing:'Die Maschine wird geleert ..',clear:'Die Maschine ist leer: keine Karte, kein Papier, nichts im '
 + 'Speicher.',
 prepared:'Eine neue Maschine ist da, mit dem, was das Museum vorbereitet hat.',
+nothing:'Die Maschine ist leer: legen Sie erst ein Programm ein.',
+loadFirst:'Im Kernspeicher ist noch nichts: dr\xfccken Sie erst LOAD.',yourTurn:'Sie sind an der Reihe.',
 notClear:'Die Maschine ist nicht leer. Vielleicht arbeitet jemand anders. Versuchen Sie es noch einmal.',
 },
 stops:{
@@ -1066,10 +1106,7 @@ replies:{
 'ERROR 5':'Nach dem Ende des Befehls kommt noch etwas.',
 'FAULT 1':'F\xfcr den n\xe4chsten Eintrag des Journals war kein Speicher da.',
 'FAULT 2':'Das Journal ist voll.',
-'FAULT 3':'Nicht ausgef\xfchrt: der Platz lie\xdf sich nicht mit dem Journal vergleichen.',"##;
-
-/// The rest of the page.
-pub const REST: &[u8] = br##"
+'FAULT 3':'Nicht ausgef\xfchrt: der Platz lie\xdf sich nicht mit dem Journal vergleichen.',
 'FAULT 4':'Die Datei des Journals l\xe4sst sich nicht schreiben.',
 'GLANCE FAULT 1':'Diese Stelle gibt es nicht.',
 'GLANCE FAULT 2':'Es gab nichts zu lesen.',
@@ -1092,33 +1129,47 @@ lines:[
 guideTitle:'Ihr erstes Programm',guideOn:'F\xfchrung beginnen',guideOff:'Ohne F\xfchrung',
 guideSteps:['Einlegen','LOAD','STEP','RUN','Ihr Name'],stepDone:'Schritt {n}, {name}: getan',
 stepOpen:'Schritt {n}, {name}',
-guideWords:[
-'Dr\xfccken Sie "Programm einlegen": eine Karte mit dem Programm Hallo kommt ins Magazin. Sie ist ein ganzes '
+guideWords:{
+feed:'Dr\xfccken Sie "Programm einlegen": eine Karte mit dem Programm Hallo kommt ins Magazin. Sie ist ein ganzes '
 + 'Programm.',
-'Dr\xfccken Sie LOAD: die Maschine liest die Karte in ihre Stellen 001 bis 080.',
-'Dr\xfccken Sie STEP: die Maschine f\xfchrt einen Befehl aus. Die ersten setzen Wortmarken, die die '
+load:'Dr\xfccken Sie LOAD: die Maschine liest die Karte in ihre Stellen 001 bis 080.',
+step:'Dr\xfccken Sie STEP: die Maschine f\xfchrt einen Befehl aus. Die ersten setzen Wortmarken, die die '
 + 'Karte in Befehle teilen.',
-'Dr\xfccken Sie RUN: die Maschine f\xfchrt die anderen aus, druckt eine Zeile und h\xe4lt an. Sehen Sie aufs Papier.',
-'Die Zeile ist auf dem Papier. Nun Ihr Name: schreiben Sie ihn hier, und stanzen Sie eine eigene Karte.',
-'Ihre Karte ist im Magazin. Dr\xfccken Sie LOAD, um sie zu lesen.',
-'Dr\xfccken Sie RUN, und sehen Sie aufs Papier.',
-],
+run:'Dr\xfccken Sie RUN: die Maschine f\xfchrt die anderen aus, druckt eine Zeile und h\xe4lt an. Sehen Sie aufs Papier.',
+name:'Die Zeile ist gedruckt. Nun Ihr Name: schreiben Sie ihn hier, und stanzen Sie eine eigene Karte.',
+loadName:'Ihre Karte ist im Magazin. Dr\xfccken Sie LOAD, um sie zu lesen.',
+runName:'Dr\xfccken Sie RUN, und sehen Sie aufs Papier.',
+done:'Ihr Name ist auf dem Papier. Speichern Sie es, drucken Sie die Karte, oder w\xe4hlen Sie ein anderes Programm.',
+other:'Jemand hat Karten oder ein Programm in der Maschine gelassen. "Von vorn" leert sie; oder machen Sie damit '
++ 'weiter.',
+program:'Das Programm {name} ist in der Maschine. Machen Sie damit weiter; oder dr\xfccken Sie "Von vorn", dann '
++ 'beginnt die F\xfchrung.',
+paper:'Der Drucker ist voll: er fasst 500 Zeilen. Dr\xfccken Sie "Abrei\xdfen".',
+},
 guide:{
 off:'Die F\xfchrung bringt Sie in etwa zwei Minuten zu einer gedruckten Zeile mit Ihrem Namen.',
-left:'Jemand hat Karten, Papier oder ein Programm in der Maschine gelassen. "Von vorn" leert sie; '
-+ 'oder machen Sie damit weiter.',
 prepared:'Das Museum hat diese Maschine vorbereitet: sie begann mit einem Programm oder mit Karten. Dr\xfccken Sie '
 + 'LOAD, wenn Karten da sind, dann RUN. "Von vorn" w\xfcrde sie leeren.',
 preparedAgain:'Das Museum hat diese Maschine vorbereitet: sie begann mit einem Programm oder mit Karten. Dr\xfccken '
 + 'Sie LOAD, wenn Karten da sind, dann RUN. "Von vorn" bringt eine neue, die genauso vorbereitet ist.',
-aside:'Die F\xfchrung ist zur Seite getreten. Sie beginnt wieder, wenn Sie wollen.',
-done:'Ihr Name ist auf dem Papier. Sichern Sie es, drucken Sie die Karte, oder w\xe4hlen Sie ein anderes Programm.',
+aside:'Die F\xfchrung ist zur Seite getreten. Sie beginnt wieder, wenn Sie wollen.',"##;
+
+/// The rest of the page.
+pub const REST: &[u8] = br##"
 attract:'Niemand ist hier, darum l\xe4uft die Maschine allein. Ein Druck auf den Bildschirm oder eine Taste '
 + '\xfcbernimmt sie.',
-waits:'(Die F\xfchrung wartet hier.)',
+},
+turn:{
+busy:'Platz {seat} ist an der Maschine. Dr\xfccken Sie "Anstellen", dann kommen Sie an die Reihe.',
+next:'Platz {seat} ist an der Maschine; Sie sind der N\xe4chste.',
+later:{one:'Platz {seat} ist an der Maschine. H\xf6chstens 1 anderer Platz ist vor Ihnen dran.',
+many:'Platz {seat} ist an der Maschine. H\xf6chstens {n} andere Pl\xe4tze sind vor Ihnen dran.'},
+soon:'Die Maschine ist frei. Der N\xe4chste kommt an die Reihe.',
+wait:'Anstellen',leave:'Nicht mehr warten',give:'An den N\xe4chsten geben',
 },
 nameLabel:'Ihr Name',nameKey:'Stanzen und einlegen',nameEmpty:'Schreiben Sie erst einen Namen.',
-nameWrong:'Keine Karte hat {letter}.',
+nameWrong:'Keine Karte hat {letter}. W\xe4hlen Sie einen Namen mit A bis Z.',nameSpelt:'Auf der Karte: {name}',
+nameKeys:'Tasten f\xfcr Ihren Namen',alphabet:'ABCDEFGHIJKLMNOPQRSTUVWXYZ\xc4\xd6\xdc\xdf',wipe:'l\xf6schen',
 afreshKey:'Von vorn',afreshTitle:'leert die Maschine: Karten, Papier, Schalter und Kernspeicher',
 afreshAsk:'Das leert die Maschine f\xfcr alle: Karten, Papier, Schalter und Kernspeicher. Was diese Seite abgerissen '
 + 'und genommen hat, ist auch fort. Von vorn beginnen?',
@@ -1425,8 +1476,8 @@ noteNewState(shown,isNewRoom);
 function noteNewState(shown,isNewRoom){
 if(!shown)return;
 const{newRoom,resumed,clear}=TEXTS.said,words=view.picture.after<shown.after?newRoom:resumed;
-if(isNewRoom)note('words',words);
 if(isClearing)return;
+if(isNewRoom)note('words',words);
 if(isNewRoom)beginAnew(words);
 else if(isClear(view.picture)&&!isClear(shown))beginAnew(clear);
 }
@@ -1636,11 +1687,30 @@ if(TEXTS.operations[(picture.next||'').split(' ')[0]])return false;
 tell(TEXTS.said.afterEnd);
 return true;
 }
+function warnsOfNothing(){
+const{cells,next,registers}=view.picture;
+if(next !==null||!cells.every(cell=>cell.graphic===' '&&!cell.mark))return false;
+tell(registers.HOPPER>0?TEXTS.said.loadFirst:TEXTS.said.nothing);
+return true;
+}
 function noteStop(stop){
 view.ended=stop&&stop.name==='HALT'?stop.next:null;
 if(view.ended !==null)happened('halt');
 }
-async function pressLoad(){
+const GUARD_MS=400;
+const guarded=new Set();
+async function once(key,action){
+if(guarded.has(key))return;
+guarded.add(key);
+drawKeys();
+await action();
+setTimeout(()=>{
+guarded.delete(key);
+drawKeys();
+},GUARD_MS);
+}
+const pressLoad=()=>once('load-key',loadCard);
+async function loadCard(){
 if(run||!mayCommand())return;
 view.ended=null;
 const outcome=await say('LOAD');
@@ -1651,7 +1721,7 @@ sound('read');
 happened('load');
 }
 async function pressStep(){
-if(run||!mayCommand()||warnsOfEnd())return;
+if(run||!mayCommand()||warnsOfEnd()||warnsOfNothing())return;
 const outcome=await say('RUN 1'),stop=stopOf(outcome.reply);
 tellOutcome(outcome,TEXTS.said.step);
 noteStop(stop);
@@ -1673,7 +1743,7 @@ run.stop=true;
 run.wake();
 }
 async function pressRun(){
-if(run||!mayCommand()||warnsOfEnd())return;
+if(run||!mayCommand()||warnsOfEnd()||warnsOfNothing())return;
 run={stop:false,slices:0,steps:0,waits:'',began:performance.now(),grown:1,wake:()=>{}};
 view.ended=null;
 tell('');
@@ -1758,8 +1828,8 @@ const COMMAND_KEYS=['load-key','run-key','step-key','start-key','feed-key','pick
 'all-cards-key','tear-key','send-key','release-key','deck-key','name-key','afresh-key','feed-again-key'];
 function drawKeys(){
 const may=mayCommand(),{PAPER,STACKER}=view.picture?view.picture.registers:{PAPER:0,STACKER:0};
-for(const id of COMMAND_KEYS)setOff(byId(id),!may);
-for(const id of['load-key','run-key','step-key','start-key'])setOff(byId(id),!may||run !==null);
+for(const id of COMMAND_KEYS)setOff(byId(id),!may||guarded.has(id));
+for(const id of['load-key','run-key','step-key','start-key'])setOff(byId(id),!may||run !==null||guarded.has(id));
 for(const button of byId('switches').children)setOff(button,!may);
 setOff(byId('stop-key'),run===null);
 setOff(byId('tear-key'),!may||taking !==null||PAPER===0);
@@ -1775,11 +1845,6 @@ setText(byId('running'),runWords());
 }
 let feed=null;
 let fedAt=null;
-function plain(text){
-const own={'\xe4':'AE','\xf6':'OE','\xfc':'UE','\xdf':'SS','\xe6':'AE','\xf8':'OE','\xe5':'AA','\u2019':'\'','\u2018':'\''};
-const spelt=[...text].map(letter=>own[letter.toLowerCase()]||letter).join('');
-return spelt.normalize('NFD').replace(/[\u0300-\u036f]/g,'').toUpperCase();
-}
 function deckOf(text){
 const lines=text.replace(/^\ufeff/,'').split('\n');
 if(lines[lines.length - 1]==='')lines.pop();
@@ -1795,9 +1860,9 @@ cards.push(card.trimEnd());
 return cards.length?{cards}:{fault:TEXTS.deckEmpty};
 }
 function noCard(letter){
-const spelt=plain(letter);
-const isSpelt=spelt !==letter&&[...spelt].every(each=>GRAPHICS.includes(each));
-return isSpelt?filled(TEXTS.noAccent,{letter,spelt}):TEXTS.noGraphic;
+const known=plain(letter);
+const isKnown=known !==letter&&known !==''&&[...known].every(each=>GRAPHICS.includes(each));
+return isKnown?filled(TEXTS.noAccent,{letter,spelt:known}):TEXTS.noGraphic;
 }
 function tellDeck(text,isWrong=false){
 byId('deck-words').classList.toggle('wrong',isWrong);
@@ -1881,10 +1946,12 @@ setText(byId('feed-count'),filled(feed.waits?TEXTS.feedWaits:TEXTS.feedingCount,
 function chosenProgram(){
 return PROGRAMS.find(program=>program.name===byId('program').value)||PROGRAMS[0];
 }
-function feedChosen(){
+const feedChosen=()=>once('feed-key',feedProgram);
+async function feedProgram(){
+if(feed||!mayCommand()||!(await takeTurn()))return;
 const program=chosenProgram(),words=TEXTS.programs[program.name];
 const cards=program.extra?[...program.cards,...program.extra()]:program.cards;
-return feedDeck(cards,words.fed);
+await feedDeck(cards,words.fed);
 }
 function drawProgram(){
 const program=chosenProgram(),words=TEXTS.programs[program.name];
@@ -2033,7 +2100,7 @@ Object.assign(renewal,{seconds:null,asked:-Infinity});
 drawNotice();
 }
 const HOLD_MS=1000;
-const hold={asked:-Infinity,seat:0,left:0,until:0,isPrepared:false};
+const hold={asked:-Infinity,seat:0,left:0,until:0,last:0,taken:[],isPrepared:false};
 const HOLD_FORM=/^HOLD (?:FREE|(\d+) FOR (\d+))\nLAST (?:NONE|(\d+) (.+))\nTAKEN([ \d]*)\nBEGAN (PLAIN|PREPARED)\n$/;
 const isHeld=()=>hold.seat !==0&&performance.now()<hold.until;
 const isHolder=()=>isHeld()&&view.picture !==null&&view.picture.seat===hold.seat;
@@ -2042,11 +2109,13 @@ function takeHold(text){
 const found=HOLD_FORM.exec(text);
 if(!found)return;
 const[,seat,left,last,line,taken,began]=found;
-Object.assign(hold,{seat:Number(seat||0),left:Number(left||0),isPrepared:began==='PREPARED'});
+Object.assign(hold,{seat:Number(seat||0),left:Number(left||0),isPrepared:began==='PREPARED',
+last:Number(seat||hold.last),taken:taken.split(' ').map(Number)});
 hold.until=performance.now()+ 1000*hold.left;
 view.others.last=last?{seat:Number(last),line}:null;
 drawTakenSeats(taken.split(' '));
 drawHold();
+guide.draw();
 }
 function drawTakenSeats(taken){
 for(const link of byId('seats').querySelectorAll('a:not([aria-current])')){
@@ -2067,8 +2136,8 @@ const text=await response.text();
 if(response.status===200||response.status===423)takeHold(text);
 }
 async function lookForHold(){
-const now=performance.now();
-if(view.link !=='fine'||now - hold.asked<(view.picture.seats===1?Infinity:HOLD_MS))return;
+const now=performance.now(),pause=turn.wants||turn.has&&hold.until - now<HOLD_MS?TURN_LOOK_MS:HOLD_MS;
+if(view.link !=='fine'||now - hold.asked<(isShared()?pause:Infinity))return;
 hold.asked=now;
 try{
 await askForHold('/hold','GET');
@@ -2076,13 +2145,14 @@ await askForHold('/hold','GET');
 hold.seat=0;
 }
 }
-async function pressHold(){
+async function askToHold(path){
 try{
-await askForHold(isHolder()?'/release':'/hold','POST');
+await askForHold(path,'POST');
 }catch{
 setLink('lost');
 }
 }
+const pressHold=()=>turn.has?giveTurn():askToHold(isHolder()?'/release':'/hold');
 function holdWords(){
 if(!isHeld())return '';
 return isHolder()?TEXTS.holder:filled(TEXTS.keptOff,{seat:hold.seat});
@@ -2124,7 +2194,7 @@ return I + HOPPER + STACKER + PAPER===0&&!/[A-G]/.test(SWITCHES)&&next===null
 async function pressAfresh(){
 if(!mayCommand()||taking||feed)return;
 const question=othersAtWork()?TEXTS.afreshOthers:TEXTS.afreshAsk;
-if(!(await confirmed(question)))return;
+if(!(await confirmed(question))||!(await takeTurn()))return;
 stopRun();
 while(run)await delay(SLICE_MS);
 await startAfresh(renewal.mode==='ON'?renewRoom:clearMachine);
@@ -2158,7 +2228,7 @@ if(byId('said-words').textContent===TEXTS.said.clear)tell(words);
 function beginAnew(words){
 forgetWords();
 tell(words);
-if(guide.state !=='off'&&guide.state !=='attract')guide.begin();
+if(!['off','attract'].includes(guide.state))guide.begin();
 }
 async function sendInTurn(lines,wanted){
 const{breaks}=view;
@@ -2181,101 +2251,272 @@ view.core=0;
 await inTurn(look);
 return true;
 }
-const GUIDE_STEPS=[
-{until:'fed',key:'feed-key',shown:0},{until:'load',key:'load-key',shown:1},
-{until:'step',key:'step-key',shown:2},{until:'halt',key:'run-key',shown:3},
-{until:'named',key:'name-key',shown:4},{until:'load',key:'load-key',shown:4},
-{until:'halt',key:'run-key',shown:4},
-];
-const GUIDE_WAITS_MS=120000;
-const MOST_DETOURS=3;
-const guide={
-at:0,state:'off',detours:0,since:0,
-begin(){
-const isLeft=view.picture !==null&&!isClear(view.picture),left=hold.isPrepared?'prepared':'left';
-Object.assign(this,{at:0,detours:0,since:performance.now(),state:isLeft?left:'on'});
-byId('program').value='hello';
-drawProgram();
-this.draw();
-},
-on(event){
-if(this.state==='done'&&event==='fed'){
-this.state='aside';
-this.draw();
+const TURN_IDLE_MS=60000;
+const TURN_SLOT_MS=1000;
+const TURN_LOOK_MS=200;
+const turn={has:false,wants:false,freeSince:null};
+const isShared=()=>view.picture !==null&&view.picture.seats>1;
+function placeInLine(){
+const{seat,seats}=view.picture,last=hold.seat||hold.last;
+let place=0;
+for(let by=1;by<=seats;by++){
+const at=(last + by - 1)% seats + 1;
+if(at===seat)return place + 1;
+if(hold.taken.includes(at))place++;
 }
-if(this.state !=='on'&&this.state !=='left')return;
-const next=GUIDE_STEPS.slice(this.at,this.at +(this.step()?.until==='named'?1:2));
-const ahead=next.findIndex(step=>step.until===event);
-this.since=performance.now();
-if(event==='fed'&&this.state==='left')this.state='on';
-if(ahead>=0&&this.state==='on'){
-this.at +=ahead + 1;
-this.detours=0;
-if(this.at===GUIDE_STEPS.length)this.state='done';
-}else if(event !=='run'&&++this.detours>MOST_DETOURS)this.state='aside';
-this.draw();
-},
-look(){
-const isLeft=run !==null&&!attract.on&&performance.now()- attract.touched>IDLE.attractMs;
-if(isLeft&&this.state !=='left'&&this.state !=='prepared')this.begin();
-const isLate=performance.now()- this.since>GUIDE_WAITS_MS;
-if((this.state==='on'&&this.at>0||this.state==='left')&&isLate&&!run){
-this.state='aside';
-this.draw();
+return place + 1;
 }
-},
-press(){
-if(this.state==='on'||this.state==='left'){
-this.state='off';
-this.draw();
-}else this.begin();
-},
-step(){
-return this.state==='on'?GUIDE_STEPS[this.at]:null;
-},
-draw(){
-const step=this.step(),lit=this.state==='left'?'afresh-key':step?step.key:'';
-for(const element of document.querySelectorAll('.lit'))element.classList.remove('lit');
-if(lit)byId(lit).classList.add('lit');
-[...byId('guide-steps').children].forEach((element,at)=>{
-const isDone=this.state==='done'||step !==null&&at<step.shown;
-element.classList.toggle('done',isDone);
-element.toggleAttribute('aria-current',step !==null&&at===step.shown);
-if(step !==null&&at===step.shown)element.setAttribute('aria-current','step');
-setAttribute(element,'aria-label',filled(isDone?TEXTS.stepDone:TEXTS.stepOpen,
-{n:at + 1,name:TEXTS.guideSteps[at]}));
-});
-byId('name-form').hidden=!step||step.until !=='named';
-byId('guide-end').hidden=this.state !=='done';
-setText(byId('guide-now'),this.words());
-setText(byId('guide-key'),this.state==='on'||this.state==='left'?TEXTS.guideOff:TEXTS.guideOn);
-},
-words(){
-if(this.state==='prepared'&&renewal.mode==='ON')return TEXTS.guide.preparedAgain;
-if(this.state !=='on')return TEXTS.guide[this.state];
-return TEXTS.guideWords[this.at]+(this.detours>1?` ${TEXTS.guide.waits}`:'');
-},
+async function takeTurn(){
+if(!isShared()||guide.state !=='on')return true;
+if(!isHolder())await askToHold('/hold');
+turn.has=isHolder();
+turn.wants=isKeptOff();
+turn.freeSince=null;
+guide.draw();
+return !isKeptOff();
+}
+async function giveTurn(){
+turn.has=false;
+if(isHolder())await askToHold('/release');
+guide.draw();
+}
+async function pressTurn(){
+if(turn.has){
+await giveTurn();
+return guide.stepAside();
+}
+turn.wants=!turn.wants;
+turn.freeSince=null;
+guide.draw();
+}
+function isTurnOver(){
+return performance.now()- attract.touched>TURN_IDLE_MS||[null,'done'].includes(guide.step());
+}
+async function lookForTurn(){
+if(!isShared()||view.link !=='fine')return;
+if(turn.has&&isKeptOff())Object.assign(turn,{has:false,wants:true});
+if(turn.has&&isTurnOver())await giveTurn();
+else if(turn.has&&!isHeld())await takeTurn();
+if(guide.state !=='on')turn.wants=false;
+if(turn.wants)await waitInLine();
+}
+async function waitInLine(){
+if(isHeld()){
+turn.freeSince=null;
+return guide.draw();
+}
+turn.freeSince??=performance.now();
+if(performance.now()- turn.freeSince<placeInLine()*TURN_SLOT_MS||!(await takeTurn()))return;
+noteHand();
+tell(TEXTS.said.yourTurn);
+}
+function turnWords(){
+if(!isHeld())return TEXTS.turn.soon;
+const n=placeInLine()- 1,values={seat:hold.seat,n};
+if(!turn.wants)return filled(TEXTS.turn.busy,values);
+return n===0?filled(TEXTS.turn.next,values):counted(TEXTS.turn.later,n,values);
+}
+function drawTurn(){
+byId('turn-key').hidden=!turn.has&&guide.step()!=='wait';
+setText(byId('turn-key'),turn.has?TEXTS.turn.give:turn.wants?TEXTS.turn.leave:TEXTS.turn.wait);
+}
+const NAME_MOST=CARD_COLUMNS - NAME_COLUMN;
+const SPELLINGS=new Map((
+'\u00e4AE \u00f6OE \u00fcUE \u00dfSS \u00e6AE \u0153OE \u00f8OE \u00e5AA \u0142L \u0111D \u00f0D \u00feTH \u0127H \u0131I '
++ '\u014bNG \u0167T \u0133IJ \u0138K \u017fS \u0259E \u0192F '
++ '\u03b1A \u03b2V \u03b3G \u03b4D \u03b5E \u03b6Z \u03b7I \u03b8TH \u03b9I \u03baK \u03bbL \u03bcM \u03bdN \u03beX \u03bfO '
++ '\u03c0P \u03c1R \u03c3S \u03c2S \u03c4T \u03c5Y \u03c6F \u03c7CH \u03c8PS \u03c9O '
++ '\u0430A \u0431B \u0432V \u0433G \u0434D \u0435E \u0436ZH \u0437Z \u0438I \u043aK \u043bL \u043cM \u043dN \u043eO '
++ '\u043fP \u0440R \u0441S \u0442T \u0443U \u0444F \u0445KH \u0446TS \u0447CH \u0448SH \u0449SHCH \u044a \u044bY \u044c '
++ '\u044dE \u044eYU \u044fYA \u0454YE \u0456I \u0457YI \u0491G \u0451YO \u0439Y \u045eU \u0452DJ \u0458J \u0459LJ '
++ '\u045aNJ \u045bC \u045fDZ \u0455DZ '
++ '\u05d0A \u05d1B \u05d2G \u05d3D \u05d4H \u05d5V \u05d6Z \u05d7H \u05d8T \u05d9Y \u05dbK \u05daK \u05dcL \u05deM \u05ddM '
++ '\u05e0N \u05dfN \u05e1S \u05e2A \u05e4P \u05e3F \u05e6TS \u05e5TS \u05e7K \u05e8R \u05e9SH \u05eaT '
++ '\u0627A \u0628B \u062aT \u062bTH \u062cJ \u062dH \u062eKH \u062fD \u0630DH \u0631R \u0632Z \u0633S \u0634SH \u0635S '
++ '\u0636D \u0637T \u0638Z \u0639A \u063aGH \u0641F \u0642Q \u0643K \u0644L \u0645M \u0646N \u0647H \u0648U \u064aI '
++ '\u0629A \u0649A \u0621 \u067eP \u0686CH \u06a9K \u06afG \u06ccI').split(' ').map(each=>[each[0],each.slice(1)]));
+function spelt(letter){
+const small=letter.toLowerCase();
+if(SPELLINGS.has(small))return SPELLINGS.get(small);
+const bare=small.normalize('NFD').replace(/[\u0300-\u036f\u064b-\u065f]/g,'');
+return SPELLINGS.get(bare)??bare.toUpperCase();
+}
+function plain(text){
+const quotes={'\u2019':'\'','\u2018':'\'','\u2013':'-','\u00a0':' '};
+return[...text.normalize('NFC')].map(letter=>quotes[letter]||spelt(letter)).join('');
+}
+function nameOnCard(){
+const name=plain(byId('name').value).trim().slice(0,NAME_MOST).trim();
+return{name,wrong:[...name].find(letter=>!GRAPHICS.includes(letter))};
+}
+function drawName(){
+const{name,wrong}=nameOnCard(),isSame=name===byId('name').value.trim().toUpperCase();
+byId('name-words').classList.toggle('wrong',wrong !==undefined);
+setText(byId('name-words'),wrong?filled(TEXTS.nameWrong,{letter:wrong})
+:name===''||isSame?'':filled(TEXTS.nameSpelt,{name}));
+}
+function writeLetter(letter){
+const field=byId('name');
+if(field.value.length<NAME_MOST)field.setRangeText(letter,field.selectionStart,field.selectionEnd,'end');
+drawName();
+}
+function wipeLetter(){
+const field=byId('name'),{selectionStart:at,selectionEnd:end}=field;
+if(end>at)field.setRangeText('',at,end,'end');
+else if(at>0)field.setRangeText('',at - 1,at,'end');
+drawName();
+}
+function buildNameKeys(){
+const target=byId('name-keys');
+target.replaceChildren();
+const key=(textContent,onclick,label)=>{
+const button=added(target,'button',{type:'button',textContent,onclick});
+button.setAttribute('aria-label',label||filled(TEXTS.keyTitle,{graphic:textContent}));
+return button;
 };
-onHappened.push(event=>guide.on(event));
+for(const letter of `${TEXTS.alphabet}0123456789-`)key(letter,()=>writeLetter(letter));
+key(TEXTS.keys.space,()=>writeLetter(' '),TEXTS.keys.space).className='wide';
+key('\u232b',wipeLetter,TEXTS.wipe).className='wide';
+}
 let nameCard=HELLO;
 async function punchName(event){
 event.preventDefault();
-const name=plain(byId('name').value).trim().slice(0,CARD_COLUMNS - NAME_COLUMN);
-const wrong=[...name].find(letter=>!GRAPHICS.includes(letter));
-setText(byId('name-words'),name===''?TEXTS.nameEmpty:wrong?filled(TEXTS.nameWrong,{letter:wrong}):'');
-if(name===''||wrong||!mayCommand()||feed)return;
+return once('name-key',feedName);
+}
+async function feedName(){
+const{name,wrong}=nameOnCard();
+drawName();
+if(name==='')setText(byId('name-words'),TEXTS.nameEmpty);
+if(name===''||wrong||!mayCommand()||feed||!(await takeTurn()))return;
 byId('name').value=name;
+drawName();
 nameCard=released=HELLO.slice(0,NAME_COLUMN)+ name;
-await feedDeck([nameCard],filled(TEXTS.fedName,{name}));
+Object.assign(guide,{card:nameCard,from:torn.length + view.paper.length});
 sound('punch');
-happened('named');
-byId('load-key').focus();
+await feedDeck([nameCard],filled(TEXTS.fedName,{name}));
 }
 function printCard(){
 cards.toPrint(nameCard);
 document.body.classList.add('prints-card');
 print();
 document.body.classList.remove('prints-card');
+}
+const GUIDE_WAITS_MS=120000;
+const HELLO_AT=[1,8,15,22,29,36,37];
+const HELLO_END=38;
+const GUIDE_STEPS={
+feed:{key:'feed-key',shown:0},load:{key:'load-key',shown:1},step:{key:'step-key',shown:2},
+run:{key:'run-key',shown:3},name:{key:'name-key',shown:4,focus:'name'},
+loadName:{key:'load-key',shown:4},runName:{key:'run-key',shown:4},done:{key:'',shown:5},
+other:{key:'afresh-key',shown:-1},paper:{key:'tear-key',shown:-1},wait:{key:'turn-key',shown:-1},
+};
+const isHello=text=>text !==null&&text.startsWith(HELLO.slice(0,NAME_COLUMN));
+function isPrinted(card,from){
+return[...torn,...view.paper].slice(from).some(line=>line.text===card.slice(NAME_COLUMN));
+}
+function isFree({cells,from,read,next,registers}){
+if(isHello(read)&&registers.I===HELLO_END)return from>0||cells.slice(201,333).every(cell=>!cell.mark);
+return next===null&&cells.every(cell=>cell.graphic===' '&&!cell.mark);
+}
+function stepOf(picture,{hasFed,card,from}){
+const{registers:{I,HOPPER,PAPER},read,hopper}=picture,isOurs=text=>text===HELLO||text===card;
+if(card !==null&&isPrinted(card,from))return 'done';
+if(PAPER>=MOST_CARDS)return 'paper';
+if(isOurs(read)&&HELLO_AT.includes(I))return card !==null?'runName':I===1?'step':'run';
+if(HOPPER>0)return !isOurs(hopper)?'other':card !==null?'loadName':'load';
+if(!isFree(picture))return 'other';
+return hasFed&&isOurs(read)?'name':'feed';
+}
+function programThere({read,hopper}){
+const has=({cards},card)=>cards.some(each=>each.trimEnd()===card);
+const found=PROGRAMS.filter(each=>(hopper===null||has(each,hopper))&&(read===''||has(each,read)));
+return(hopper !==null||read !=='')&&found.length===1?found[0].name:null;
+}
+const guide={
+state:'off',hasFed:false,card:null,from:0,since:0,lit:'',
+begin(){
+const isPrepared=hold.isPrepared&&view.picture !==null&&!isClear(view.picture);
+Object.assign(this,{hasFed:false,card:null,since:performance.now(),state:isPrepared?'prepared':'on'});
+byId('program').value='hello';
+drawProgram();
+this.draw();
+},
+on(event){
+this.since=performance.now();
+if(event==='fed'){
+if(this.step()==='done')this.card=null;
+this.hasFed=true;
+}
+this.draw();
+},
+look(){
+const now=performance.now(),isLeft=run !==null&&!attract.on&&now - attract.touched>IDLE.attractMs;
+if(isLeft&&this.state==='aside')this.begin();
+const isLate=now - Math.max(this.since,attract.touched)>GUIDE_WAITS_MS;
+if(this.state==='on'&&!['feed','wait'].includes(this.step())&&isLate&&!run)this.stepAside();
+},
+stepAside(){
+this.state='aside';
+this.draw();
+},
+press(){
+if(this.state !=='on')return this.begin();
+this.state='off';
+this.draw();
+},
+step(){
+if(this.state !=='on'||view.picture===null)return null;
+return turn.wants||isKeptOff()?'wait':stepOf(view.picture,this);
+},
+draw(){
+const name=this.step(),step=name&&GUIDE_STEPS[name],shown=step?step.shown:-1;
+this.light(step?step.key:'',step&&step.focus);
+[...byId('guide-steps').children].forEach((element,at)=>{
+element.classList.toggle('done',at<shown);
+element.toggleAttribute('aria-current',at===shown);
+if(at===shown)element.setAttribute('aria-current','step');
+setAttribute(element,'aria-label',filled(at<shown?TEXTS.stepDone:TEXTS.stepOpen,
+{n:at + 1,name:TEXTS.guideSteps[at]}));
+});
+byId('name-form').hidden=name !=='name';
+byId('guide-end').hidden=name !=='done';
+setText(byId('guide-now'),this.words(name));
+setText(byId('guide-key'),this.state==='on'?TEXTS.guideOff:TEXTS.guideOn);
+drawTurn();
+},
+light(lit,focus){
+if(lit===this.lit)return;
+const before=this.lit&&byId(this.lit);
+this.lit=lit;
+if(before)before.classList.remove('lit');
+if(!lit)return;
+byId(lit).classList.add('lit');
+if(before&&before===document.activeElement)setTimeout(()=>byId(focus||lit).focus());
+},
+words(name){
+if(name===null)return TEXTS.guide[this.state==='on'?'off':this.preparedWords()];
+if(name==='wait')return turnWords();
+const there=name==='other'?programThere(view.picture):null;
+return there?filled(TEXTS.guideWords.program,{name:TEXTS.programs[there].name}):TEXTS.guideWords[name];
+},
+preparedWords(){
+return this.state==='prepared'&&renewal.mode==='ON'?'preparedAgain':this.state;
+},
+};
+onHappened.push(event=>guide.on(event));
+function reserveGuide(){
+const probe=byId('guide-said').cloneNode(true),[words,end]=probe.children;
+probe.id=words.id='';
+probe.className='probe';
+words.removeAttribute('aria-live');
+byId('guide').append(probe);
+const heights=Object.entries(TEXTS.guideWords).map(([name,text])=>{
+words.textContent=text;
+end.hidden=name !=='done';
+return probe.offsetHeight + 1;
+});
+probe.remove();
+byId('guide-said').style.minHeight=`${Math.max(...heights)}px`;
 }
 const IDLE={attractMs:180000,pauseMs:90000,seatMs:20000,mostAfter:JOURNAL_ENTRIES / 2};
 const attract={on:false,stop:false,yields:false,press:false,touched:performance.now(),
@@ -2319,7 +2560,7 @@ if(attract.yields)stepAside();
 }
 async function takeOver(){
 Object.assign(attract,{on:true,stop:true});
-if(!attract.yields)await startAfresh();
+if(!attract.yields&&mayCommand())await startAfresh();
 Object.assign(attract,{on:false,ended:performance.now()});
 document.body.classList.remove('attracts');
 guide.begin();
@@ -2331,11 +2572,10 @@ else if(guide.state==='attract')stepAside();
 }
 function stepAside(){
 document.body.classList.remove('attracts');
-guide.state='aside';
-guide.draw();
+guide.stepAside();
 }
 async function playDeck(){
-const ends=()=>attract.stop||attract.yields;
+const ends=()=>attract.stop||attract.yields||!mayCommand();
 await startAfresh();
 if(ends())return;
 const shown=PROGRAMS.filter(program=>program.alone);
@@ -2377,6 +2617,7 @@ drawCore();
 drawCards();
 drawPaper();
 drawKeys();
+guide.draw();
 followI();
 showChanges(drawnLast,view.picture);
 drawnLast=view.picture;
@@ -2799,6 +3040,9 @@ drawSheet(sheet,texts.get(form)||[],form===registers.FORM?registers.LINE:0,!isFi
 const place={form:pad(registers.FORM,4),line:registers.LINE};
 setText(byId('paper-at'),counted(TEXTS.paperAt,view.paper.length,place));
 drawTape(registers.LINE);
+byId('fold').style.setProperty('--lines',view.paper.length);
+byId('newest').hidden=view.paper.length===0;
+setText(byId('newest'),view.paper.length===0?'':view.paper.at(-1).text);
 followPaper();
 }
 function textsByForm(lines){
@@ -2952,6 +3196,8 @@ byId('guide-steps').replaceChildren();
 for(const step of TEXTS.guideSteps)added(byId('guide-steps'),'li',{textContent:step});
 buildAbout();
 buildKeyboard();
+buildNameKeys();
+reserveGuide();
 namePanel();
 }
 function putChoices(){
@@ -3002,7 +3248,7 @@ const clicks={
 'load-key':pressLoad,'run-key':pressRun,'stop-key':pressStop,'step-key':pressStep,
 'pick-key':()=>byId('file').click(),'card-key':takeCard,'deck-key':()=>feedText(byId('deck').value),
 'feed-key':feedChosen,'all-cards-key':takeAllCards,'afresh-key':pressAfresh,'guide-key':()=>guide.press(),
-'view-key':pressView,'hold-key':pressHold,'sound-key':pressSound,'card-print-key':printCard,
+'view-key':pressView,'hold-key':pressHold,'turn-key':pressTurn,'sound-key':pressSound,'card-print-key':printCard,
 'about-key':showAbout,'about-close':()=>byId('about').close(),
 'feed-again-key':()=>feedDeck([...taken]),
 'save-cards-key':()=>saveFile('taken.cards',`${taken.join('\n')}\n`),
@@ -3027,6 +3273,7 @@ if(file)feedFile(file);
 byId('program').addEventListener('change',drawProgram);
 byId('language').addEventListener('change',()=>chooseLanguage(byId('language').value));
 byId('name-form').addEventListener('submit',punchName);
+byId('name').addEventListener('input',drawName);
 byId('keyboard').addEventListener('keydown',moveOnKeyboard);
 byId('start-form').addEventListener('submit',pressStart);
 byId('find').addEventListener('submit',findPlace);
@@ -3075,6 +3322,7 @@ if(file)feedFile(file);
 });
 }
 function resized(){
+reserveGuide();
 if(columnsWanted()!==core.columns)buildCore();
 if(view.picture)draw();
 }
@@ -3085,6 +3333,7 @@ if(view.picture)drawOthers();
 guide.look();
 lookForRenewal();
 lookForHold();
+lookForTurn();
 attractIfIdle();
 await delay(view.link !=='fine'?RETRY_MS:document.hidden?HIDDEN_POLL_MS:POLL_MS);
 }
@@ -3123,8 +3372,8 @@ begin();
 /// The `content-security-policy` of the page: its own script and style by their SHA-256, exchanges with its own server,
 /// and nothing else.
 pub const POLICY: &str = "default-src 'none'; \
-    script-src 'sha256-/7U3uqPrGSwMTXJiiSx0xFT0+jPETULr2QzVoyXk5ug='; \
-    style-src 'sha256-59aFZCQciM0a7kK5TsM8yNoux63Ji81fTk2rUPrgvQE='; \
+    script-src 'sha256-USJgJre3BO7pvsPl/h0E2g94JiSa4WHyuIYqRbslFY0='; \
+    style-src 'sha256-3FQOqrvNhDgGl14zYY8wjMtmyxjiXhBfgtvBLSTIRMQ='; \
     img-src data:; \
     connect-src 'self'; \
     form-action 'none'; \
