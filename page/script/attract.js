@@ -8,6 +8,7 @@ const attract = {on: false, stop: false, yields: false, press: false, touched: p
    does nothing either, even if the machine is clear by then. */
 function touch(event) {
   attract.touched = attract.pressed = performance.now();
+  if (VISIT.isFresh && event.isTrusted !== false) greet();
   if (run) run.wake();
   if (event.isTrusted === false) return;
   const isClick = event.type === 'click', ends = guide.state === 'attract', goesOn = isClick && attract.press;
@@ -27,7 +28,8 @@ function noteHand() {
 function isIdle() {
   const now = performance.now(), {picture} = view;
   if (!picture || hold.isPrepared || !mayCommand() || run || feed || taking || document.hidden) return false;
-  if (document.querySelector('dialog[open]') || picture.after > IDLE.mostAfter) return false;
+  if (isStage ? !VISIT.isFresh : document.querySelector('dialog[open]:not(#about, #help, #ask)')) return false;
+  if (picture.after > IDLE.mostAfter) return false;
   const wanted = IDLE.attractMs + picture.seat * IDLE.seatMs;
   return now - attract.touched > wanted && now - view.changed > wanted - IDLE.attractMs + IDLE.pauseMs
     && now - attract.ended > IDLE.pauseMs && now - view.others.at > wanted;
@@ -36,6 +38,7 @@ async function attractIfIdle() {
   if (attract.on || !isIdle()) return;
   Object.assign(attract, {on: true, stop: false, yields: false});
   document.body.classList.add('attracts');
+  if (!isStage) asNew();
   guide.state = 'attract';
   guide.draw();
   await playDeck();
@@ -46,7 +49,7 @@ async function attractIfIdle() {
 /* The guide begins for whoever has come, with a clear machine unless somebody works at another seat. */
 async function takeOver() {
   Object.assign(attract, {on: true, stop: true});
-  if (!attract.yields && mayCommand()) await startAfresh();
+  if (!attract.yields && mayCommand() && !isClear(view.picture)) await startAfresh();
   Object.assign(attract, {on: false, ended: performance.now()});
   document.body.classList.remove('attracts');
   guide.begin();
@@ -66,7 +69,7 @@ async function playDeck() {
   const ends = () => attract.stop || attract.yields || !mayCommand();
   await startAfresh();
   if (ends()) return;
-  const shown = PROGRAMS.filter(program => program.alone);
+  const shown = PROGRAMS.filter(program => program.alone && !(isExhibit && program.name === 'hello'));
   const program = shown[Math.floor(Math.random() * shown.length)], pace = byId('pace').selectedIndex;
   byId('program').value = program.name;
   drawProgram();
@@ -75,7 +78,7 @@ async function playDeck() {
   if (program.switches) await say(`SWITCH ${program.switches} ON`);
   await pressLoad();
   if (ends()) return;
-  byId('pace').selectedIndex = PACES.indexOf(OWN_PACE);
+  byId('pace').selectedIndex = isExhibit ? 0 : PACES.indexOf(OWN_PACE);
   await pressRun();
   byId('pace').selectedIndex = pace;
 }

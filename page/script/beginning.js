@@ -20,6 +20,7 @@ function putTexts() {
   byId('guide-steps').replaceChildren();
   for (const step of TEXTS.guideSteps) added(byId('guide-steps'), 'li', {textContent: step});
   buildAbout();
+  if (isStage) buildDrawings();
   buildKeyboard();
   buildNameKeys();
   reserveGuide();
@@ -76,7 +77,9 @@ function listenForClicks() {
     'load-key': pressLoad, 'run-key': pressRun, 'stop-key': pressStop, 'step-key': pressStep,
     'pick-key': () => byId('file').click(), 'card-key': takeCard, 'deck-key': () => feedText(byId('deck').value),
     'feed-key': feedChosen, 'all-cards-key': takeAllCards, 'afresh-key': pressAfresh, 'guide-key': () => guide.press(),
-    'view-key': pressView, 'hold-key': pressHold, 'turn-key': pressTurn, 'sound-key': pressSound, 'card-print-key': printCard,
+    'view-key': pressView, 'hold-key': pressHold, 'turn-key': pressTurn, 'more-key': pressMore,
+    'why-key': pressWhy, 'tour-back': tourBack, 'tour-pause': pauseTour, 'tour-next': tourNext,
+    'watch-stop': watchStop, 'watch-hold': watchHold, 'sound-key': pressSound, 'card-print-key': printCard,
     'about-key': showAbout, 'about-close': () => byId('about').close(),
     'feed-again-key': () => feedDeck([...taken]),
     'save-cards-key': () => saveFile('taken.cards', `${taken.join('\n')}\n`),
@@ -139,7 +142,7 @@ function listenForPlaces(places) {
 function listenForFiles() {
   document.addEventListener('dragover', event => {
     event.preventDefault();
-    byId('feeder').classList.add('over');
+    if (!isStage) byId('feeder').classList.add('over');
   });
   for (const name of ['dragleave', 'drop']) {
     document.addEventListener(name, () => byId('feeder').classList.remove('over'));
@@ -147,7 +150,7 @@ function listenForFiles() {
   document.addEventListener('drop', event => {
     event.preventDefault();
     const [file] = event.dataTransfer.files;
-    if (file) feedFile(file);
+    if (file && !isStage) feedFile(file);
   });
 }
 function resized() {
@@ -166,6 +169,10 @@ async function poll() {
     lookForRenewal();
     lookForHold();
     lookForTurn();
+    lookForVisitor();
+    lookForTour();
+    lookForWatch();
+    drawStageHead();
     attractIfIdle();
     await delay(view.link !== 'fine' ? RETRY_MS : document.hidden ? HIDDEN_POLL_MS : POLL_MS);
   }
@@ -184,8 +191,11 @@ TEXTS = LANGUAGES[languageWanted()];
 const lamps = buildPanel();
 const tapePointer = buildTape();
 const cards = {read: cardIn(byId('card-read')), next: cardIn(byId('card-next')), punched: cardIn(byId('card-punched')),
-  keyed: cardIn(byId('card-keyed')), toPrint: cardIn(byId('card-to-print'))};
-for (const card of [cards.read, cards.next, cards.punched]) card(null);
+  keyed: cardIn(byId('card-keyed')), toPrint: cardIn(byId('card-to-print')), stage: cardIn(byId('stage-card'))};
+const stageCuts = drawn(byId('stage-card').querySelector('svg'), 'path', {class: 'cuts'});
+const stageLit = drawn(byId('stage-card').querySelector('svg'), 'rect', {class: 'lit-part', y: 1, height: CARD.height - 2});
+for (const card of [cards.read, cards.next, cards.punched, cards.stage]) card(null);
+buildStage();
 putTexts();
 buildCore();
 drawKeyed();

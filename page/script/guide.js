@@ -83,7 +83,8 @@ const guide = {
   },
   draw() {
     const name = this.step(), step = name && GUIDE_STEPS[name], shown = step ? step.shown : -1;
-    this.light(step ? step.key : '', step && step.focus);
+    this.light(!step ? '' : wantsClearing() ? 'feed-key' : step.key, step && step.focus);
+    if (isExhibit) setText(byId('feed-key'), TEXTS.childKeys[wantsClearing() ? 'clear' : 'feed']);
     [...byId('guide-steps').children].forEach((element, at) => {
       element.classList.toggle('done', at < shown);
       element.toggleAttribute('aria-current', at === shown);
@@ -110,8 +111,8 @@ const guide = {
   words(name) {
     if (name === null) return TEXTS.guide[this.state === 'on' ? 'off' : this.preparedWords()];
     if (name === 'wait') return turnWords();
-    const there = name === 'other' ? programThere(view.picture) : null;
-    return there ? filled(TEXTS.guideWords.program, {name: TEXTS.programs[there].name}) : TEXTS.guideWords[name];
+    const there = name === 'other' ? programThere(view.picture) : null, words = isExhibit ? TEXTS.childWords : TEXTS.guideWords;
+    return there ? filled(words.program, {name: TEXTS.programs[there].name}) : words[name];
   },
   preparedWords() {
     return this.state === 'prepared' && renewal.mode === 'ON' ? 'preparedAgain' : this.state;
@@ -121,6 +122,7 @@ onHappened.push(event => guide.on(event));
 
 /* The longest of the guide's texts decides its height, so the keys below it stay where they are. */
 function reserveGuide() {
+  if (isStage) return;
   const probe = byId('guide-said').cloneNode(true), [words, end] = probe.children;
   probe.id = words.id = '';
   probe.className = 'probe';

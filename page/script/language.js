@@ -4,6 +4,8 @@ const LANGUAGES = {};
 let TEXTS;
 
 function languageWanted() {
+  const asked = FRAGMENT.get('lang');
+  if (asked in LANGUAGES) return asked;
   const known = navigator.languages.map(name => name.slice(0, 2)).find(name => name in LANGUAGES);
   return known || 'en';
 }

@@ -7,6 +7,8 @@ function draw() {
   drawPaper();
   drawKeys();
   guide.draw();
+  drawMachines(view.picture);
+  if (!tour.isOn) drawStage(view.picture);
   followI();
   showChanges(drawnLast, view.picture);
   drawnLast = view.picture;

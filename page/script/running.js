@@ -45,18 +45,20 @@ const pressLoad = () => once('load-key', loadCard);
 async function loadCard() {
   if (run || !mayCommand()) return;
   view.ended = null;
-  const outcome = await say('LOAD');
+  const before = view.picture, outcome = await say('LOAD');
   tellOutcome(outcome, TEXTS.said.load);
   if (outcome.reply !== 'OK') return;
   tellDeck('');
   sound('read');
+  noteScene(before, view.picture, true);
   happened('load');
 }
 async function pressStep() {
   if (run || !mayCommand() || warnsOfEnd() || warnsOfNothing()) return;
-  const outcome = await say('RUN 1'), stop = stopOf(outcome.reply);
+  const before = view.picture, outcome = await say('RUN 1'), stop = stopOf(outcome.reply);
   tellOutcome(outcome, TEXTS.said.step);
   noteStop(stop);
+  if (stop && stop.steps === 1) noteScene(before, view.picture, false);
   if (stop) happened('step');
   drawPanel();
 }
@@ -112,7 +114,7 @@ async function runParts() {
 }
 async function runPart() {
   const pace = PACES[byId('pace').selectedIndex];
-  run.grown = grownBy(performance.now() - Math.max(run.began, attract.pressed));
+  run.grown = Math.max(grownBy(performance.now() - Math.max(run.began, attract.pressed)), isExhibit && attract.on ? 10 : 1);
   const steps = Math.min(MOST_STEPS, run.grown * (pace === OWN_PACE ? OWN_STEPS : pace)), line = `RUN ${steps}`;
   if (run.slices === 0) note('you', line);
   const began = performance.now(), before = view.picture, {breaks} = view;
@@ -175,6 +177,7 @@ function drawKeys() {
   for (const id of ['load-key', 'run-key', 'step-key', 'start-key']) setOff(byId(id), !may || run !== null || guarded.has(id));
   for (const button of byId('switches').children) setOff(button, !may);
   setOff(byId('stop-key'), run === null);
+  if (isExhibit) setOff(byId('run-key'), run === null && (!may || guarded.has('run-key')));
   setOff(byId('tear-key'), !may || taking !== null || PAPER === 0);
   for (const id of ['card-key', 'all-cards-key']) setOff(byId(id), !may || taking !== null || STACKER === 0);
   drawRun();
@@ -184,5 +187,6 @@ function runWords() {
   return run.waits ? TEXTS.waits[run.waits] : filled(TEXTS.running, {steps: withCommas(run.steps)});
 }
 function drawRun() {
+  if (isExhibit) setText(byId('run-key'), run ? TEXTS.stopKey : TEXTS.runKey);
   setText(byId('running'), runWords());
 }

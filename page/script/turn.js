@@ -1,7 +1,7 @@
 /* Whose turn it is. In a room of several seats the guide holds the machine for its visitor, from the first step on. The
    pages of the others wait in line: after each turn the next seat that waits holds it, in the order of the seats. */
 const TURN_IDLE_MS = 60000;
-const TURN_SLOT_MS = 1000;
+const TURN_SLOT_MS = 1500;
 const TURN_LOOK_MS = 200;
 const turn = {has: false, wants: false, freeSince: null};
 
@@ -54,7 +54,7 @@ async function lookForTurn() {
   if (guide.state !== 'on') turn.wants = false;
   if (turn.wants) await waitInLine();
 }
-/* The machine is free: the seats that come before have a second each to take it. */
+/* The machine is free: the seats that come before have a moment each to take it. */
 async function waitInLine() {
   if (isHeld()) {
     turn.freeSince = null;

@@ -305,6 +305,116 @@ dialog dd{margin:0 0 5px;}
 dialog svg text{fill:#fff;font-size:14px;text-anchor:middle;}
 dialog svg rect{fill:#2e3e4d;stroke:#c3ccd3;}
 dialog svg path{stroke:#ffb238;stroke-width:3;fill:none;}
+.stage-screen{position:fixed;inset:0;z-index:2;container-type:size;overflow:hidden;background:var(--room);}
+.exhibit,.watch{overflow:hidden;height:100vh;}
+.exhibit>header,.exhibit>.skip,.exhibit>footer,.exhibit .newest,.watch>header,.watch>.skip,.watch>main,
+.watch>footer,.watch .newest{display:none;}
+.exhibit>main{display:none;}
+.exhibit.more>main{display:block;position:fixed;inset:60px 0 0;z-index:6;overflow:auto;
+background:var(--room);}
+.exhibit .console,.exhibit .guide,.exhibit #pick-key,.exhibit .paper-keys,.exhibit #save-cards-key,.exhibit .notice,
+.exhibit #card-print-key,.exhibit .reader .title small,.exhibit .said code{display:none !important;}
+.exhibit #watch-stop,.exhibit #watch-hold,.watch #more-key,.watch #turn-key,.watch #why-key,.watch .stage-keys,
+.watch .stage-said,.watch #name-form{display:none !important;}
+.stage-screen>*{position:absolute;left:14px;right:14px;margin:0;}
+.stage-screen button,.stage-screen select{min-height:56px;min-width:56px;font-size:17px;}
+.stage-head{top:0;height:60px;display:flex;align-items:center;gap:14px;left:0;right:0;padding:0 14px;
+background:var(--panel);color:var(--ivory);border-bottom:4px solid var(--blue);z-index:7;}
+.stage-screen>.stage-head{left:0;right:0;}
+.stage-head h1{margin:0;font-size:min(26px, 5.4cqw);}
+.stage-head div{margin-left:auto;display:flex;gap:8px;}
+.stage-head button,.stage-head select{min-height:48px;background:var(--panel);color:var(--ivory);border:1px solid
+var(--faint);border-radius:4px;padding:0 12px;}
+.stage-head .small-key:hover:not([aria-disabled=true]){background:var(--panel-light);}
+#machines{top:66px;height:21cqh;width:calc(100% - 28px);}
+#machines text{font:700 17px var(--sans);fill:var(--ink);text-anchor:middle;}
+#machines .cabinet{fill:var(--cabinet);stroke:var(--edge);stroke-width:2;}
+#machines .tray,#machines .slot{fill:var(--panel);stroke:#8d8878;}
+#machines .pile{fill:var(--card);stroke:#8a6d2c;}
+#machines .pile.none{visibility:hidden;}
+#machines .light{fill:#0b0f13;stroke:var(--off);stroke-width:2;}
+#machines .light.on{fill:var(--lamp);stroke:#fff1cf;}
+#machines .paper{fill:var(--paper);stroke:#8f8a7a;}
+#machines .row{fill:var(--print-ink);}
+#machines .chain{stroke:#d5dce2;stroke-width:8;stroke-dasharray:7 5;}
+.stage-screen #stage-card{top:calc(74px + 21cqh);height:29cqh;right:auto;width:min(47cqw, 76cqh);}
+#stage-card svg{height:calc(100% - 22px);width:100%;}
+#stage-card figcaption{font-size:15px;font-weight:700;color:var(--ink);}
+#stage-card .cuts{stroke:var(--room);stroke-width:2.4;}
+#stage-card .lit-part{fill:var(--lamp);opacity:.45;}
+.stage-screen .strip{top:calc(74px + 21cqh);height:29cqh;left:auto;width:min(49cqw, 90cqh);display:grid;gap:1px;
+grid-template-columns:2.6em repeat(20, minmax(0, 1fr));font:700 min(1.9cqw, 3.4cqh)/1.35 var(--mono);}
+.strip b{font-size:.72em;color:var(--soft);align-self:center;}
+.strip span{background:var(--read);text-align:center;border-bottom:4px solid transparent;overflow:hidden;}
+.strip .print{background:var(--print);}
+.strip .mark{border-bottom-color:#14181c;}
+.strip .next{background:var(--next);color:#fff;}
+.strip .next.mark{border-bottom-color:var(--lamp);}
+.strip .touched{background:var(--lamp);color:#2b1d00;}
+.stage-screen .tour{top:66px;height:21cqh;padding:8px 14px;background:var(--paper);border:3px solid var(--blue);
+border-radius:8px;display:flex;gap:10px 16px;align-items:center;justify-content:space-between;z-index:3;}
+.tour p{margin:0;font-size:min(26px, 3.6cqh);font-weight:700;flex:1;}
+.tour div{display:flex;gap:8px;align-items:center;flex-wrap:wrap;}
+.tour button,#why-key{border:1px solid #8d8878;border-radius:6px;background:#fffdf6;padding:0 14px;
+font-weight:700;}
+.tour button[aria-disabled=true]{color:#585851;background:#e4e0d4;}
+#why-key[aria-pressed=true]{background:var(--blue);color:#fff;box-shadow:0 2px 4px #0006 inset;}
+.stage-screen .band{top:calc(84px + 50cqh);max-height:calc(48cqh - 190px);overflow:hidden;display:flex;
+flex-direction:column;justify-content:flex-end;background:var(--paper);border:solid #8f8a7a;
+border-width:0 12px 1px;}
+.band p{margin:0;padding:0 10px;font:max(24px,min(4.4cqh, 158cqw / var(--columns, 26)))/1.4 var(--mono);
+white-space:pre;color:var(--print-ink);flex:none;}
+.band p:nth-last-child(even){background:var(--bar);}
+.band p:last-child{font-weight:700;}
+.stage-screen .stage-said{bottom:14px;right:auto;width:calc(100% - 28px - 110px - min(560px, 52cqw));height:92px;
+display:flex;align-items:center;background:var(--cabinet);border-radius:6px;padding:6px 12px;overflow:hidden;}
+.stage-said p{margin:0;font-size:min(30px, 2.1cqw);font-weight:700;line-height:1.2;}
+.stage-screen #guide-said{min-height:0 !important;}
+.stage-screen #why-key{bottom:14px;height:92px;width:92px;left:auto;right:calc(24px + min(560px, 52cqw));}
+.stage-screen .stage-keys{bottom:14px;height:92px;left:auto;width:min(560px, 52cqw);display:grid;gap:10px;
+grid-template-columns:repeat(4, minmax(0, 1fr));}
+.stage-screen .stage-keys button{height:auto;min-height:64px;min-width:0;padding:0 4px;font-size:min(22px, 2.2cqw);font-weight:700;
+border-radius:8px;}
+.stage-keys .small-key.main{background:var(--blue);}
+.stage-screen #name-form{inset:66px 14px auto;z-index:4;padding:14px;border-radius:8px;box-shadow:0 8px 30px #0006;
+background:var(--cabinet);margin:0;font-size:20px;}
+.stage-screen #name{font-size:24px;height:56px;width:min(15em, 60cqw);}
+.stage-screen .name-keys{grid-template-columns:repeat(auto-fill, minmax(56px, 1fr));}
+.stage-screen .name-keys button{font-size:22px;}
+.stage-screen .leaving{inset:30% 14px auto;z-index:9;background:var(--ink);color:#fff;text-align:center;
+border-radius:10px;padding:20px;font-size:min(34px, 6cqw);font-weight:700;}
+.stage-screen .touch-me{inset:calc(100cqh - max(120px, 20cqh)) 0 0;z-index:8;display:grid;place-items:center;text-align:center;
+background:#10171dd9;color:#fff;}
+.touch-me p{margin:0;font-size:max(60px, 9cqh);line-height:1.1;font-weight:700;}
+.watch .band{max-height:calc(50cqh - 100px);}
+.watch .strip{font-size:max(24px, min(1.9cqw, 3.4cqh));}
+.stage-head #stage-who{font-size:24px;}
+@container (max-width:640px){
+.stage-screen>*{left:8px;right:8px;}
+.stage-screen>.stage-head{padding:0 6px;gap:6px;}
+.stage-head h1{font-size:15px;}
+.stage-head div{gap:4px;}
+.stage-head button,.stage-head select{padding:0 6px;font-size:14px;}
+.stage-head select{max-width:84px;}
+#more-key{white-space:nowrap;}
+#machines{height:12cqh;width:calc(100% - 16px);}
+.stage-screen #stage-card{top:calc(70px + 12cqh);height:19cqh;width:calc(100% - 16px);}
+.stage-screen .strip{top:calc(74px + 31cqh);height:18cqh;left:8px;width:auto;
+font-size:min(3.6cqw, 2.2cqh);}
+.stage-screen .tour{height:calc(4px + 31cqh);flex-direction:column;top:66px;}
+.tour p{font-size:20px;}
+.stage-screen .band{top:calc(80px + 49cqh);max-height:calc(50cqh - 290px);border-width:0 6px 1px;}
+.band p{padding:0 4px;}
+.stage-screen .stage-said{bottom:92px;height:88px;width:calc(100% - 16px - 82px);right:auto;}
+.stage-said p{font-size:16px;}
+.stage-screen #why-key{bottom:92px;right:8px;width:74px;height:88px;padding:0;}
+.stage-screen .stage-keys{bottom:10px;height:72px;width:calc(100% - 16px);gap:6px;}
+.stage-screen .stage-keys button{font-size:15px;}
+.stage-screen #name-form{inset:66px 8px auto;font-size:17px;padding:10px;}
+.stage-screen .name-keys{grid-template-columns:repeat(auto-fill, minmax(44px, 1fr));}
+.stage-screen .name-keys button{min-width:44px;min-height:50px;}
+.touch-me p{font-size:60px;}
+}
 @media (max-width:1579px){
 .tape{display:none;}
 .printer{grid-template:minmax(0, 1fr) / minmax(0, 1fr);padding:4px;}
@@ -391,6 +501,26 @@ background-color:#fff;}
 <div class="notice" id="notice" role="status" hidden><span id="notice-words"></span><span id="notice-left"
 aria-hidden="true"></span></div>
 <noscript><p class="banner">This page needs JavaScript, which it has within itself.</p></noscript>
+<div class="stage-screen" id="stage" hidden>
+<div class="stage-head"><h1 id="stage-name"></h1><span id="stage-who"></span><div id="stage-more">
+<button type="button" class="small-key" id="watch-stop" data-text="watchStop"></button>
+<button type="button" class="small-key" id="watch-hold" data-text="watchHold" aria-pressed="false"></button>
+<button type="button" class="small-key" id="more-key" data-text="moreKey" aria-expanded="false"></button></div></div>
+<svg id="machines" viewBox="0 0 900 180" role="img" data-label="machinesLabel"></svg>
+<figure class="card" id="stage-card"><figcaption id="stage-card-name"></figcaption></figure>
+<div class="strip" id="strip" role="img"></div>
+<div class="tour" id="tour" role="group" data-label="tourLabel" hidden>
+<p id="tour-words" aria-live="polite"></p>
+<div><button type="button" id="tour-back" data-text="tourBack"></button>
+<button type="button" id="tour-pause"></button>
+<button type="button" id="tour-next" data-text="tourNext"></button><span id="tour-at"></span></div></div>
+<div class="band" id="band" role="region" data-label="paperLabel"></div>
+<div class="stage-said" id="stage-said"></div>
+<button type="button" id="why-key" data-text="whyKey" aria-pressed="false"></button>
+<div class="stage-keys" id="stage-keys"></div>
+<div class="leaving" id="leaving" role="alert" hidden><p id="leaving-words"></p></div>
+<div class="touch-me" id="touch-me" hidden><p id="touch-words"></p></div>
+</div>
 <main>
 <div class="stage">
 <div class="stand">
@@ -576,6 +706,8 @@ const PROGRAM_FILES = {"banner":{"source":"~F* A BANNER: THE LETTERS OF COLUMNS 
 const LANGUAGES={};
 let TEXTS;
 function languageWanted(){
+const asked=FRAGMENT.get('lang');
+if(asked in LANGUAGES)return asked;
 const known=navigator.languages.map(name=>name.slice(0,2)).find(name=>name in LANGUAGES);
 return known||'en';
 }
@@ -835,6 +967,37 @@ later:{one:'Seat {seat} is at the machine. At most 1 other seat comes before you
 many:'Seat {seat} is at the machine. At most {n} other seats come before you.'},
 soon:'The machine is free. The next in line is called.',
 wait:'Wait in line',leave:'Leave the line',give:'Give it to the next',
+},
+childWords:{
+feed:'Press FEED. A card goes into the machine.',load:'Press LOAD. The machine reads the holes of the card.',
+step:'Press STEP. The machine does the first thing that the card asks for.',
+run:'Press RUN. The machine does all the rest, and prints.',
+name:'It has printed! Now write your own name.',loadName:'This is your card. Press LOAD.',
+runName:'Press RUN, and look at the paper.',done:'There is your name! Press FEED to begin again.',
+other:'Somebody was here before you. Press CLEAR.',program:'The program {name} is in the machine. Press CLEAR.',
+paper:'The paper is full. Press CLEAR.',
+},
+childKeys:{feed:'FEED',clear:'CLEAR'},
+stage:{
+name:'IBM 1401',more:'More',back:'Back',stripLabel:'core storage from {from} on, and the print area',
+cardRead:'The card that was read',cardNext:'The next card',cardNone:'No card yet',
+machines:{reader:'Card reader 1402',unit:'Computer 1401',printer:'Printer 1403'},
+who:'Seat {seat} is at the machine',nobody:'Nobody is at the machine',touch:'TOUCH ME',
+leaving:{one:'Are you still there? Touch the screen. (1)',many:'Are you still there? Touch the screen. ({n})'},
+},
+machinesLabel:'the card reader, the computer and the printer',moreKey:'More',whyKey:'Why?',
+watchStop:'Stop the run',watchHold:'Hold for all',
+tourLabel:'what the machine does',tourBack:'Back',tourNext:'Next',
+scenes:{
+and:' and ',at:'{n} of {all}',pause:'Pause',play:'Go on',
+none:'Feed a card and press LOAD. Then each step is explained here.',
+load:'The card is in the machine: each of its 80 columns is now a character in one of the places 001 to 080.',
+SW:'It has set word marks at {places}. A word mark says that something begins there; the card is cut into its parts.',
+MCW:'It has carried letters from place {from} on to place {to} on: "{text}".',
+W:'The chain of the printer has printed the places from 201 on: "{line}".',
+H:'The program has ended, and the machine stops.',A:'It has added the number at {a} to the one at {b}.',
+S:'It has subtracted the number at {a} from the one at {b}.',
+other:'The machine has carried out: {what}.',
 },
 nameLabel:'Your name',nameKey:'Punch and feed',nameEmpty:'Write a name first.',
 nameWrong:'No card has {letter}. Choose a name in A to Z.',nameSpelt:'On the card: {name}',
@@ -1152,10 +1315,7 @@ prepared:'Das Museum hat diese Maschine vorbereitet: sie begann mit einem Progra
 + 'LOAD, wenn Karten da sind, dann RUN. "Von vorn" w\xfcrde sie leeren.',
 preparedAgain:'Das Museum hat diese Maschine vorbereitet: sie begann mit einem Programm oder mit Karten. Dr\xfccken '
 + 'Sie LOAD, wenn Karten da sind, dann RUN. "Von vorn" bringt eine neue, die genauso vorbereitet ist.',
-aside:'Die F\xfchrung ist zur Seite getreten. Sie beginnt wieder, wenn Sie wollen.',"##;
-
-/// The rest of the page.
-pub const REST: &[u8] = br##"
+aside:'Die F\xfchrung ist zur Seite getreten. Sie beginnt wieder, wenn Sie wollen.',
 attract:'Niemand ist hier, darum l\xe4uft die Maschine allein. Ein Druck auf den Bildschirm oder eine Taste '
 + '\xfcbernimmt sie.',
 },
@@ -1166,6 +1326,40 @@ later:{one:'Platz {seat} ist an der Maschine. H\xf6chstens 1 anderer Platz ist v
 many:'Platz {seat} ist an der Maschine. H\xf6chstens {n} andere Pl\xe4tze sind vor Ihnen dran.'},
 soon:'Die Maschine ist frei. Der N\xe4chste kommt an die Reihe.',
 wait:'Anstellen',leave:'Nicht mehr warten',give:'An den N\xe4chsten geben',
+},
+childWords:{
+feed:'Dr\xfccke KARTE. Eine Karte kommt in die Maschine.',load:'Dr\xfccke LOAD. Die Maschine liest die L\xf6cher der Karte.',
+step:'Dr\xfccke STEP. Die Maschine tut das Erste, was auf der Karte steht.',
+run:'Dr\xfccke RUN. Die Maschine tut alles andere, und druckt.',
+name:'Sie hat gedruckt! Nun schreibe deinen eigenen Namen.',loadName:'Das ist deine Karte. Dr\xfccke LOAD.',
+runName:'Dr\xfccke RUN, und sieh aufs Papier.',done:'Da ist dein Name! Dr\xfccke KARTE, um neu zu beginnen.',
+other:'Vor dir war jemand hier. Dr\xfccke LEEREN.',program:'Das Programm {name} ist in der Maschine. Dr\xfccke LEEREN.',
+paper:'Das Papier ist voll. Dr\xfccke LEEREN.',
+},
+childKeys:{feed:'KARTE',clear:'LEEREN'},
+stage:{
+name:'IBM 1401',more:'Mehr',back:'Zur\xfcck',stripLabel:'Kernspeicher ab {from}, und der Druckbereich',
+cardRead:'Die gelesene Karte',cardNext:'Die n\xe4chste Karte',cardNone:'Noch keine Karte',
+machines:{reader:'Kartenleser 1402',unit:'Computer 1401',printer:'Drucker 1403'},
+who:'Platz {seat} ist an der Maschine',nobody:'Niemand ist an der Maschine',touch:'BER\xdcHRE MICH',
+leaving:{one:'Ist noch jemand da? Bitte ber\xfchren. (1)',many:'Ist noch jemand da? Bitte ber\xfchren. ({n})'},
+},
+machinesLabel:'der Kartenleser, der Computer und der Drucker',moreKey:'Mehr',whyKey:'Warum?',
+watchStop:'Lauf anhalten',watchHold:'F\xfcr alle halten',
+tourLabel:'was die Maschine tut',tourBack:'Zur\xfcck',tourNext:'Weiter',
+scenes:{
+and:' und ',at:'{n} von {all}',pause:'Pause',play:'Weiterlaufen',
+none:'Lege eine Karte ein und dr\xfccke LOAD. Dann wird hier jeder Schritt erkl\xe4rt.',
+load:'Die Karte ist in der Maschine: jede ihrer 80 Spalten ist nun ein Zeichen in einer der Stellen 001 bis 080.',
+SW:'Sie hat Wortmarken bei {places} gesetzt. Eine Wortmarke sagt, dass dort etwas beginnt; sie teilen die Karte.',
+MCW:'Sie hat Buchstaben von Stelle {from} an nach Stelle {to} gebracht: "{text}".',
+W:'Die Kette des Druckers hat die Stellen ab 201 gedruckt: "{line}".',
+H:'Das Programm ist zu Ende, und die Maschine h\xe4lt an.',A:'Sie hat die Zahl bei {a} zu der bei {b} addiert.',"##;
+
+/// The rest of the page.
+pub const REST: &[u8] = br##"
+S:'Sie hat die Zahl bei {a} von der bei {b} subtrahiert.',
+other:'Die Maschine hat ausgef\xfchrt: {what}.',
 },
 nameLabel:'Ihr Name',nameKey:'Stanzen und einlegen',nameEmpty:'Schreiben Sie erst einen Namen.',
 nameWrong:'Keine Karte hat {letter}. W\xe4hlen Sie einen Namen mit A bis Z.',nameSpelt:'Auf der Karte: {name}',
@@ -1668,8 +1862,10 @@ if(!before||before.size !==now.size)return;
 const from=before.registers,to=now.registers;
 const isRead=to.HOPPER<from.HOPPER||now.read !==before.read&&now.read !=='';
 if(isRead)moveCard();
+if(isRead&&isStage)moveReader();
 const lines=to.LINE - from.LINE + FORM_LINES*(to.FORM - from.FORM);
 if(lines>0)movePaper(lines);
+if(lines>0&&isStage)movePrinter(lines);
 if(to.STACKER>from.STACKER)sound('punch');
 else if(to.PAPER>from.PAPER)sound('print');
 else if(to.HOPPER<from.HOPPER)sound('read');
@@ -1713,18 +1909,20 @@ const pressLoad=()=>once('load-key',loadCard);
 async function loadCard(){
 if(run||!mayCommand())return;
 view.ended=null;
-const outcome=await say('LOAD');
+const before=view.picture,outcome=await say('LOAD');
 tellOutcome(outcome,TEXTS.said.load);
 if(outcome.reply !=='OK')return;
 tellDeck('');
 sound('read');
+noteScene(before,view.picture,true);
 happened('load');
 }
 async function pressStep(){
 if(run||!mayCommand()||warnsOfEnd()||warnsOfNothing())return;
-const outcome=await say('RUN 1'),stop=stopOf(outcome.reply);
+const before=view.picture,outcome=await say('RUN 1'),stop=stopOf(outcome.reply);
 tellOutcome(outcome,TEXTS.said.step);
 noteStop(stop);
+if(stop&&stop.steps===1)noteScene(before,view.picture,false);
 if(stop)happened('step');
 drawPanel();
 }
@@ -1777,7 +1975,7 @@ if(stop.name !=='LIMIT'||view.picture.after>=JOURNAL_NEARLY||run.stop)return out
 }
 async function runPart(){
 const pace=PACES[byId('pace').selectedIndex];
-run.grown=grownBy(performance.now()- Math.max(run.began,attract.pressed));
+run.grown=Math.max(grownBy(performance.now()- Math.max(run.began,attract.pressed)),isExhibit&&attract.on?10:1);
 const steps=Math.min(MOST_STEPS,run.grown*(pace===OWN_PACE?OWN_STEPS:pace)),line=`RUN ${steps}`;
 if(run.slices===0)note('you',line);
 const began=performance.now(),before=view.picture,{breaks}=view;
@@ -1832,6 +2030,7 @@ for(const id of COMMAND_KEYS)setOff(byId(id),!may||guarded.has(id));
 for(const id of['load-key','run-key','step-key','start-key'])setOff(byId(id),!may||run !==null||guarded.has(id));
 for(const button of byId('switches').children)setOff(button,!may);
 setOff(byId('stop-key'),run===null);
+if(isExhibit)setOff(byId('run-key'),run===null&&(!may||guarded.has('run-key')));
 setOff(byId('tear-key'),!may||taking !==null||PAPER===0);
 for(const id of['card-key','all-cards-key'])setOff(byId(id),!may||taking !==null||STACKER===0);
 drawRun();
@@ -1841,6 +2040,7 @@ if(!run)return othersRun()?othersWords('Running'):'';
 return run.waits?TEXTS.waits[run.waits]:filled(TEXTS.running,{steps:withCommas(run.steps)});
 }
 function drawRun(){
+if(isExhibit)setText(byId('run-key'),run?TEXTS.stopKey:TEXTS.runKey);
 setText(byId('running'),runWords());
 }
 let feed=null;
@@ -2136,7 +2336,7 @@ const text=await response.text();
 if(response.status===200||response.status===423)takeHold(text);
 }
 async function lookForHold(){
-const now=performance.now(),pause=turn.wants||turn.has&&hold.until - now<HOLD_MS?TURN_LOOK_MS:HOLD_MS;
+const now=performance.now(),pause=turn.wants||watching.holds||turn.has&&hold.until - now<HOLD_MS?TURN_LOOK_MS:HOLD_MS;
 if(view.link !=='fine'||now - hold.asked<(isShared()?pause:Infinity))return;
 hold.asked=now;
 try{
@@ -2170,6 +2370,268 @@ const{seconds}=renewal,words=seconds===null?holdWords():counted(TEXTS.renewal,se
 setText(byId('notice-words'),words);
 setText(byId('notice-left'),seconds===null&&words?` ${filled(TEXTS.secondsLeft, {n: hold.left})}`:'');
 byId('notice').hidden=words==='';
+}
+const FRAGMENT=new URLSearchParams(location.hash.slice(1));
+const isExhibit=FRAGMENT.has('exhibit'),isWatch=FRAGMENT.has('watch'),isStage=isExhibit||isWatch;
+const STRIP_PLACES=80;
+const PRINT_FROM=201,PRINT_PLACES=40;
+const BAND_LINES=12;
+const ON_STAGE={'stage-keys':['feed-key','load-key','step-key','run-key'],'stage-said':['guide-said'],
+'stage-more':['turn-key','language'],stage:['name-form']};
+const strip={cells:[],shown:[],heads:[],from:1};
+function buildStage(){
+if(!isStage)return;
+document.body.classList.add(isExhibit?'exhibit':'watch');
+byId('stage').hidden=false;
+for(const[place,parts]of Object.entries(ON_STAGE))byId(place).append(...parts.map(byId));
+buildStrip();
+for(const id of['run-key','feed-key'])byId(id).addEventListener('click',pressStageKey);
+if(isExhibit)Object.assign(IDLE,{attractMs:10000,pauseMs:4000,seatMs:0});
+}
+function buildStrip(){
+for(let at=0;at<STRIP_PLACES + PRINT_PLACES;at++){
+if(at % 20===0)strip.heads.push(added(byId('strip'),'b'));
+strip.cells.push(added(byId('strip'),'span',{className:at<STRIP_PLACES?'':'print'}));
+}
+}
+function stripFrom({registers:{I},size}){
+return I<=STRIP_PLACES?1:Math.min(I -(I - 1)% STRIP_PLACES,size - STRIP_PLACES);
+}
+const cellAt=({cells,from},place)=>cells[place - from]||{graphic:' ',mark:false};
+function drawStage(picture,touched=[]){
+if(!isStage)return;
+const from=stripFrom(picture),moved=from !==strip.from;
+const begin=picture.registers.I,end=begin + instructionLength(picture.cells,begin - picture.from);
+strip.from=from;
+strip.heads.forEach((head,row)=>setText(head,pad(row<4?from + 20*row:PRINT_FROM + 20*(row - 4),3)));
+strip.cells.forEach((element,at)=>{
+const place=at<STRIP_PLACES?from + at:PRINT_FROM + at - STRIP_PLACES,{graphic,mark}=cellAt(picture,place);
+const isOther=strip.shown[at]!==undefined&&strip.shown[at]!==graphic + mark;
+setText(element,graphic===' '?'\u00a0':graphic);
+element.classList.toggle('mark',mark);
+element.classList.toggle('next',place>=begin&&place<end);
+element.classList.toggle('touched',touched.includes(place));
+if(isOther&&!moved)glow(element);
+strip.shown[at]=graphic + mark;
+});
+setAttribute(byId('strip'),'aria-label',filled(TEXTS.stage.stripLabel,{from:pad(from,3)}));
+drawBand(view.paper);
+drawStageCard(picture);
+}
+function drawBand(lines){
+const shown=lines.slice(-BAND_LINES).map(line=>line.text),band=byId('band');
+byId('band').style.setProperty('--columns',Math.max(26,...shown.map(text=>text.trimEnd().length + 2)));
+while(band.childElementCount>shown.length)band.firstElementChild.remove();
+while(band.childElementCount<shown.length)added(band,'p');
+shown.forEach((text,at)=>setText(band.children[at],text||'\u00a0'));
+}
+function drawStageCard(picture){
+const{read,hopper}=picture,isThere=read !=='';
+cards.stage(isThere?read:hopper);
+setText(byId('stage-card-name'),isThere?TEXTS.stage.cardRead:hopper===null?TEXTS.stage.cardNone
+:TEXTS.stage.cardNext);
+let cuts='';
+for(let place=2;isThere&&place<=CARD_COLUMNS;place++){
+const x=CARD.left +(place - 1.5)*CARD.column;
+if(cellAt(picture,place).mark)cuts +=`M${x} 1V${CARD.height - 1}`;
+}
+setAttribute(stageCuts,'d',cuts);
+const{I}=picture.registers,length=instructionLength(picture.cells,I - picture.from);
+const isLit=isThere&&I>=1&&I + length<=CARD_COLUMNS + 1;
+setAttribute(stageLit,'x',CARD.left +(I - 1.5)*CARD.column);
+setAttribute(stageLit,'width',isLit?length*CARD.column:0);
+}
+function pressMore(){
+const isMore=document.body.classList.toggle('more');
+setText(byId('more-key'),isMore?TEXTS.stage.back:TEXTS.stage.more);
+byId('more-key').setAttribute('aria-expanded',String(isMore));
+if(view.picture&&isMore)resized();
+}
+function drawStageHead(){
+if(!isStage)return;
+const last=view.others.last,seat=isHeld()?hold.seat:last&&othersAtWork()?last.seat:0;
+setText(byId('stage-name'),FRAGMENT.get('name')||TEXTS.stage.name);
+setText(byId('stage-who'),!isWatch?'':seat?filled(TEXTS.stage.who,{seat}):TEXTS.stage.nobody);
+}
+function pressStageKey(event){
+if(!isExhibit)return;
+if(event.currentTarget.id==='run-key'&&run){
+event.stopImmediatePropagation();
+stopRun();
+}
+if(event.currentTarget.id==='feed-key'&&wantsClearing()&&mayCommand()){
+event.stopImmediatePropagation();
+once('feed-key',clearForGuide);
+}
+}
+const wantsClearing=()=>isExhibit&&['other','paper'].includes(guide.step());
+async function clearForGuide(){
+if(!(await takeTurn()))return;
+stopRun();
+while(run)await delay(SLICE_MS);
+await startAfresh(renewal.mode==='ON'?renewRoom:clearMachine);
+guide.begin();
+}
+async function watchStop(){
+await askToHold('/hold');
+if(isHolder()&&!watching.holds)await askToHold('/release');
+}
+async function watchHold(){
+watching.holds=!watching.holds;
+byId('watch-hold').setAttribute('aria-pressed',String(watching.holds));
+await askToHold(watching.holds?'/hold':'/release');
+}
+const watching={holds:false};
+async function lookForWatch(){
+if(watching.holds&&!isHeld())await askToHold('/hold');
+}
+const DRAWING={reader:20,unit:330,printer:640,width:240};
+const machines={};
+function box(parent,x,y,width,height,name,rx=3){
+return drawn(parent,'rect',{x,y,width,height,rx,class:name});
+}
+function buildDrawings(){
+const picture=byId('machines');
+picture.replaceChildren();
+for(const[name,x]of[['reader',DRAWING.reader],['unit',DRAWING.unit],['printer',DRAWING.printer]]){
+const part=drawn(picture,'g',{transform:`translate(${x} 0)`});
+box(part,0,40,DRAWING.width,110,'cabinet',8);
+drawn(part,'text',{x:DRAWING.width / 2,y:172}).textContent=TEXTS.stage.machines[name];
+machines[name]=part;
+}
+buildReader(machines.reader);
+buildUnit(machines.unit);
+buildPrinter(machines.printer);
+}
+function buildReader(part){
+box(part,158,14,66,60,'tray');
+box(part,14,84,66,56,'tray');
+box(part,90,66,60,18,'slot');
+Object.assign(machines,{hopper:box(part,161,72,60,0,'pile'),stacker:box(part,17,138,60,0,'pile'),
+card:box(part,94,68,52,13,'pile none',1)});
+}
+function buildUnit(part){
+box(part,14,54,212,82,'slot',4);
+machines.lights=[];
+for(let row=0;row<3;row++){
+for(let at=0;at<7;at++){
+machines.lights.push(drawn(part,'circle',{cx:36 + at*28,cy:70 + row*25,r:9,class:'light'}));
+}
+}
+}
+function buildPrinter(part){
+machines.paper=drawn(part,'g',{});
+box(machines.paper,50,4,140,78,'paper',0);
+machines.rows=Array.from({length:6},(_,at)=>box(machines.paper,58,70 - at*12,0,5,'row',0));
+box(part,34,80,172,14,'slot');
+machines.chain=drawn(part,'path',{class:'chain',d:'M38 87H202'});
+}
+function drawPile(pile,n,foot){
+const height=n===0?0:Math.min(52,4 + 8*Math.log2(n));
+setAttribute(pile,'height',String(height));
+setAttribute(pile,'y',String(foot - height));
+}
+function drawMachines({registers,from,cells}){
+if(!isStage)return;
+drawPile(machines.hopper,registers.HOPPER,72);
+drawPile(machines.stacker,registers.STACKER,138);
+const at=place=>cells[place - from]?cells[place - from].graphic:' ';
+const bits=[registers.B,registers.A,registers.I].flatMap(place=>bitsWithCheck(at(place)));
+machines.lights.forEach((light,n)=>light.classList.toggle('on',bits[n]&&registers.I>0));
+const newest=view.paper.slice(-machines.rows.length).reverse();
+machines.rows.forEach((row,n)=>setAttribute(row,'width',newest[n]?String(Math.min(124,3.2*newest[n].text.length)):'0'));
+}
+function moveReader(){
+machines.card.classList.remove('none');
+if(!still.matches)machines.card.animate([{transform:'translate(66px, -14px)'},{transform:'none'}],400);
+}
+function movePrinter(lines){
+if(still.matches)return;
+machines.paper.animate([{transform:`translateY(${Math.min(lines, 4) * 12}px)`},{transform:'none'}],300);
+machines.chain.animate([{strokeDashoffset:0},{strokeDashoffset:48}],500);
+}
+const SCENE_MS=8000;
+const MOST_SCENES=200;
+const tour={scenes:[],at:-1,isOn:false,plays:false,since:0};
+function noteScene(before,after,isLoad){
+if(!isStage)return;
+if(isLoad)Object.assign(tour,{scenes:[],at:-1});
+if(tour.scenes.length===MOST_SCENES)tour.scenes.shift();
+tour.scenes.push({before,after,isLoad,line:view.paper.at(-1)});
+tour.at=tour.scenes.length - 1;
+drawTour();
+}
+function instructionOf({next}){
+const[operation,operands='']=(next||'').trim().split(/\s+/);
+return{operation,places:operands.split(',').filter(place=>/^\d+$/.test(place)).map(Number)};
+}
+function fieldsOf({before,after}){
+const{places:[a,b]}=instructionOf(before),length=a - after.registers.A;
+if(b===undefined||!(length>0&&length<=STRIP_PLACES*2))return null;
+return{a:a - length + 1,b:b - length + 1,length};
+}
+function textAt(picture,place,length){
+return Array.from({length},(_,at)=>cellAt(picture,place + at).graphic).join('').trim();
+}
+function touchedBy(scene){
+if(scene.isLoad)return[];
+const{operation,places}=instructionOf(scene.before),fields=fieldsOf(scene);
+if(operation==='SW'||operation==='CW'||!fields)return places;
+return Array.from({length:fields.length},(_,at)=>[fields.a + at,fields.b + at]).flat();
+}
+function sceneWords(scene){
+const{scenes,operations}=TEXTS;
+if(scene.isLoad)return scenes.load;
+const{operation,places}=instructionOf(scene.before),fields=fieldsOf(scene);
+const values={places:places.join(TEXTS.scenes.and),what:operations[operation]||operation};
+if(operation==='W'&&scene.line)return filled(scenes.W,{line:scene.line.text.trim()});
+if(fields&&['MCW','LCA','MLC'].includes(operation)){
+return filled(scenes.MCW,{from:fields.a,to:fields.b,text:textAt(scene.after,fields.b,fields.length)});
+}
+if(fields&&scenes[operation])return filled(scenes[operation],{...values,a:places[0],b:places[1]});
+return filled(['SW','H'].includes(operation)?scenes[operation]:scenes.other,values);
+}
+function drawTour(){
+const scene=tour.scenes[tour.at];
+byId('tour').hidden=!tour.isOn;
+byId('why-key').setAttribute('aria-pressed',String(tour.isOn));
+if(!tour.isOn)return view.picture&&drawStage(view.picture);
+setText(byId('tour-words'),scene?sceneWords(scene):TEXTS.scenes.none);
+setText(byId('tour-at'),scene?filled(TEXTS.scenes.at,{n:tour.at + 1,all:tour.scenes.length}):'');
+setText(byId('tour-pause'),tour.plays?TEXTS.scenes.pause:TEXTS.scenes.play);
+setOff(byId('tour-back'),tour.at<=0);
+if(scene)drawStage(scene.after,touchedBy(scene));
+}
+function pressWhy(){
+Object.assign(tour,{isOn:!tour.isOn,plays:!tour.isOn,at:tour.isOn?tour.at:Math.min(tour.at,0)});
+tour.since=performance.now();
+drawTour();
+}
+function tourBack(){
+Object.assign(tour,{plays:false,at:Math.max(0,tour.at - 1)});
+drawTour();
+}
+async function tourNext(){
+tour.since=performance.now();
+if(tour.at<tour.scenes.length - 1)tour.at++;
+else if(canGoOn())return pressStep();
+else tour.plays=false;
+drawTour();
+}
+function canGoOn(){
+const{next,registers}=view.picture;
+return tour.scenes.length>0&&next !==null&&registers.I !==view.ended&&!run&&mayCommand();
+}
+function pauseTour(){
+Object.assign(tour,{plays:!tour.plays,since:performance.now()});
+drawTour();
+}
+function lookForTour(){
+if(tour.isOn&&tour.plays&&performance.now()- tour.since>SCENE_MS)tourNext();
+}
+function endTour(){
+Object.assign(tour,{scenes:[],at:-1,isOn:false,plays:false});
+drawTour();
 }
 const CLEARED_AT_ONCE=4000;
 let isClearing=false;
@@ -2252,7 +2714,7 @@ await inTurn(look);
 return true;
 }
 const TURN_IDLE_MS=60000;
-const TURN_SLOT_MS=1000;
+const TURN_SLOT_MS=1500;
 const TURN_LOOK_MS=200;
 const turn={has:false,wants:false,freeSince:null};
 const isShared=()=>view.picture !==null&&view.picture.seats>1;
@@ -2470,7 +2932,8 @@ return turn.wants||isKeptOff()?'wait':stepOf(view.picture,this);
 },
 draw(){
 const name=this.step(),step=name&&GUIDE_STEPS[name],shown=step?step.shown:-1;
-this.light(step?step.key:'',step&&step.focus);
+this.light(!step?'':wantsClearing()?'feed-key':step.key,step&&step.focus);
+if(isExhibit)setText(byId('feed-key'),TEXTS.childKeys[wantsClearing()?'clear':'feed']);
 [...byId('guide-steps').children].forEach((element,at)=>{
 element.classList.toggle('done',at<shown);
 element.toggleAttribute('aria-current',at===shown);
@@ -2496,8 +2959,8 @@ if(before&&before===document.activeElement)setTimeout(()=>byId(focus||lit).focus
 words(name){
 if(name===null)return TEXTS.guide[this.state==='on'?'off':this.preparedWords()];
 if(name==='wait')return turnWords();
-const there=name==='other'?programThere(view.picture):null;
-return there?filled(TEXTS.guideWords.program,{name:TEXTS.programs[there].name}):TEXTS.guideWords[name];
+const there=name==='other'?programThere(view.picture):null,words=isExhibit?TEXTS.childWords:TEXTS.guideWords;
+return there?filled(words.program,{name:TEXTS.programs[there].name}):words[name];
 },
 preparedWords(){
 return this.state==='prepared'&&renewal.mode==='ON'?'preparedAgain':this.state;
@@ -2505,6 +2968,7 @@ return this.state==='prepared'&&renewal.mode==='ON'?'preparedAgain':this.state;
 };
 onHappened.push(event=>guide.on(event));
 function reserveGuide(){
+if(isStage)return;
 const probe=byId('guide-said').cloneNode(true),[words,end]=probe.children;
 probe.id=words.id='';
 probe.className='probe';
@@ -2523,6 +2987,7 @@ const attract={on:false,stop:false,yields:false,press:false,touched:performance.
 pressed:performance.now(),ended:-Infinity};
 function touch(event){
 attract.touched=attract.pressed=performance.now();
+if(VISIT.isFresh&&event.isTrusted !==false)greet();
 if(run)run.wake();
 if(event.isTrusted===false)return;
 const isClick=event.type==='click',ends=guide.state==='attract',goesOn=isClick&&attract.press;
@@ -2542,7 +3007,8 @@ attract.touched=performance.now();
 function isIdle(){
 const now=performance.now(),{picture}=view;
 if(!picture||hold.isPrepared||!mayCommand()||run||feed||taking||document.hidden)return false;
-if(document.querySelector('dialog[open]')||picture.after>IDLE.mostAfter)return false;
+if(isStage?!VISIT.isFresh:document.querySelector('dialog[open]:not(#about, #help, #ask)'))return false;
+if(picture.after>IDLE.mostAfter)return false;
 const wanted=IDLE.attractMs + picture.seat*IDLE.seatMs;
 return now - attract.touched>wanted&&now - view.changed>wanted - IDLE.attractMs + IDLE.pauseMs
 &&now - attract.ended>IDLE.pauseMs&&now - view.others.at>wanted;
@@ -2551,6 +3017,7 @@ async function attractIfIdle(){
 if(attract.on||!isIdle())return;
 Object.assign(attract,{on:true,stop:false,yields:false});
 document.body.classList.add('attracts');
+if(!isStage)asNew();
 guide.state='attract';
 guide.draw();
 await playDeck();
@@ -2560,7 +3027,7 @@ if(attract.yields)stepAside();
 }
 async function takeOver(){
 Object.assign(attract,{on:true,stop:true});
-if(!attract.yields&&mayCommand())await startAfresh();
+if(!attract.yields&&mayCommand()&&!isClear(view.picture))await startAfresh();
 Object.assign(attract,{on:false,ended:performance.now()});
 document.body.classList.remove('attracts');
 guide.begin();
@@ -2578,7 +3045,7 @@ async function playDeck(){
 const ends=()=>attract.stop||attract.yields||!mayCommand();
 await startAfresh();
 if(ends())return;
-const shown=PROGRAMS.filter(program=>program.alone);
+const shown=PROGRAMS.filter(program=>program.alone&&!(isExhibit&&program.name==='hello'));
 const program=shown[Math.floor(Math.random()*shown.length)],pace=byId('pace').selectedIndex;
 byId('program').value=program.name;
 drawProgram();
@@ -2587,9 +3054,67 @@ if(ends())return;
 if(program.switches)await say(`SWITCH ${program.switches} ON`);
 await pressLoad();
 if(ends())return;
-byId('pace').selectedIndex=PACES.indexOf(OWN_PACE);
+byId('pace').selectedIndex=isExhibit?0:PACES.indexOf(OWN_PACE);
 await pressRun();
 byId('pace').selectedIndex=pace;
+}
+const VISIT={idleMs:60000,leaveMs:10000,wordsMs:4000,isFresh:false,at:0};
+function lookForVisitor(){
+if(!isExhibit)return;
+const idle=performance.now()- attract.touched,left=VISIT.idleMs + VISIT.leaveMs - idle;
+byId('leaving').hidden=VISIT.isFresh||idle<VISIT.idleMs;
+setText(byId('leaving-words'),counted(TEXTS.stage.leaving,Math.max(0,Math.ceil(left / 1000))));
+if(!VISIT.isFresh&&left<=0)welcomeNext();
+drawTouchMe();
+}
+function drawTouchMe(){
+byId('touch-me').hidden=!VISIT.isFresh;
+const all=Object.values(LANGUAGES),texts=all[Math.floor(performance.now()/ VISIT.wordsMs)% all.length];
+setText(byId('touch-words'),texts.stage.touch);
+byId('touch-words').lang=texts.language;
+}
+function greet(){
+VISIT.isFresh=false;
+byId('touch-me').hidden=true;
+}
+async function welcomeNext(){
+VISIT.isFresh=true;
+stopRun();
+turn.wants=false;
+if(turn.has||isHolder())await giveTurn();
+asNew();
+guide.state='attract';
+guide.draw();
+if(view.picture&&!isClear(view.picture)&&mayCommand()&&!othersAtWork()&&!hold.isPrepared)await startAfresh();
+byId('log').replaceChildren();
+}
+function asNew(){
+for(const dialog of document.querySelectorAll('dialog[open]'))dialog.close();
+for(const field of document.querySelectorAll('input:not([type=file]), textarea')){
+field.value=field.defaultValue;
+field.checked=field.defaultChecked;
+}
+for(const part of document.querySelectorAll('details'))part.open=part.id==='source-details';
+if(byId('fold').classList.contains('large'))enlargePaper();
+if(byId('view-key').getAttribute('aria-pressed')==='true')pressView();
+if(speaker)pressSound();
+if(document.body.classList.contains('more'))pressMore();
+byId('pace').selectedIndex=isExhibit?0:FASTEST;
+byId('log').replaceChildren();
+Object.assign(typed,{lines:[],at:0});
+released='';
+nameCard=HELLO;
+Object.assign(guide,{card:null,hasFed:false});
+torn.length=taken.length=0;
+followsPaper=true;
+view.ended=null;
+forgetWords();
+endTour();
+chooseLanguage(languageWanted());
+drawKeyed();
+drawName();
+document.activeElement.blur();
+scrollTo(0,0);
 }
 const SOUNDS={read:{ms:90,hertz:700},print:{ms:130,hertz:1900},punch:{ms:160,hertz:350}};
 let speaker=null;
@@ -2618,6 +3143,8 @@ drawCards();
 drawPaper();
 drawKeys();
 guide.draw();
+drawMachines(view.picture);
+if(!tour.isOn)drawStage(view.picture);
 followI();
 showChanges(drawnLast,view.picture);
 drawnLast=view.picture;
@@ -3170,7 +3697,7 @@ function pressKey(event){
 if(document.querySelector('dialog[open]'))return;
 if(event.key==='Escape')return pressStop();
 const action=SHORTCUTS[event.code];
-if(!action||!event.altKey||event.ctrlKey||event.metaKey||event.getModifierState('AltGraph'))return;
+if(isStage||!action||!event.altKey||event.ctrlKey||event.metaKey||event.getModifierState('AltGraph'))return;
 event.preventDefault();
 if(!event.repeat)action();
 }
@@ -3195,6 +3722,7 @@ for(const text of row)added(line,'td',{textContent:text});
 byId('guide-steps').replaceChildren();
 for(const step of TEXTS.guideSteps)added(byId('guide-steps'),'li',{textContent:step});
 buildAbout();
+if(isStage)buildDrawings();
 buildKeyboard();
 buildNameKeys();
 reserveGuide();
@@ -3248,7 +3776,9 @@ const clicks={
 'load-key':pressLoad,'run-key':pressRun,'stop-key':pressStop,'step-key':pressStep,
 'pick-key':()=>byId('file').click(),'card-key':takeCard,'deck-key':()=>feedText(byId('deck').value),
 'feed-key':feedChosen,'all-cards-key':takeAllCards,'afresh-key':pressAfresh,'guide-key':()=>guide.press(),
-'view-key':pressView,'hold-key':pressHold,'turn-key':pressTurn,'sound-key':pressSound,'card-print-key':printCard,
+'view-key':pressView,'hold-key':pressHold,'turn-key':pressTurn,'more-key':pressMore,
+'why-key':pressWhy,'tour-back':tourBack,'tour-pause':pauseTour,'tour-next':tourNext,
+'watch-stop':watchStop,'watch-hold':watchHold,'sound-key':pressSound,'card-print-key':printCard,
 'about-key':showAbout,'about-close':()=>byId('about').close(),
 'feed-again-key':()=>feedDeck([...taken]),
 'save-cards-key':()=>saveFile('taken.cards',`${taken.join('\n')}\n`),
@@ -3310,7 +3840,7 @@ places.addEventListener('click',event=>{if(event.target.tagName==='TD')event.tar
 function listenForFiles(){
 document.addEventListener('dragover',event=>{
 event.preventDefault();
-byId('feeder').classList.add('over');
+if(!isStage)byId('feeder').classList.add('over');
 });
 for(const name of['dragleave','drop']){
 document.addEventListener(name,()=>byId('feeder').classList.remove('over'));
@@ -3318,7 +3848,7 @@ document.addEventListener(name,()=>byId('feeder').classList.remove('over'));
 document.addEventListener('drop',event=>{
 event.preventDefault();
 const[file]=event.dataTransfer.files;
-if(file)feedFile(file);
+if(file&&!isStage)feedFile(file);
 });
 }
 function resized(){
@@ -3334,6 +3864,10 @@ guide.look();
 lookForRenewal();
 lookForHold();
 lookForTurn();
+lookForVisitor();
+lookForTour();
+lookForWatch();
+drawStageHead();
 attractIfIdle();
 await delay(view.link !=='fine'?RETRY_MS:document.hidden?HIDDEN_POLL_MS:POLL_MS);
 }
@@ -3351,8 +3885,11 @@ TEXTS=LANGUAGES[languageWanted()];
 const lamps=buildPanel();
 const tapePointer=buildTape();
 const cards={read:cardIn(byId('card-read')),next:cardIn(byId('card-next')),punched:cardIn(byId('card-punched')),
-keyed:cardIn(byId('card-keyed')),toPrint:cardIn(byId('card-to-print'))};
-for(const card of[cards.read,cards.next,cards.punched])card(null);
+keyed:cardIn(byId('card-keyed')),toPrint:cardIn(byId('card-to-print')),stage:cardIn(byId('stage-card'))};
+const stageCuts=drawn(byId('stage-card').querySelector('svg'),'path',{class:'cuts'});
+const stageLit=drawn(byId('stage-card').querySelector('svg'),'rect',{class:'lit-part',y:1,height:CARD.height - 2});
+for(const card of[cards.read,cards.next,cards.punched,cards.stage])card(null);
+buildStage();
 putTexts();
 buildCore();
 drawKeyed();
@@ -3372,8 +3909,8 @@ begin();
 /// The `content-security-policy` of the page: its own script and style by their SHA-256, exchanges with its own server,
 /// and nothing else.
 pub const POLICY: &str = "default-src 'none'; \
-    script-src 'sha256-USJgJre3BO7pvsPl/h0E2g94JiSa4WHyuIYqRbslFY0='; \
-    style-src 'sha256-3FQOqrvNhDgGl14zYY8wjMtmyxjiXhBfgtvBLSTIRMQ='; \
+    script-src 'sha256-g2mTlE6iQhXlQV9oBp44XnEHSfquCAeBSC7mhm5PwcE='; \
+    style-src 'sha256-fEENJqp/95z0wT6uL6D/W51vuwmgJJhitpCpg8l38Eo='; \
     img-src data:; \
     connect-src 'self'; \
     form-action 'none'; \
