@@ -98,9 +98,9 @@ class Visits(Stage):
 
         def write(name):
             for number, letter in enumerate(name):
-                self.page.value(f"[...byId('name-keys').children].find(key => key.textContent === '{letter}').id = "
-                                f"'t{number}'")
-                tap(f"t{number}")
+                key = f"{name}{number}"
+                self.page.value(f"[...byId('name-keys').children].find(key => key.textContent === '{letter}').id = '{key}'")
+                tap(key)
 
         self.write = write
         self.page.call("Emulation.setTouchEmulationEnabled", enabled=True)
@@ -184,7 +184,7 @@ class Screen(Stage):
         self.shows("three word marks", lit.format("mark"), ",,,")
         self.shows("the card is cut at two", "stageCuts.getAttribute('d').split('M').length", 3)
         self.page.value("pressRun()")
-        self.shows("the print area", "strip.cells.slice(80).map(cell => cell.textContent).join('').trim()",
+        self.shows("the print area", "strip.cells.slice(80).map(cell => cell.textContent).join('').replace(/\u00a0/g, ' ').trim()",
                    "HELLO FROM AN IBM 1401")
         self.shows("a line on the drawing", "Number(machines.rows[0].getAttribute('width')) > 20")
 
@@ -245,6 +245,15 @@ class Tour(Stage):
         self.shows("it pauses", "tour.scenes.length + byId('tour-pause').textContent", "2Go on")
         self.mouse("why-key")
         self.shows("it ends", "byId('tour').hidden")
+
+    def test_the_name_comes_after_it(self):
+        self.page.value("feedChosen().then(pressLoad)")
+        self.mouse("why-key")
+        self.page.value("pressRun()")
+        self.shows("the key that closes it is lit", f"byId('name-form').hidden + byId('why-key').textContent + {LIT}",
+                   "trueClosewhy-key")
+        self.mouse("why-key")
+        self.shows("then the name is asked for", f"byId('name-form').hidden + {LIT}", "falsename-key")
 
     def test_another_deck(self):
         """Its scenes are made from the machine too."""
@@ -339,7 +348,7 @@ class Watch(Stage):
         self.shows("it runs", "run !== null && run.slices > 2", page=pupil)
         self.mouse("watch-stop")
         self.shows("it is stopped", "run", None, pupil)
-        self.shows("nobody is kept off", "isHeld()", False, pupil)
+        self.shows("then nobody is kept off", "isHeld()", False, pupil)
         self.pages.remove(pupil)
 
     def test_the_teacher_holds_for_all(self):

@@ -8,10 +8,13 @@ const attract = {on: false, stop: false, yields: false, press: false, touched: p
    does nothing either, even if the machine is clear by then. */
 function touch(event) {
   attract.touched = attract.pressed = performance.now();
-  if (VISIT.isFresh && event.isTrusted !== false) greet();
   if (run) run.wake();
   if (event.isTrusted === false) return;
-  const isClick = event.type === 'click', ends = guide.state === 'attract', goesOn = isClick && attract.press;
+  const waited = VISIT.isFresh;
+  if (waited) greet();
+  // A key that is held down presses once.
+  if (event.repeat && ['Enter', ' '].includes(event.key) && event.target.tagName === 'BUTTON') return event.preventDefault();
+  const isClick = event.type === 'click', ends = guide.state === 'attract' || waited, goesOn = isClick && attract.press;
   attract.press = ends && !isClick;
   if (ends) {
     if (attract.on) attract.stop = true;
@@ -28,7 +31,7 @@ function noteHand() {
 function isIdle() {
   const now = performance.now(), {picture} = view;
   if (!picture || hold.isPrepared || !mayCommand() || run || feed || taking || document.hidden) return false;
-  if (isStage ? !VISIT.isFresh : document.querySelector('dialog[open]:not(#about, #help, #ask)')) return false;
+  if (isStage && !VISIT.isFresh) return false;
   if (picture.after > IDLE.mostAfter) return false;
   const wanted = IDLE.attractMs + picture.seat * IDLE.seatMs;
   return now - attract.touched > wanted && now - view.changed > wanted - IDLE.attractMs + IDLE.pauseMs
@@ -49,7 +52,8 @@ async function attractIfIdle() {
 /* The guide begins for whoever has come, with a clear machine unless somebody works at another seat. */
 async function takeOver() {
   Object.assign(attract, {on: true, stop: true});
-  if (!attract.yields && mayCommand() && !isClear(view.picture)) await startAfresh();
+  const isOurs = !attract.yields && mayCommand() && !othersAtWork();
+  if (isOurs && !isClear(view.picture)) await startAfresh();
   Object.assign(attract, {on: false, ended: performance.now()});
   document.body.classList.remove('attracts');
   guide.begin();

@@ -1,6 +1,7 @@
 /* The beginning: texts, parts that are built once, and what listens. */
 function putTexts() {
   document.documentElement.lang = TEXTS.language;
+  document.documentElement.dir = TEXTS.dir;
   for (const element of document.querySelectorAll('[data-text], [data-label], [data-title], [data-hint]')) {
     const {text, label, title, hint} = element.dataset;
     if (text) element.textContent = TEXTS[text];
@@ -163,7 +164,7 @@ function resized() {
    which would wait for each look. */
 async function poll() {
   for (;;) {
-    if (!taking && !(feed && !feed.waits)) await inTurn(look);
+    if (!taking && !(feed && !feed.waits)) await (view.posting ? lookAside() : inTurn(look));
     if (view.picture) drawOthers();
     guide.look();
     lookForRenewal();
@@ -178,6 +179,7 @@ async function poll() {
   }
 }
 async function begin() {
+  if (isHome) return showHome();
   tell(TEXTS.said.welcome);
   note('words', TEXTS.said.firstNote);
   while (!(await inTurn(look))) await delay(RETRY_MS);

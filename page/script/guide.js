@@ -7,7 +7,7 @@ const HELLO_END = 38;
 /* Each step has the key for it, and the number of the step that is shown. */
 const GUIDE_STEPS = {
   feed: {key: 'feed-key', shown: 0}, load: {key: 'load-key', shown: 1}, step: {key: 'step-key', shown: 2},
-  run: {key: 'run-key', shown: 3}, name: {key: 'name-key', shown: 4, focus: 'name'},
+  run: {key: 'run-key', shown: 3}, name: {key: 'name-key', shown: 4},
   loadName: {key: 'load-key', shown: 4}, runName: {key: 'run-key', shown: 4}, done: {key: '', shown: 5},
   other: {key: 'afresh-key', shown: -1}, paper: {key: 'tear-key', shown: -1}, wait: {key: 'turn-key', shown: -1},
 };
@@ -67,6 +67,7 @@ const guide = {
     if (this.state === 'on' && !['feed', 'wait'].includes(this.step()) && isLate && !run) this.stepAside();
   },
   stepAside() {
+    if (isStage) return this.begin();
     this.state = 'aside';
     this.draw();
   },
@@ -83,7 +84,7 @@ const guide = {
   },
   draw() {
     const name = this.step(), step = name && GUIDE_STEPS[name], shown = step ? step.shown : -1;
-    this.light(!step ? '' : wantsClearing() ? 'feed-key' : step.key, step && step.focus);
+    this.light(this.keyFor(name), name === 'name' && !tour.isOn && 'name');
     if (isExhibit) setText(byId('feed-key'), TEXTS.childKeys[wantsClearing() ? 'clear' : 'feed']);
     [...byId('guide-steps').children].forEach((element, at) => {
       element.classList.toggle('done', at < shown);
@@ -92,11 +93,17 @@ const guide = {
       setAttribute(element, 'aria-label', filled(at < shown ? TEXTS.stepDone : TEXTS.stepOpen,
         {n: at + 1, name: TEXTS.guideSteps[at]}));
     });
-    byId('name-form').hidden = name !== 'name';
+    byId('name-form').hidden = name !== 'name' || tour.isOn;
     byId('guide-end').hidden = name !== 'done';
     setText(byId('guide-now'), this.words(name));
     setText(byId('guide-key'), this.state === 'on' ? TEXTS.guideOff : TEXTS.guideOn);
+    drawHomeCode(name === 'done');
     drawTurn();
+  },
+  /* The key for a step. On a stage FEED clears too, and the tour is closed before the name is written. */
+  keyFor(name) {
+    if (name === null) return '';
+    return wantsClearing() ? 'feed-key' : name === 'name' && tour.isOn ? 'why-key' : GUIDE_STEPS[name].key;
   },
   /* Lights a key. The keyboard's focus goes on to it from the key that was lit before. */
   light(lit, focus) {

@@ -37,7 +37,7 @@ function forgetHold() {
 }
 async function askForHold(path, method) {
   const headers = method === 'POST' ? {'X-1401-Room': view.picture.room} : {};
-  const response = await fetch(path, {method, headers, cache: 'no-store'});
+  const response = await fetch(path, {method, headers, cache: 'no-store', signal: timeLimit()});
   const text = await response.text();
   if (response.status === 200 || response.status === 423) takeHold(text);
 }

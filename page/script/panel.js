@@ -115,7 +115,7 @@ function bulbRows() {
   const {registers, from, cells} = view.picture;
   const at = place => cells[place - from] ? cells[place - from].graphic : ' ';
   const rows = [['B', at(registers.B)], ['A', at(registers.A)], ['OP', at(registers.I)]];
-  const address = [...pad(registers.I, 5)].map(digit => [TEXTS.bulbAddress, digit]);
+  const address = [...pad(registers.I, 5)].map((digit, at) => [`${TEXTS.bulbAddress}${at + 1}`, digit]);
   return [...rows, ...address];
 }
 function drawBulbs() {

@@ -8,7 +8,7 @@ const PRINT_FROM = 201, PRINT_PLACES = 40;
 const BAND_LINES = 12;
 /* The keys and words of the plain page that a stage has, and what becomes of them there. */
 const ON_STAGE = {'stage-keys': ['feed-key', 'load-key', 'step-key', 'run-key'], 'stage-said': ['guide-said'],
-  'stage-more': ['turn-key', 'language'], stage: ['name-form']};
+  'stage-more': ['turn-key', 'language'], stage: ['name-form', 'home-figure']};
 const strip = {cells: [], shown: [], heads: [], from: 1};
 
 function buildStage() {
@@ -113,18 +113,26 @@ async function clearForGuide() {
   await startAfresh(renewal.mode === 'ON' ? renewRoom : clearMachine);
   guide.begin();
 }
-/* The teacher's keys of a projector's view. Both hold the machine, which ends a run; one lets go at once. */
-async function watchStop() {
-  await askToHold('/hold');
-  if (isHolder() && !watching.holds) await askToHold('/release');
+/* The teacher's keys of a projector's view. Both hold the machine, which ends a run before its next part; the one for a run
+   gives it back after the longest part that a run has. */
+const watching = {holds: false, stops: false, until: Infinity};
+function watchStop() {
+  Object.assign(watching, {stops: true, until: Infinity});
+  return lookForWatch();
 }
 async function watchHold() {
   watching.holds = !watching.holds;
-  byId('watch-hold').setAttribute('aria-pressed', String(watching.holds));
-  await askToHold(watching.holds ? '/hold' : '/release');
+  if (!watching.holds && !watching.stops && isHolder()) await askToHold('/release');
+  return lookForWatch();
 }
-const watching = {holds: false};
-/* A hold has a minute; it is asked for again as long as the key is pressed. */
+/* Waits for the end of another page's hold. A hold has a minute, so it is asked for again as long as the key is pressed. */
 async function lookForWatch() {
-  if (watching.holds && !isHeld()) await askToHold('/hold');
+  const {holds, stops} = watching;
+  if ((holds || stops) && !isHeld()) await askToHold('/hold');
+  if (stops && isHolder()) watching.until = Math.min(watching.until, performance.now() + LONGEST_PART_MS);
+  if (performance.now() > watching.until) {
+    Object.assign(watching, {stops: false, until: Infinity});
+    if (!holds && isHolder()) await askToHold('/release');
+  }
+  for (const key of ['hold', 'stop']) byId(`watch-${key}`).setAttribute('aria-pressed', String(watching[`${key}s`]));
 }

@@ -1,6 +1,6 @@
 /* Every text for visitors, in English. */
 LANGUAGES.en = {
-  language: 'en', name: 'English', languageLabel: 'language', thousands: ',',
+  language: 'en', name: 'English', dir: 'ltr', languageLabel: 'language', thousands: ',',
   documentTitle: 'IBM 1401, seat {seat}',
   skip: 'To the deck and the keys',
   headline: 'Data processing system', subline: 'Shared machine room',
@@ -132,6 +132,8 @@ LANGUAGES.en = {
   nearlyFull: 'The journal has {n} of its 100,000 entries. Please call the staff.',
   refusedStatus: 'The server refused what this page asked for ({status}).',
   unread: 'This page doesn\'t understand what the server shows. Is the page of another version?',
+  proxyAlone: 'The proxy answers, but the room doesn\'t. Start the room; this page then goes on by itself.',
+  foreign: 'The room doesn\'t know this page\'s address. Start it with --origin and the address that is shown above.',
   noMemory: 'The server had no memory for a picture. This page tries again.',
 
   outcomes: {
@@ -278,6 +280,8 @@ LANGUAGES.en = {
     who: 'Seat {seat} is at the machine', nobody: 'Nobody is at the machine', touch: 'TOUCH ME',
     leaving: {one: 'Are you still there? Touch the screen. (1)', many: 'Are you still there? Touch the screen. ({n})'},
   },
+  homeCode: 'Take your card home: point a telephone here.', homeTitle: 'Your card from an IBM 1401',
+  homeLine: 'It printed this line',
   machinesLabel: 'the card reader, the computer and the printer', moreKey: 'More', whyKey: 'Why?',
   watchStop: 'Stop the run', watchHold: 'Hold for all',
   tourLabel: 'what the machine does', tourBack: 'Back', tourNext: 'Next',

@@ -52,6 +52,8 @@ function drawTour() {
   const scene = tour.scenes[tour.at];
   byId('tour').hidden = !tour.isOn;
   byId('why-key').setAttribute('aria-pressed', String(tour.isOn));
+  setText(byId('why-key'), tour.isOn ? TEXTS.closeKey : TEXTS.whyKey);
+  guide.draw();
   if (!tour.isOn) return view.picture && drawStage(view.picture);
   setText(byId('tour-words'), scene ? sceneWords(scene) : TEXTS.scenes.none);
   setText(byId('tour-at'), scene ? filled(TEXTS.scenes.at, {n: tour.at + 1, all: tour.scenes.length}) : '');

@@ -42,7 +42,8 @@ async function pressTurn() {
   turn.freeSince = null;
   guide.draw();
 }
-/* A turn ends with the name on the paper, after a minute without a hand, and with the guide. */
+/* A turn ends with the name on the paper, after a minute without a hand, and with the guide. While a run goes on the
+   machine isn't held again, so others can stop it. */
 function isTurnOver() {
   return performance.now() - attract.touched > TURN_IDLE_MS || [null, 'done'].includes(guide.step());
 }
@@ -50,7 +51,7 @@ async function lookForTurn() {
   if (!isShared() || view.link !== 'fine') return;
   if (turn.has && isKeptOff()) Object.assign(turn, {has: false, wants: true});
   if (turn.has && isTurnOver()) await giveTurn();
-  else if (turn.has && !isHeld()) await takeTurn();
+  else if (turn.has && !isHeld() && run === null) await takeTurn();
   if (guide.state !== 'on') turn.wants = false;
   if (turn.wants) await waitInLine();
 }

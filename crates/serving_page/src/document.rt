@@ -112,6 +112,14 @@ border-radius:4px;background:#fff;}
 .lit[aria-disabled=true]{outline:0 !important;animation:none;}
 @keyframes lit{from{outline-offset:1px;}to{outline-offset:4px;}}
 .attracts .guide{border:2px solid var(--lit);}
+#home-figure{position:absolute;top:100%;right:8px;z-index:4;width:230px;padding:8px;background:#fff;
+border:1px solid var(--edge);border-radius:6px;font-size:13px;text-align:center;}
+#home-code{width:100%;display:block;}
+#home-code .ground{fill:#fff;}
+.home-page{padding:16px;max-width:1100px;margin:auto;}
+.home-page pre{font:700 max(20px, 2.4vw)/1.5 var(--mono);background:var(--paper);border:solid #8f8a7a;
+border-width:1px 12px;padding:8px 14px;margin:8px 0;overflow-x:auto;}
+.home>header,.home>main,.home>footer,.home .banner,.home .skip{display:none;}
 .board{background:linear-gradient(var(--panel-light), var(--panel));color:var(--ivory);padding:10px 12px;
 display:flex;flex-wrap:wrap;gap:9px 14px;align-items:flex-end;align-content:flex-start;flex:1;}
 .shown{display:flex;flex-wrap:wrap;gap:6px 12px;}
@@ -306,7 +314,7 @@ dialog svg text{fill:#fff;font-size:14px;text-anchor:middle;}
 dialog svg rect{fill:#2e3e4d;stroke:#c3ccd3;}
 dialog svg path{stroke:#ffb238;stroke-width:3;fill:none;}
 .stage-screen{position:fixed;inset:0;z-index:2;container-type:size;overflow:hidden;background:var(--room);}
-.exhibit,.watch{overflow:hidden;height:100vh;}
+.exhibit,.watch{overflow:hidden;padding:0;}
 .exhibit>header,.exhibit>.skip,.exhibit>footer,.exhibit .newest,.watch>header,.watch>.skip,.watch>main,
 .watch>footer,.watch .newest{display:none;}
 .exhibit>main{display:none;}
@@ -386,6 +394,7 @@ border-radius:10px;padding:20px;font-size:min(34px, 6cqw);font-weight:700;}
 .stage-screen .touch-me{inset:calc(100cqh - max(120px, 20cqh)) 0 0;z-index:8;display:grid;place-items:center;text-align:center;
 background:#10171dd9;color:#fff;}
 .touch-me p{margin:0;font-size:max(60px, 9cqh);line-height:1.1;font-weight:700;}
+#stage #home-figure{top:auto;left:auto;right:14px;bottom:116px;width:min(240px, 30cqh);z-index:3;}
 .watch .band{max-height:calc(50cqh - 100px);}
 .watch .strip{font-size:max(24px, min(1.9cqw, 3.4cqh));}
 .stage-head #stage-who{font-size:24px;}
@@ -414,6 +423,7 @@ font-size:min(3.6cqw, 2.2cqh);}
 .stage-screen .name-keys{grid-template-columns:repeat(auto-fill, minmax(44px, 1fr));}
 .stage-screen .name-keys button{min-width:44px;min-height:50px;}
 .touch-me p{font-size:60px;}
+#stage #home-figure{bottom:190px;width:150px;}
 }
 @media (max-width:1579px){
 .tape{display:none;}
@@ -501,6 +511,11 @@ background-color:#fff;}
 <div class="notice" id="notice" role="status" hidden><span id="notice-words"></span><span id="notice-left"
 aria-hidden="true"></span></div>
 <noscript><p class="banner">This page needs JavaScript, which it has within itself.</p></noscript>
+<div class="home-page" id="home" hidden>
+<h1 data-text="homeTitle"></h1>
+<figure class="card" id="home-card"></figure>
+<h2 data-text="homeLine"></h2><pre id="home-line"></pre>
+</div>
 <div class="stage-screen" id="stage" hidden>
 <div class="stage-head"><h1 id="stage-name"></h1><span id="stage-who"></span><div id="stage-more">
 <button type="button" class="small-key" id="watch-stop" data-text="watchStop"></button>
@@ -534,6 +549,8 @@ aria-hidden="true"></span></div>
 <div id="guide-said"><p id="guide-now" aria-live="polite"></p>
 <div class="row" id="guide-end" hidden>
 <button type="button" class="small-key" id="card-print-key" data-text="cardPrintKey"></button></div></div>
+<figure id="home-figure" hidden><figcaption data-text="homeCode"></figcaption>
+<svg id="home-code" role="img" data-label="homeCode"></svg></figure>
 <form class="row over-parts" id="name-form" hidden>
 <label><span data-text="nameLabel"></span> <input id="name" maxlength="40" autocomplete="off"
 spellcheck="false" autocapitalize="characters"></label>
@@ -706,10 +723,13 @@ const PROGRAM_FILES = {"banner":{"source":"~F* A BANNER: THE LETTERS OF COLUMNS 
 const LANGUAGES={};
 let TEXTS;
 function languageWanted(){
-const asked=FRAGMENT.get('lang');
-if(asked in LANGUAGES)return asked;
-const known=navigator.languages.map(name=>name.slice(0,2)).find(name=>name in LANGUAGES);
-return known||'en';
+const asked=[FRAGMENT.get('lang'),...navigator.languages].filter(Boolean),known=Object.keys(LANGUAGES);
+const first=tag=>tag.split('-')[0];
+for(const wanted of asked){
+const found=known.find(tag=>tag===wanted)||known.find(tag=>first(tag)===first(wanted));
+if(found)return found;
+}
+return 'en';
 }
 function chooseLanguage(name){
 TEXTS=LANGUAGES[name];
@@ -717,7 +737,7 @@ putTexts();
 drawAnew();
 }
 LANGUAGES.en={
-language:'en',name:'English',languageLabel:'language',thousands:',',
+language:'en',name:'English',dir:'ltr',languageLabel:'language',thousands:',',
 documentTitle:'IBM 1401, seat {seat}',
 skip:'To the deck and the keys',
 headline:'Data processing system',subline:'Shared machine room',
@@ -841,6 +861,8 @@ full:'The journal is full, so the machine takes no more commands. Please call th
 nearlyFull:'The journal has {n} of its 100,000 entries. Please call the staff.',
 refusedStatus:'The server refused what this page asked for ({status}).',
 unread:'This page doesn\'t understand what the server shows. Is the page of another version?',
+proxyAlone:'The proxy answers, but the room doesn\'t. Start the room; this page then goes on by itself.',
+foreign:'The room doesn\'t know this page\'s address. Start it with --origin and the address that is shown above.',
 noMemory:'The server had no memory for a picture. This page tries again.',
 outcomes:{
 off:'Not sent: the machine doesn\'t take commands now.',
@@ -985,6 +1007,8 @@ machines:{reader:'Card reader 1402',unit:'Computer 1401',printer:'Printer 1403'}
 who:'Seat {seat} is at the machine',nobody:'Nobody is at the machine',touch:'TOUCH ME',
 leaving:{one:'Are you still there? Touch the screen. (1)',many:'Are you still there? Touch the screen. ({n})'},
 },
+homeCode:'Take your card home: point a telephone here.',homeTitle:'Your card from an IBM 1401',
+homeLine:'It printed this line',
 machinesLabel:'the card reader, the computer and the printer',moreKey:'More',whyKey:'Why?',
 watchStop:'Stop the run',watchHold:'Hold for all',
 tourLabel:'what the machine does',tourBack:'Back',tourNext:'Next',
@@ -1061,13 +1085,13 @@ shortcuts:[
 ],
 };
 LANGUAGES.de={
-language:'de',name:'Deutsch',languageLabel:'Sprache',thousands:'.',
+language:'de',name:'Deutsch',dir:'ltr',languageLabel:'Sprache',thousands:'.',
 documentTitle:'IBM 1401, Platz {seat}',
 skip:'Zum Stapel und zu den Tasten',
 headline:'Datenverarbeitungssystem',subline:'Gemeinsamer Maschinenraum',
 seatsLabel:'Die Pl\xe4tze dieses Raums',seats:'Pl\xe4tze',seat:'Platz {n}',thisSeat:'Platz {n}, dieser hier',
 takenSeat:'Platz {n}, besetzt',
-after:{one:'1 Befehl',many:'{n} Befehle'},afterTitle:'wie viele Befehle die Maschine von allen Pl\xe4tzen bekam',
+after:{one:'1 Eingabe',many:'{n} Eingaben'},afterTitle:'wie viele Eingaben die Maschine von allen Pl\xe4tzen bekam',
 answers:'Die Maschine antwortet.',
 aboutKey:'Was sehe ich hier?',soundKey:'Ton',helpKey:'Tasten',closeKey:'Schlie\xdfen',yesKey:'Ja',
 noKey:'Nein',
@@ -1127,7 +1151,7 @@ pickKey:'Aus einer Datei',
 cardKey:'Gestanzte Karte nehmen',cardTitle:'nimmt die \xe4lteste Karte aus der Ablage, endg\xfcltig',
 allCardsKey:'Alle gestanzten Karten nehmen',takingCards:'{n} von {all} Karten genommen',takeStop:'Aufh\xf6ren',
 takenAll:{one:'1 Karte wurde genommen.',many:'{n} Karten wurden genommen.'},
-saveCardsKey:'Genommene Karten sichern',feedAgainKey:'Genommene Karten wieder einlegen',
+saveCardsKey:'Genommene Karten speichern',feedAgainKey:'Genommene Karten wieder einlegen',
 taken:'Karte genommen: {text}',takenBlank:'Eine leere Karte wurde genommen.',
 typedDeck:'Einen Stapel tippen oder einf\xfcgen, eine Karte je Zeile',deckKey:'Diese Karten einlegen',
 feedingLabel:'eingelegte Karten',feedingCount:'{n} von {all} Karten eingelegt',feedStop:'Aufh\xf6ren',
@@ -1154,23 +1178,23 @@ tapeLabel:'Vorschubstreifen: Kanal 1 bei Zeile 4, Kanal 9 bei Zeile 60, Kanal 12
 + 'der Vorschub ist bei Zeile {line}',
 tearKey:'Abrei\xdfen',tearTitle:'nimmt die gedruckten Zeilen aus dem Drucker, endg\xfcltig (Alt+T)',
 tearAsk:{one:'Das nimmt die gedruckte Zeile aus dem Drucker, und kein anderer Platz sieht sie mehr. '
-+ 'Diese Seite beh\xe4lt sie, zum Sichern oder Drucken. Abrei\xdfen?',
++ 'Diese Seite beh\xe4lt sie, zum Speichern oder Drucken. Abrei\xdfen?',
 many:'Das nimmt {n} gedruckte Zeilen aus dem Drucker, und kein anderer Platz sieht sie mehr. '
-+ 'Diese Seite beh\xe4lt sie, zum Sichern oder Drucken. Abrei\xdfen?'},
++ 'Diese Seite beh\xe4lt sie, zum Speichern oder Drucken. Abrei\xdfen?'},
 tearing:'{n} von {all} Zeilen genommen',noPaper:'Es gibt keine gedruckte Zeile.',
 torn:{one:'abgerissen und noch hier: 1 Zeile',many:'abgerissen und noch hier: {n} Zeilen'},
 dropKey:'Wegwerfen',dropAsk:'Das abgerissene Papier wegwerfen?',
-saveKey:'Als Text sichern',printKey:'Drucken',largeKey:'Gr\xf6\xdfer',toCarriage:'Zum Vorschub',
+saveKey:'Als Text speichern',printKey:'Drucken',largeKey:'Gr\xf6\xdfer',toCarriage:'Zum Vorschub',
 console:'Konsole',logLabel:'Zeilen und Antworten',lineLabel:'eine Zeile der Konsole',
 lineHint:'EXAMINE 0500 11',
 sendKey:'SENDEN',linesTitle:'Die Zeilen, und was sie tun (oder HELP)',
-others:{one:'andere gaben 1 Befehl, seit Sie da sind',many:'andere gaben {n} Befehle, seit Sie da sind'},
+others:{one:'andere machten 1 Eingabe, seit Sie da sind',many:'andere machten {n} Eingaben, seit Sie da sind'},
 othersNow:'Ein anderer Platz arbeitet auch an dieser Maschine.',
 othersRun:'Ein anderer Platz l\xe4sst ein Programm laufen: LOAD, RUN, STEP und START AT w\xfcrden mitten darin wirken.',
 othersRunning:'ein anderer Platz l\xe4sst ein Programm laufen',
 seatNow:'Platz {seat} arbeitet auch an dieser Maschine ({line}).',
 seatRun:'Platz {seat} l\xe4sst ein Programm laufen: LOAD, RUN, STEP und START AT w\xfcrden mitten darin wirken.',
-seatRunning:'Platz {seat} l\xe4sst ein Programm laufen',seatLast:'; der letzte Befehl ist von Platz {seat}: {line}',
+seatRunning:'Platz {seat} l\xe4sst ein Programm laufen',seatLast:'; die letzte Eingabe ist von Platz {seat}: {line}',
 holdKey:'Maschine halten',releaseHold:'Andere weitermachen lassen',
 holdTitle:'eine Minute lang gibt keine andere Seite der Maschine Zeilen; Konsolen schon',
 holder:'Sie halten die Maschine: die Tasten der anderen Seiten sind aus.',
@@ -1179,24 +1203,26 @@ fedInLog:{one:'(1 Karte eingelegt)',many:'({n} Karten eingelegt)'},
 tornInLog:{one:'(1 Zeile genommen)',many:'({n} Zeilen genommen)'},
 cardsInLog:{one:'(1 Karte genommen)',many:'({n} Karten genommen)'},
 notText:'Eine Zeile hat nur Buchstaben, Ziffern und Zeichen der 1401.',
-footer:'Eine simulierte IBM 1401. Alles, was Sie sehen, ist von einem Augenblick, nach so vielen Befehlen wie oben.',
+footer:'Eine simulierte IBM 1401. Alles, was Sie sehen, ist von einem Augenblick, nach so vielen Eingaben wie oben.',
 lost:'Die Maschine antwortet nicht, darum sind die Tasten aus. Diese Seite versucht es weiter.',
 closed:'Der Raum ist geschlossen: die Maschine wurde wegger\xe4umt. Diese Seite versucht es weiter.',
 taken503:'An diesem Platz sitzt jemand mit einer Konsole. Diese Seite geht weiter, wenn er gegangen ist.',
 busy:'Zu viele Anfragen warten bei dieser Seite. Sie versucht es weiter.',
-unkept:'Die Datei des Journals l\xe4sst sich nicht schreiben; die Maschine nimmt keine Befehle an. Bitte das '
+unkept:'Die Datei des Journals l\xe4sst sich nicht schreiben; die Maschine nimmt keine Eingaben an. Bitte das '
 + 'Personal rufen.',
 renewal:{one:'Diese Maschine wird in 1 Sekunde wegger\xe4umt, und eine neue folgt.',
 many:'Diese Maschine wird in {n} Sekunden wegger\xe4umt, und eine neue folgt.'},
-full:'Das Journal ist voll; die Maschine nimmt keine Befehle mehr an. Bitte das Personal rufen.',
+full:'Das Journal ist voll; die Maschine nimmt keine Eingaben mehr an. Bitte das Personal rufen.',
 nearlyFull:'Das Journal hat {n} seiner 100.000 Eintr\xe4ge. Bitte das Personal rufen.',
 refusedStatus:'Der Server hat abgelehnt, was diese Seite wollte ({status}).',
 unread:'Diese Seite versteht nicht, was der Server zeigt. Ist sie von einer anderen Version?',
+proxyAlone:'Der Proxy antwortet, der Raum aber nicht. Starten Sie den Raum; diese Seite geht dann von selbst weiter.',
+foreign:'Der Raum kennt die Adresse dieser Seite nicht. Starten Sie ihn mit --origin und der Adresse, die oben steht.',
 noMemory:'Der Server hatte keinen Speicher f\xfcr ein Bild. Diese Seite versucht es weiter.',
 outcomes:{
-off:'Nicht gesendet: die Maschine nimmt jetzt keine Befehle an.',
+off:'Nicht gesendet: die Maschine nimmt jetzt keine Eingaben an.',
 broken:'Nicht gesendet: es war f\xfcr die Maschine vor dem Abbruch der Verbindung gemeint.',
-409:'Nicht ausgef\xfchrt: dieser Platz hat inzwischen etwas anderes befohlen, vielleicht in einem anderen Fenster. '
+409:'Nicht ausgef\xfchrt: dieser Platz hat inzwischen etwas anderes eingegeben, vielleicht in einem anderen Fenster. '
 + 'Sehen Sie nach, und senden Sie es noch einmal.',
 403:'Nicht ausgef\xfchrt: der Server nimmt keine Zeilen von dieser Seite.',
 410:'Nicht ausgef\xfchrt: der Raum ist geschlossen.',
@@ -1212,7 +1238,7 @@ lostAsking:'Die Verbindung brach ab, als diese Zeile gesendet wurde. Diese Seite
 lostDone:'Sie wurde ausgef\xfchrt; ihre Antwort ging verloren.',
 lostNotDone:'Sie wurde bis jetzt nicht ausgef\xfchrt.',
 lostNewRoom:'Der Raum wurde seitdem neu ge\xf6ffnet; ob sie ausgef\xfchrt wurde, l\xe4sst sich nicht sagen.',
-lostUnclear:'Dieser Platz hat seitdem {n} Befehle gegeben; ob sie ausgef\xfchrt wurde, l\xe4sst sich nicht sagen.',
+lostUnclear:'Dieser Platz hat seitdem {n} Eingaben gemacht; ob sie ausgef\xfchrt wurde, l\xe4sst sich nicht sagen.',
 said:{
 firstNote:'Hier steht jede Zeile, die Sie und die Tasten an die Maschine senden, mit ihrer Antwort.',
 welcome:'W\xe4hlen Sie ein Programm und legen Sie es ein; dann LOAD, dann RUN.',
@@ -1266,7 +1292,7 @@ replies:{
 'ERROR 2':'Eine Zahl oder Adresse fehlt oder ist keine.',
 'ERROR 3':'Ein Zeichen, das keine Karte und keine Stelle hat, oder ein ~ ohne Zeichen danach.',
 'ERROR 4':'Der Text ist leer oder zu lang.',
-'ERROR 5':'Nach dem Ende des Befehls kommt noch etwas.',
+'ERROR 5':'Nach dem Ende der Eingabe kommt noch etwas.',
 'FAULT 1':'F\xfcr den n\xe4chsten Eintrag des Journals war kein Speicher da.',
 'FAULT 2':'Das Journal ist voll.',
 'FAULT 3':'Nicht ausgef\xfchrt: der Platz lie\xdf sich nicht mit dem Journal vergleichen.',
@@ -1286,11 +1312,11 @@ lines:[
 ['RUN 1000','f\xfchrt h\xf6chstens 1.000 Befehle aus; mehr als 1.000.000 gehen nicht'],
 ['LINE','nimmt die \xe4lteste gedruckte Zeile'],
 ['CARD','nimmt die \xe4lteste gestanzte Karte'],
-['GLANCE 0500','zeigt eine Stelle ohne einen Befehl'],
+['GLANCE 0500','zeigt eine Stelle, ohne dass es als Eingabe z\xe4hlt'],
 ['HELP','zeigt diese Liste; es wird nicht gesendet'],
 ],
 guideTitle:'Ihr erstes Programm',guideOn:'F\xfchrung beginnen',guideOff:'Ohne F\xfchrung',
-guideSteps:['Einlegen','LOAD','STEP','RUN','Ihr Name'],stepDone:'Schritt {n}, {name}: getan',
+guideSteps:['Einlegen','LOAD','STEP','RUN','Ihr Name'],stepDone:'Schritt {n}, {name}: erledigt',
 stepOpen:'Schritt {n}, {name}',
 guideWords:{
 feed:'Dr\xfccken Sie "Programm einlegen": eine Karte mit dem Programm Hallo kommt ins Magazin. Sie ist ein ganzes '
@@ -1344,6 +1370,8 @@ machines:{reader:'Kartenleser 1402',unit:'Computer 1401',printer:'Drucker 1403'}
 who:'Platz {seat} ist an der Maschine',nobody:'Niemand ist an der Maschine',touch:'BER\xdcHRE MICH',
 leaving:{one:'Ist noch jemand da? Bitte ber\xfchren. (1)',many:'Ist noch jemand da? Bitte ber\xfchren. ({n})'},
 },
+homeCode:'Nimm deine Karte mit: richte ein Telefon hierher.',homeTitle:'Deine Karte von einer IBM 1401',
+homeLine:'Sie hat diese Zeile gedruckt',
 machinesLabel:'der Kartenleser, der Computer und der Drucker',moreKey:'Mehr',whyKey:'Warum?',
 watchStop:'Lauf anhalten',watchHold:'F\xfcr alle halten',
 tourLabel:'was die Maschine tut',tourBack:'Zur\xfcck',tourNext:'Weiter',
@@ -1354,10 +1382,7 @@ load:'Die Karte ist in der Maschine: jede ihrer 80 Spalten ist nun ein Zeichen i
 SW:'Sie hat Wortmarken bei {places} gesetzt. Eine Wortmarke sagt, dass dort etwas beginnt; sie teilen die Karte.',
 MCW:'Sie hat Buchstaben von Stelle {from} an nach Stelle {to} gebracht: "{text}".',
 W:'Die Kette des Druckers hat die Stellen ab 201 gedruckt: "{line}".',
-H:'Das Programm ist zu Ende, und die Maschine h\xe4lt an.',A:'Sie hat die Zahl bei {a} zu der bei {b} addiert.',"##;
-
-/// The rest of the page.
-pub const REST: &[u8] = br##"
+H:'Das Programm ist zu Ende, und die Maschine h\xe4lt an.',A:'Sie hat die Zahl bei {a} zu der bei {b} addiert.',
 S:'Sie hat die Zahl bei {a} von der bei {b} subtrahiert.',
 other:'Die Maschine hat ausgef\xfchrt: {what}.',
 },
@@ -1384,13 +1409,13 @@ game:{name:'Gr\xf6\xdfer oder kleiner',about:'Die letzte Karte des Stapels hat e
 + 'Stanzen '
 + 'Sie Ihren Tipp, zwei Ziffern, dann RELEASE und RUN: die Maschine druckt, ob die Zahl gr\xf6\xdfer oder kleiner ist.',
 fed:'Dr\xfccken Sie LOAD, dann RUN. Stanzen Sie dann eine Karte mit zwei Ziffern, und wieder RUN.'},
-listing:{name:'Liste',about:'Druckt und kopiert die Karten nach ihm. Mit Schalter A h\xe4lt es nach der '
+listing:{name:'Liste',about:'Druckt und kopiert die Karten nach ihr. Mit Schalter A h\xe4lt es nach der '
 + 'letzten Karte an.',
 fed:'Schalter A an, LOAD, dann RUN. Bei 100 Schritten je Sekunde sehen Sie zu.'},
 },
 aboutFirst:'Das ist eine simulierte IBM 1401, ein Rechner von 1959, mit Kartenleser, Stanzer und Drucker. '
 + 'Alles, was '
-+ 'Sie sehen, ist eine Maschine, die alle in diesem Raum teilen.',
++ 'Sie sehen, ist eine Maschine, die sich alle in diesem Raum teilen.',
 aboutDrawing:'Karten gehen vom Leser zur Recheneinheit, Ergebnisse von dort zum Drucker und zum Stanzer.',
 aboutParts:{reader:['Kartenleser','und Stanzer'],unit:['Recheneinheit','mit Kernspeicher'],
 printer:['Drucker','132 Spalten'],
@@ -1401,7 +1426,10 @@ aboutWords:[
 + 'Zeichen'],
 ['Magazin','wo die Karten liegen, die als n\xe4chste gelesen werden'],
 ['LOAD','die Taste, die die erste Karte nach 001 bis 080 liest und dort beginnt'],
-['Kernspeicher','der Speicher aus kleinen Magnetringen: jede Stelle hat ein Zeichen'],
+['Kernspeicher','der Speicher aus kleinen Magnetringen: jede Stelle hat ein Zeichen'],"##;
+
+/// The rest of the page.
+pub const REST: &[u8] = br##"
 ['Wortmarke','ein Bit neben einem Zeichen; es sagt, wo ein Feld oder ein Befehl beginnt'],
 ['Befehl','ein Buchstabe f\xfcr die Operation und Adressen, mit denen sie arbeitet'],
 ['I-Register','die Stelle des n\xe4chsten Befehls'],
@@ -1413,7 +1441,7 @@ numbersTitle:'Woher die Zahlen kommen',
 aboutNumbers:'Die Seite fragt die Maschine viermal in der Sekunde, und jedes Bild ist von einem Augenblick. Im '
 + 'Tempo von '
 + '1960 wartet sie so lange, wie Leser, Stanzer und Drucker brauchten. Jede Operation des Simulators wurde '
-+ 'bewiesen.',
++ 'als korrekt bewiesen.',
 shortcutsTitle:'Tasten',
 shortcuts:[
 ['Alt+F','legt das gew\xe4hlte Programm ein'],['Alt+L','LOAD'],['Alt+R','RUN'],['Escape','STOP'],
@@ -1517,8 +1545,8 @@ function filled(text,values={}){
 return text.replace(/\{(\w+)\}/g,(whole,name)=>name in values?String(values[name]):whole);
 }
 function counted(forms,n,values={}){
-const{one,many}=forms;
-return filled(n===1?one:many,{n:withCommas(n),...values});
+const form=forms[new Intl.PluralRules(TEXTS.language).select(n)]??forms.many;
+return filled(form,{n:withCommas(n),...values});
 }
 function withCommas(number){
 return String(number).replace(/\B(?=(\d{3})+$)/g,TEXTS.thousands);
@@ -1603,6 +1631,7 @@ const view={
 core:0,
 picture:null,
 paper:[],
+posting:false,
 made:null,
 link:'lost',
 status:0,
@@ -1614,6 +1643,9 @@ changed:0,
 ended:null,
 };
 const OTHERS_MS=8000;
+const LIMIT={requestMs:10000};
+const timeLimit=()=>AbortSignal.timeout(LIMIT.requestMs);
+const PROXY_STATUS=[502,504];
 const PAUSE_MS=800;
 const LONGEST_PART_MS=7000;
 const torn=[];
@@ -1637,7 +1669,7 @@ async function askForPicture(kept,after){
 const room=view.picture?view.picture.room:'';
 const part=`room=${room}&core=${pad(view.core, 4)}&paper=${Math.max(0, kept.length - 1)}`;
 const query=after===null?part:`${part}&after=${after}`;
-const response=await fetch(`/picture?${query}`,{cache:'no-store',signal:AbortSignal.timeout(10*RETRY_MS)});
+const response=await fetch(`/picture?${query}`,{cache:'no-store',signal:timeLimit()});
 const text=await response.text();
 if(response.status===204)return null;
 if(response.status !==200)throw new Refused(statusOf(response));
@@ -1717,7 +1749,19 @@ blame(why);
 return false;
 }
 }
-const LINK_OF_STATUS={410:'closed',503:'taken503',busy:'busy',507:'noMemory'};
+async function lookAside(){
+try{
+const picture=await askForPicture(view.paper,null),lines=joined(view.paper,picture);
+const isLater=picture.room===view.picture.room&&picture.after>=view.picture.after;
+if(!isLater||lines===null||lines.length !==picture.registers.PAPER)return;
+noteOthers(picture);
+Object.assign(view,{paper:lines,picture});
+draw();
+}catch(why){
+blame(why);
+}
+}
+const LINK_OF_STATUS={403:'foreign',429:'busy',502:'proxyAlone',504:'proxyAlone',410:'closed',503:'taken503',busy:'busy',507:'noMemory'};
 function blame(why){
 if(why instanceof Unreadable)setLink('unread');
 else if(!(why instanceof Refused))setLink('lost');
@@ -1744,14 +1788,18 @@ if(breaks !==view.breaks)return{failed:TEXTS.outcomes.broken};
 if(view.made===null&&!(await look()))return{failed:bannerText()};
 const count=view.made,{room}=view.picture;
 view.made=null;
+view.posting=true;
 let response,text;
 try{
 const headers={'Content-Type':'text/plain','X-1401-Line':String(count),'X-1401-Room':room};
-response=await fetch(path,{method:'POST',body,cache:'no-store',headers});
+response=await fetch(path,{method:'POST',body,cache:'no-store',headers,signal:timeLimit()});
 text=await response.text();
 }catch{
 return lostLine(count,room);
+}finally{
+view.posting=false;
 }
+if(PROXY_STATUS.includes(response.status))return lostLine(count,room);
 if(response.status===423)takeHold(text);
 return response.status===200?{text,count}:refusedLine(statusOf(response));
 }
@@ -2262,7 +2310,7 @@ const RENEWAL_MS=5000;
 const renewal={mode:'',seconds:null,asked:-Infinity};
 async function askRenewal(method){
 const headers=method==='POST'?{'X-1401-Room':view.picture.room}:{};
-const response=await fetch('/renewal',{method,headers,cache:'no-store'});
+const response=await fetch('/renewal',{method,headers,cache:'no-store',signal:timeLimit()});
 const found=/^RENEWAL (?:(OFF|ON)|IN (\d+))\n$/.exec(await response.text());
 if(response.status !==200||!found)return;
 const{mode}=renewal;
@@ -2331,7 +2379,7 @@ drawHold();
 }
 async function askForHold(path,method){
 const headers=method==='POST'?{'X-1401-Room':view.picture.room}:{};
-const response=await fetch(path,{method,headers,cache:'no-store'});
+const response=await fetch(path,{method,headers,cache:'no-store',signal:timeLimit()});
 const text=await response.text();
 if(response.status===200||response.status===423)takeHold(text);
 }
@@ -2377,7 +2425,7 @@ const STRIP_PLACES=80;
 const PRINT_FROM=201,PRINT_PLACES=40;
 const BAND_LINES=12;
 const ON_STAGE={'stage-keys':['feed-key','load-key','step-key','run-key'],'stage-said':['guide-said'],
-'stage-more':['turn-key','language'],stage:['name-form']};
+'stage-more':['turn-key','language'],stage:['name-form','home-figure']};
 const strip={cells:[],shown:[],heads:[],from:1};
 function buildStage(){
 if(!isStage)return;
@@ -2472,18 +2520,25 @@ while(run)await delay(SLICE_MS);
 await startAfresh(renewal.mode==='ON'?renewRoom:clearMachine);
 guide.begin();
 }
-async function watchStop(){
-await askToHold('/hold');
-if(isHolder()&&!watching.holds)await askToHold('/release');
+const watching={holds:false,stops:false,until:Infinity};
+function watchStop(){
+Object.assign(watching,{stops:true,until:Infinity});
+return lookForWatch();
 }
 async function watchHold(){
 watching.holds=!watching.holds;
-byId('watch-hold').setAttribute('aria-pressed',String(watching.holds));
-await askToHold(watching.holds?'/hold':'/release');
+if(!watching.holds&&!watching.stops&&isHolder())await askToHold('/release');
+return lookForWatch();
 }
-const watching={holds:false};
 async function lookForWatch(){
-if(watching.holds&&!isHeld())await askToHold('/hold');
+const{holds,stops}=watching;
+if((holds||stops)&&!isHeld())await askToHold('/hold');
+if(stops&&isHolder())watching.until=Math.min(watching.until,performance.now()+ LONGEST_PART_MS);
+if(performance.now()>watching.until){
+Object.assign(watching,{stops:false,until:Infinity});
+if(!holds&&isHolder())await askToHold('/release');
+}
+for(const key of['hold','stop'])byId(`watch-${key}`).setAttribute('aria-pressed',String(watching[`${key}s`]));
 }
 const DRAWING={reader:20,unit:330,printer:640,width:240};
 const machines={};
@@ -2595,6 +2650,8 @@ function drawTour(){
 const scene=tour.scenes[tour.at];
 byId('tour').hidden=!tour.isOn;
 byId('why-key').setAttribute('aria-pressed',String(tour.isOn));
+setText(byId('why-key'),tour.isOn?TEXTS.closeKey:TEXTS.whyKey);
+guide.draw();
 if(!tour.isOn)return view.picture&&drawStage(view.picture);
 setText(byId('tour-words'),scene?sceneWords(scene):TEXTS.scenes.none);
 setText(byId('tour-at'),scene?filled(TEXTS.scenes.at,{n:tour.at + 1,all:tour.scenes.length}):'');
@@ -2758,7 +2815,7 @@ async function lookForTurn(){
 if(!isShared()||view.link !=='fine')return;
 if(turn.has&&isKeptOff())Object.assign(turn,{has:false,wants:true});
 if(turn.has&&isTurnOver())await giveTurn();
-else if(turn.has&&!isHeld())await takeTurn();
+else if(turn.has&&!isHeld()&&run===null)await takeTurn();
 if(guide.state !=='on')turn.wants=false;
 if(turn.wants)await waitInLine();
 }
@@ -2863,12 +2920,192 @@ document.body.classList.add('prints-card');
 print();
 document.body.classList.remove('prints-card');
 }
+const QR_BLOCKS=[[7,1],[10,1],[15,1],[20,1],[26,1],[18,2],[20,2],[24,2],[30,2],[18,4]];
+const QR_BYTES=[26,44,70,100,134,172,196,242,292,346];
+const QR_MARKS=[[],[6,18],[6,22],[6,26],[6,30],[6,34],[6,22,38],[6,24,42],[6,26,46],[6,28,50]];
+const QR_MASKS=[
+(x,y)=>(x + y)% 2,(x,y)=>y % 2,x=>x % 3,(x,y)=>(x + y)% 3,
+(x,y)=>(Math.floor(x / 3)+ Math.floor(y / 2))% 2,(x,y)=>x*y % 2 + x*y % 3,
+(x,y)=>(x*y % 2 + x*y % 3)% 2,(x,y)=>((x + y)% 2 + x*y % 3)% 2,
+];
+function timesInField(one,other){
+let product=0;
+for(let bit=7;bit>=0;bit--){
+product=product<<1 ^(product>>7)*0x11d;
+product ^=(other>>bit&1)*one;
+}
+return product;
+}
+function correctionOf(bytes,length){
+const divisor=[...Array(length - 1).fill(0),1],rest=Array(length).fill(0);
+for(let at=0,root=1;at<length;at++,root=timesInField(root,2)){
+for(let to=0;to<length;to++)divisor[to]=timesInField(divisor[to],root)^(divisor[to + 1]??0);
+}
+for(const byte of bytes){
+const factor=byte ^ rest.shift();
+rest.push(0);
+divisor.forEach((each,at)=>{rest[at]^=timesInField(each,factor);});
+}
+return rest;
+}
+function dataOf(bytes,version){
+const[each,blocks]=QR_BLOCKS[version - 1],most=QR_BYTES[version - 1]- each*blocks;
+const bits=[];
+const put=(value,length)=>{for(let bit=length - 1;bit>=0;bit--)bits.push(value>>bit&1);};
+put(4,4);
+put(bytes.length,version<10?8:16);
+for(const byte of bytes)put(byte,8);
+if(bits.length>most*8)return null;
+put(0,Math.min(4,most*8 - bits.length));
+while(bits.length % 8)bits.push(0);
+const data=[];
+for(let at=0;at<bits.length;at +=8)data.push(parseInt(bits.slice(at,at + 8).join(''),2));
+for(let pad=0xec;data.length<most;pad ^=0xec ^ 0x11)data.push(pad);
+return data;
+}
+function woven(data,version){
+const[length,count]=QR_BLOCKS[version - 1],short=Math.floor(data.length / count);
+const blocks=[],longer=data.length % count;
+for(let block=0,at=0;block<count;block++){
+const end=at + short +(block>=count - longer?1:0);
+blocks.push(data.slice(at,end));
+at=end;
+}
+const corrections=blocks.map(block=>correctionOf(block,length)),found=[];
+for(let at=0;at<=short;at++)for(const block of blocks)if(at<block.length)found.push(block[at]);
+for(let at=0;at<length;at++)for(const block of corrections)found.push(block[at]);
+return found;
+}
+function patternsOf(version){
+const size=17 + 4*version,modules=Array.from({length:size},()=>Array(size));
+const ring=(x,y,reach,dark)=>{
+for(let dy=-reach;dy<=reach;dy++){
+for(let dx=-reach;dx<=reach;dx++){
+if(modules[y + dy]&&x + dx>=0&&x + dx<size){
+modules[y + dy][x + dx]=dark(Math.max(Math.abs(dx),Math.abs(dy)));
+}
+}
+}
+};
+for(let at=0;at<size;at++)modules[6][at]=modules[at][6]=at % 2===0;
+const marks=QR_MARKS[version - 1],last=marks.length - 1;
+marks.forEach((y,row)=>marks.forEach((x,column)=>{
+const isCorner=row===0&&(column===0||column===last)||column===0&&row===last;
+if(!isCorner)ring(x,y,2,far=>far !==1);
+}));
+for(const[x,y]of[[3,3],[size - 4,3],[3,size - 4]])ring(x,y,4,far=>far !==2&&far !==4);
+putVersion(modules,version);
+putFormat(modules,0);
+return modules;
+}
+function remainder(value,divisor,bits){
+let rest=value;
+for(let at=0;at<bits;at++)rest=rest<<1 ^(rest>>bits - 1)*divisor;
+return rest;
+}
+function putFormat(modules,mask){
+const size=modules.length,value=8|mask,bits=(value<<10|remainder(value,0x537,10))^ 0x5412;
+const bit=at=>(bits>>at&1)===1;
+for(let at=0;at<6;at++)modules[at][8]=bit(at);
+modules[7][8]=bit(6);
+modules[8][8]=bit(7);
+modules[8][7]=bit(8);
+for(let at=9;at<15;at++)modules[8][14 - at]=bit(at);
+for(let at=0;at<8;at++)modules[8][size - 1 - at]=bit(at);
+for(let at=8;at<15;at++)modules[size - 15 + at][8]=bit(at);
+modules[size - 8][8]=true;
+}
+function putVersion(modules,version){
+if(version<7)return;
+const size=modules.length,bits=version<<12|remainder(version,0x1f25,12);
+for(let at=0;at<18;at++){
+const near=Math.floor(at / 3),far=size - 11 + at % 3;
+modules[near][far]=modules[far][near]=(bits>>at&1)===1;
+}
+}
+function filledWith(patterns,bytes,mask){
+const size=patterns.length,modules=patterns.map(row=>[...row]);
+let at=0;
+for(let right=size - 1;right>=1;right -=2){
+if(right===6)right=5;
+const isUp=(right + 1&2)===0;
+for(let step=0;step<size;step++){
+const y=isUp?size - 1 - step:step;
+for(const x of[right,right - 1]){
+if(patterns[y][x]!==undefined)continue;
+const bit=(bytes[at>>3]>>7 -(at&7)&1)===1;
+modules[y][x]=bit !==(QR_MASKS[mask](x,y)===0);
+at++;
+}
+}
+}
+putFormat(modules,mask);
+return modules;
+}
+function penaltyOf(modules){
+const size=modules.length;
+let penalty=0,dark=0;
+for(let one=0;one<size;one++){
+for(const at of[other=>modules[one][other],other=>modules[other][one]]){
+for(let other=1,run=1;other<=size;other++){
+if(other<size&&at(other)===at(other - 1))run++;
+else{
+penalty +=run>=5?run - 2:0;
+run=1;
+}
+}
+}
+for(let x=0;x<size;x++){
+dark +=modules[one][x];
+const isBlock=one>0&&x>0&&modules[one][x]===modules[one - 1][x]
+&&modules[one][x]===modules[one][x - 1]&&modules[one][x]===modules[one - 1][x - 1];
+penalty +=isBlock?3:0;
+}
+}
+return penalty + 10*Math.floor(Math.abs(20*dark / size**2 - 10));
+}
+function qrOf(text){
+const bytes=new TextEncoder().encode(text);
+for(let version=1;version<=QR_BYTES.length;version++){
+const data=dataOf(bytes,version);
+if(data===null)continue;
+const patterns=patternsOf(version),all=woven(data,version);
+const codes=QR_MASKS.map((_,mask)=>filledWith(patterns,all,mask));
+const penalties=codes.map(penaltyOf);
+return codes[penalties.indexOf(Math.min(...penalties))];
+}
+return null;
+}
+const isHome=FRAGMENT.has('card');
+function homeAddress(card){
+const isAlone=/^(127\.|localhost$|\[::1\]$)/.test(location.hostname)||location.protocol==='file:';
+const page=FRAGMENT.get('home')||(isAlone?'':`${location.origin}/`);
+return page&&`${page}#${new URLSearchParams({card, line: card.slice(NAME_COLUMN)})}`;
+}
+function drawHomeCode(isDone){
+const address=isDone?homeAddress(nameCard):'',code=address&&qrOf(address),picture=byId('home-code');
+byId('home-figure').hidden=!code;
+if(!code||picture.dataset.address===address)return;
+picture.dataset.address=address;
+picture.setAttribute('viewBox',`-4 -4 ${code.length + 8} ${code.length + 8}`);
+picture.replaceChildren();
+const path=code.map((row,y)=>row.map((dark,x)=>dark?`M${x} ${y}h1v1h-1z`:'').join('')).join('');
+drawn(picture,'rect',{x:-4,y:-4,width:code.length + 8,height:code.length + 8,class:'ground'});
+drawn(picture,'path',{d:path});
+}
+function showHome(){
+const text=name=>[...(FRAGMENT.get(name)||'').toUpperCase()].filter(each=>GRAPHICS.includes(each)).join('');
+document.body.classList.add('home');
+byId('home').hidden=false;
+cardIn(byId('home-card'))(text('card').slice(0,CARD_COLUMNS));
+setText(byId('home-line'),text('line').slice(0,132));
+}
 const GUIDE_WAITS_MS=120000;
 const HELLO_AT=[1,8,15,22,29,36,37];
 const HELLO_END=38;
 const GUIDE_STEPS={
 feed:{key:'feed-key',shown:0},load:{key:'load-key',shown:1},step:{key:'step-key',shown:2},
-run:{key:'run-key',shown:3},name:{key:'name-key',shown:4,focus:'name'},
+run:{key:'run-key',shown:3},name:{key:'name-key',shown:4},
 loadName:{key:'load-key',shown:4},runName:{key:'run-key',shown:4},done:{key:'',shown:5},
 other:{key:'afresh-key',shown:-1},paper:{key:'tear-key',shown:-1},wait:{key:'turn-key',shown:-1},
 };
@@ -2918,6 +3155,7 @@ const isLate=now - Math.max(this.since,attract.touched)>GUIDE_WAITS_MS;
 if(this.state==='on'&&!['feed','wait'].includes(this.step())&&isLate&&!run)this.stepAside();
 },
 stepAside(){
+if(isStage)return this.begin();
 this.state='aside';
 this.draw();
 },
@@ -2932,7 +3170,7 @@ return turn.wants||isKeptOff()?'wait':stepOf(view.picture,this);
 },
 draw(){
 const name=this.step(),step=name&&GUIDE_STEPS[name],shown=step?step.shown:-1;
-this.light(!step?'':wantsClearing()?'feed-key':step.key,step&&step.focus);
+this.light(this.keyFor(name),name==='name'&&!tour.isOn&&'name');
 if(isExhibit)setText(byId('feed-key'),TEXTS.childKeys[wantsClearing()?'clear':'feed']);
 [...byId('guide-steps').children].forEach((element,at)=>{
 element.classList.toggle('done',at<shown);
@@ -2941,11 +3179,16 @@ if(at===shown)element.setAttribute('aria-current','step');
 setAttribute(element,'aria-label',filled(at<shown?TEXTS.stepDone:TEXTS.stepOpen,
 {n:at + 1,name:TEXTS.guideSteps[at]}));
 });
-byId('name-form').hidden=name !=='name';
+byId('name-form').hidden=name !=='name'||tour.isOn;
 byId('guide-end').hidden=name !=='done';
 setText(byId('guide-now'),this.words(name));
 setText(byId('guide-key'),this.state==='on'?TEXTS.guideOff:TEXTS.guideOn);
+drawHomeCode(name==='done');
 drawTurn();
+},
+keyFor(name){
+if(name===null)return '';
+return wantsClearing()?'feed-key':name==='name'&&tour.isOn?'why-key':GUIDE_STEPS[name].key;
 },
 light(lit,focus){
 if(lit===this.lit)return;
@@ -2987,10 +3230,12 @@ const attract={on:false,stop:false,yields:false,press:false,touched:performance.
 pressed:performance.now(),ended:-Infinity};
 function touch(event){
 attract.touched=attract.pressed=performance.now();
-if(VISIT.isFresh&&event.isTrusted !==false)greet();
 if(run)run.wake();
 if(event.isTrusted===false)return;
-const isClick=event.type==='click',ends=guide.state==='attract',goesOn=isClick&&attract.press;
+const waited=VISIT.isFresh;
+if(waited)greet();
+if(event.repeat&&['Enter',' '].includes(event.key)&&event.target.tagName==='BUTTON')return event.preventDefault();
+const isClick=event.type==='click',ends=guide.state==='attract'||waited,goesOn=isClick&&attract.press;
 attract.press=ends&&!isClick;
 if(ends){
 if(attract.on)attract.stop=true;
@@ -3007,7 +3252,7 @@ attract.touched=performance.now();
 function isIdle(){
 const now=performance.now(),{picture}=view;
 if(!picture||hold.isPrepared||!mayCommand()||run||feed||taking||document.hidden)return false;
-if(isStage?!VISIT.isFresh:document.querySelector('dialog[open]:not(#about, #help, #ask)'))return false;
+if(isStage&&!VISIT.isFresh)return false;
 if(picture.after>IDLE.mostAfter)return false;
 const wanted=IDLE.attractMs + picture.seat*IDLE.seatMs;
 return now - attract.touched>wanted&&now - view.changed>wanted - IDLE.attractMs + IDLE.pauseMs
@@ -3027,7 +3272,8 @@ if(attract.yields)stepAside();
 }
 async function takeOver(){
 Object.assign(attract,{on:true,stop:true});
-if(!attract.yields&&mayCommand()&&!isClear(view.picture))await startAfresh();
+const isOurs=!attract.yields&&mayCommand()&&!othersAtWork();
+if(isOurs&&!isClear(view.picture))await startAfresh();
 Object.assign(attract,{on:false,ended:performance.now()});
 document.body.classList.remove('attracts');
 guide.begin();
@@ -3241,7 +3487,7 @@ function bulbRows(){
 const{registers,from,cells}=view.picture;
 const at=place=>cells[place - from]?cells[place - from].graphic:' ';
 const rows=[['B',at(registers.B)],['A',at(registers.A)],['OP',at(registers.I)]];
-const address=[...pad(registers.I,5)].map(digit=>[TEXTS.bulbAddress,digit]);
+const address=[...pad(registers.I,5)].map((digit,at)=>[`${TEXTS.bulbAddress}${at + 1}`,digit]);
 return[...rows,...address];
 }
 function drawBulbs(){
@@ -3703,6 +3949,7 @@ if(!event.repeat)action();
 }
 function putTexts(){
 document.documentElement.lang=TEXTS.language;
+document.documentElement.dir=TEXTS.dir;
 for(const element of document.querySelectorAll('[data-text], [data-label], [data-title], [data-hint]')){
 const{text,label,title,hint}=element.dataset;
 if(text)element.textContent=TEXTS[text];
@@ -3858,7 +4105,7 @@ if(view.picture)draw();
 }
 async function poll(){
 for(;;){
-if(!taking&&!(feed&&!feed.waits))await inTurn(look);
+if(!taking&&!(feed&&!feed.waits))await(view.posting?lookAside():inTurn(look));
 if(view.picture)drawOthers();
 guide.look();
 lookForRenewal();
@@ -3873,6 +4120,7 @@ await delay(view.link !=='fine'?RETRY_MS:document.hidden?HIDDEN_POLL_MS:POLL_MS)
 }
 }
 async function begin(){
+if(isHome)return showHome();
 tell(TEXTS.said.welcome);
 note('words',TEXTS.said.firstNote);
 while(!(await inTurn(look)))await delay(RETRY_MS);
@@ -3909,8 +4157,8 @@ begin();
 /// The `content-security-policy` of the page: its own script and style by their SHA-256, exchanges with its own server,
 /// and nothing else.
 pub const POLICY: &str = "default-src 'none'; \
-    script-src 'sha256-g2mTlE6iQhXlQV9oBp44XnEHSfquCAeBSC7mhm5PwcE='; \
-    style-src 'sha256-fEENJqp/95z0wT6uL6D/W51vuwmgJJhitpCpg8l38Eo='; \
+    script-src 'sha256-o2r3bypfM3gpecktv0iJM+102eGihBFo+yVrPW2bdz8='; \
+    style-src 'sha256-lB7j7iMLsJxqqttb3wuZRgufxqMI7AMnUEE5VK+hYR4='; \
     img-src data:; \
     connect-src 'self'; \
     form-action 'none'; \
