@@ -295,7 +295,7 @@ class Guide(Browser):
     def test_run_on_an_empty_machine(self):
         count = self.served.after()
         for key in "run-key", "step-key":
-            self.page.value("tell('')")
+            self.page.value("byId('said-words').textContent = ''")
             self.page.mouse(key)
             self.shows(key, "byId('said-words').textContent", "The machine is empty: feed a program first.")
         self.unchanged("nothing is sent", self.served, count)

@@ -130,7 +130,7 @@ class Words(Browser):
     def test_german_words(self):
         """What a room is given is an Eingabe, and an instruction a Befehl."""
         texts = "JSON.stringify(LANGUAGES.de)"
-        for words in "Befehle an", "Befehle gegeben", "getan", "ichern", "nach ihm", "die alle in":
+        for words in "Befehle an", "Befehle gegeben", "getan", "ichern", "Karten nach ihm", "die alle in":
             found = self.page.value(f"{texts}.replace(/[Ss]peichern/g, '').includes('{words}')")
             self.same(words, found, False)
         for words in "Eingaben", "als korrekt bewiesen", "die sich alle in diesem Raum teilen", "nach ihr", "erledigt":
@@ -201,7 +201,7 @@ class Access(Browser):
         self.shows("another ground", f"{ground} !== '{before}'")
 
     def test_lamps_with_forced_colours(self):
-        """A letter in a lamp that is on is where it is in one that is off."""
+        """A letter has the same place in a lamp that is on and in a dark one."""
         self.page.mouse("view-key")
         self.page.call("Emulation.setEmulatedMedia", features=[{"name": "forced-colors", "value": "active"}])
         top = """[...byId('bulbs').querySelectorAll('i')].map(lamp => {

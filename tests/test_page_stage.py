@@ -348,7 +348,7 @@ class Watch(Stage):
         self.shows("it runs", "run !== null && run.slices > 2", page=pupil)
         self.mouse("watch-stop")
         self.shows("it is stopped", "run", None, pupil)
-        self.shows("then nobody is kept off", "isHeld()", False, pupil)
+        self.shows("then the keys are on again", "isHeld()", False, pupil)
         self.pages.remove(pupil)
 
     def test_the_teacher_holds_for_all(self):

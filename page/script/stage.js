@@ -1,6 +1,6 @@
 /* The stage: the page's fragment says that it is the screen of an exhibit (#exhibit), or a view for a projector (#watch),
    and what else it has: #exhibit&name=The+museum&lang=de. A stage has drawings, one card, 80 places of core storage, the
-   newest lines and four keys; everything else is behind one key. */
+   newest lines and four keys; one key shows everything else. */
 const FRAGMENT = new URLSearchParams(location.hash.slice(1));
 const isExhibit = FRAGMENT.has('exhibit'), isWatch = FRAGMENT.has('watch'), isStage = isExhibit || isWatch;
 const STRIP_PLACES = 80;
@@ -34,7 +34,7 @@ function stripFrom({registers: {I}, size}) {
 /* The cell at a place; a blank one if the picture doesn't have it. */
 const cellAt = ({cells, from}, place) => cells[place - from] || {graphic: ' ', mark: false};
 
-/* Draws a picture on the stage: the machine's, or one of the tour, with the places that an instruction has touched. */
+/* Draws a picture on the stage: the machine's, or a scene of the tour, with the places that an instruction has touched. */
 function drawStage(picture, touched = []) {
   if (!isStage) return;
   const from = stripFrom(picture), moved = from !== strip.from;
@@ -63,7 +63,7 @@ function drawBand(lines) {
   while (band.childElementCount < shown.length) added(band, 'p');
   shown.forEach((text, at) => setText(band.children[at], text || '\u00a0'));
 }
-/* The card that was read, or the one that is read next, with a cut at each word mark. */
+/* The card that was read, or the next one, with a cut at each word mark. */
 function drawStageCard(picture) {
   const {read, hopper} = picture, isThere = read !== '';
   cards.stage(isThere ? read : hopper);

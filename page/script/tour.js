@@ -77,7 +77,7 @@ async function tourNext() {
   else tour.plays = false;
   drawTour();
 }
-/* Whether one more instruction would tell something: there is one, and the program hasn't ended. */
+/* Whether one more instruction can be carried out: there is one, and the program hasn't ended. */
 function canGoOn() {
   const {next, registers} = view.picture;
   return tour.scenes.length > 0 && next !== null && registers.I !== view.ended && !run && mayCommand();

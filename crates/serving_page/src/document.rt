@@ -59,9 +59,9 @@ header button:hover{background:var(--panel-light);color:var(--ivory);}
 .notice{background:var(--ink);color:#fff;font-weight:700;padding:9px 14px;}
 .banner{background:var(--red);color:#fff;font-weight:700;padding:9px 14px;}
 main{padding:8px 10px;max-width:2200px;margin:auto;}
-.stage{display:grid;gap:8px 10px;align-items:start;grid-template:"stand printer" auto "stand core" 1fr
+.stage{display:grid;gap:8px 10px;align-items:start;grid-template:"desk printer" auto "desk core" 1fr
 / minmax(360px, 1fr) minmax(0, max(932px, 57%));}
-.stand{grid-area:stand;display:flex;flex-direction:column;gap:8px;min-width:0;}
+.stand{grid-area:desk;display:flex;flex-direction:column;gap:8px;min-width:0;}
 .below{display:grid;grid-template-columns:minmax(0, 1fr) minmax(0, 1fr);gap:10px;margin-top:10px;
 align-items:start;}
 section{background:var(--cabinet);border:1px solid var(--edge);border-radius:6px;min-width:0;
@@ -433,7 +433,7 @@ font-size:min(3.6cqw, 2.2cqh);}
 .stage{grid-template-columns:minmax(360px, 400px) minmax(0, 1fr);}
 }
 @media (max-width:899px){
-.stage{grid-template:"stand" "printer" "core" / minmax(0, 1fr);}
+.stage{grid-template:"desk" "printer" "core" / minmax(0, 1fr);}
 .below{grid-template-columns:minmax(0, 1fr);}
 .newest{display:block;}
 body{padding-bottom:44px;}
@@ -4158,7 +4158,7 @@ begin();
 /// and nothing else.
 pub const POLICY: &str = "default-src 'none'; \
     script-src 'sha256-o2r3bypfM3gpecktv0iJM+102eGihBFo+yVrPW2bdz8='; \
-    style-src 'sha256-lB7j7iMLsJxqqttb3wuZRgufxqMI7AMnUEE5VK+hYR4='; \
+    style-src 'sha256-plXxVIR+njnALTP8Eb0r1GuMzbdDW4GnqgOOT5SYHC8='; \
     img-src data:; \
     connect-src 'self'; \
     form-action 'none'; \
