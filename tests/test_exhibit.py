@@ -144,6 +144,18 @@ class FirstScreen(Browser):
             self.shows(place, f"new Set({tops}).size", 1)
         self.page.value("guide.draw(), 0")
 
+    def test_keys_keep_their_place_in_a_visit(self):
+        """With a hold, which the page takes with the first card and gives back with the name."""
+        top = "byId('load-key').getBoundingClientRect().top"
+        for place in "the smallest screen", "a large screen":
+            self.page.resize(SIZES[place])
+            self.page.value(f"guide.begin(), window.tops = new Set([{top}]), 0")
+            for key in "feedChosen()", "pressLoad()", "pressStep()", "pressRun()", \
+                    "(byId('name').value = 'ADA', feedName())", "delay(500).then(pressLoad)", "pressRun()":
+                self.page.value(f"{key}.then(() => delay(300)).then(() => {{ tops.add({top}); }})")
+            self.shows(place, "guide.step() + [...tops].map(Math.round).filter((top, at, all) => all[0] !== top).join()",
+                       "done")
+
     def test_the_text_of_the_paper(self):
         """It has 11 pixels at least, and *Larger* makes it larger."""
         height = "parseFloat(getComputedStyle(document.querySelector('.sheet')).fontSize)"

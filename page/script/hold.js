@@ -64,6 +64,7 @@ const pressHold = () => turn.has ? giveTurn() : askToHold(isHolder() ? '/release
 
 function holdWords() {
   if (!isHeld()) return '';
+  if (isHolder() && turn.has) return '';
   return isHolder() ? TEXTS.holder : filled(TEXTS.keptOff, {seat: hold.seat});
 }
 /* The seconds aren't read aloud: they change all the time. */

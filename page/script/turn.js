@@ -73,6 +73,8 @@ function turnWords() {
   return n === 0 ? filled(TEXTS.turn.next, values) : counted(TEXTS.turn.later, n, values);
 }
 function drawTurn() {
-  byId('turn-key').hidden = !turn.has && guide.step() !== 'wait';
+  const isHidden = !turn.has && guide.step() !== 'wait';
+  byId('turn-key').hidden = isHidden;
+  byId('guide-key').hidden = !isHidden;
   setText(byId('turn-key'), turn.has ? TEXTS.turn.give : turn.wants ? TEXTS.turn.leave : TEXTS.turn.wait);
 }

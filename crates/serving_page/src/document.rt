@@ -56,14 +56,14 @@ header button,header select{background:var(--panel);border:1px solid var(--faint
 padding:4px 10px;color:var(--ivory);font-size:13px;}
 header button[aria-pressed=true]{background:var(--lamp);color:#2b1d00;}
 header button:hover{background:var(--panel-light);color:var(--ivory);}
-.notice{background:var(--ink);color:#fff;font-weight:700;padding:9px 14px;}
+.notice{position:fixed;inset:auto 0 0;z-index:6;pointer-events:none;background:var(--ink);color:#fff;font-weight:700;padding:9px 14px;}
 .banner{background:var(--red);color:#fff;font-weight:700;padding:9px 14px;}
 main{padding:8px 10px;max-width:2200px;margin:auto;}
-.stage{display:grid;gap:8px 10px;align-items:start;grid-template:"desk printer" auto "desk core" 1fr
-/ minmax(360px, 1fr) minmax(0, max(932px, 57%));}
+.stage{display:grid;gap:8px 10px;align-items:start;grid-template:
+"desk printer" auto "desk core" auto "cards core" 1fr / minmax(360px, 1fr) minmax(0, max(932px, 57%));}
 .stand{grid-area:desk;display:flex;flex-direction:column;gap:8px;min-width:0;}
-.below{display:grid;grid-template-columns:minmax(0, 1fr) minmax(0, 1fr);gap:10px;margin-top:10px;
-align-items:start;}
+.reader{grid-area:cards;}
+.below{margin-top:10px;}
 section{background:var(--cabinet);border:1px solid var(--edge);border-radius:6px;min-width:0;
 box-shadow:0 1px 0 #fff inset,0 2px 5px #0002;display:flex;flex-direction:column;}
 .printing{grid-area:printer;}
@@ -91,8 +91,8 @@ details>summary:hover{color:var(--ink);}
 border-top:4px solid #8d8878;padding-top:4px;counter-increment:step;}
 .steps li::before{content:counter(step) " ";}
 .steps li.done{border-top-color:var(--green);}
-.steps li.done::before{content:"\2713 ";}
-.steps li[aria-current]{border-top-color:var(--lit);color:var(--ink);font-weight:700;}
+.steps li.done::before{content:"\2713\a0";}
+.steps li[aria-current]{border-top-color:var(--lit);color:var(--ink);}
 .guide{position:relative;}
 .probe{position:absolute;visibility:hidden;min-height:0 !important;inset:0 0 auto;}
 .guide p{margin:0;padding:6px 12px 8px;}
@@ -431,11 +431,12 @@ font-size:min(3.6cqw, 2.2cqh);}
 }
 @media (max-width:1299px){
 .stage{grid-template-columns:minmax(360px, 400px) minmax(0, 1fr);}
+.pair{grid-template-columns:minmax(0, 1fr);}
 }
 @media (max-width:899px){
-.stage{grid-template:"desk" "printer" "core" / minmax(0, 1fr);}
-.below{grid-template-columns:minmax(0, 1fr);}
+.stage{grid-template:"desk" "printer" "core" "cards" / minmax(0, 1fr);}
 .newest{display:block;}
+.notice{bottom:38px;}
 body{padding-bottom:44px;}
 }
 @media (max-width:640px){
@@ -652,8 +653,6 @@ autocomplete="off"></label>
 <p class="about-program" id="source-about"></p>
 <pre class="as-text" id="source" tabindex="0" role="region" data-label="sourceLabel"></pre></details>
 </section>
-</div>
-<div class="below">
 <section class="reader" id="reader" aria-labelledby="cards-title">
 <div class="title"><h2 id="cards-title" data-text="cards"></h2><small data-text="dropHere"></small></div>
 <div class="cards">
@@ -684,6 +683,8 @@ data-label="keyedLabel">
 <div class="row"><button type="button" class="small-key main" id="deck-key" data-text="deckKey"></button></div>
 </div></details>
 </section>
+</div>
+<div class="below">
 <section class="console" aria-labelledby="console-title">
 <div class="title"><h2 id="console-title" data-text="console"></h2><small id="others"></small>
 <button type="button" class="small-key" id="hold-key" data-title="holdTitle" hidden></button></div>
@@ -2403,6 +2404,7 @@ setLink('lost');
 const pressHold=()=>turn.has?giveTurn():askToHold(isHolder()?'/release':'/hold');
 function holdWords(){
 if(!isHeld())return '';
+if(isHolder()&&turn.has)return '';
 return isHolder()?TEXTS.holder:filled(TEXTS.keptOff,{seat:hold.seat});
 }
 function drawHold(){
@@ -2836,7 +2838,9 @@ if(!turn.wants)return filled(TEXTS.turn.busy,values);
 return n===0?filled(TEXTS.turn.next,values):counted(TEXTS.turn.later,n,values);
 }
 function drawTurn(){
-byId('turn-key').hidden=!turn.has&&guide.step()!=='wait';
+const isHidden=!turn.has&&guide.step()!=='wait';
+byId('turn-key').hidden=isHidden;
+byId('guide-key').hidden=!isHidden;
 setText(byId('turn-key'),turn.has?TEXTS.turn.give:turn.wants?TEXTS.turn.leave:TEXTS.turn.wait);
 }
 const NAME_MOST=CARD_COLUMNS - NAME_COLUMN;
@@ -4157,8 +4161,8 @@ begin();
 /// The `content-security-policy` of the page: its own script and style by their SHA-256, exchanges with its own server,
 /// and nothing else.
 pub const POLICY: &str = "default-src 'none'; \
-    script-src 'sha256-o2r3bypfM3gpecktv0iJM+102eGihBFo+yVrPW2bdz8='; \
-    style-src 'sha256-plXxVIR+njnALTP8Eb0r1GuMzbdDW4GnqgOOT5SYHC8='; \
+    script-src 'sha256-IRCWgqeypcHwU6oZlUrHs11RXmuFHqmrGTVMcQbsviw='; \
+    style-src 'sha256-8i5G64o0z1GEVkfWoo0Df4iEgrM1Upki/D/qitwsUzE='; \
     img-src data:; \
     connect-src 'self'; \
     form-action 'none'; \
