@@ -153,8 +153,8 @@ class FirstScreen(Browser):
             for key in "feedChosen()", "pressLoad()", "pressStep()", "pressRun()", \
                     "(byId('name').value = 'ADA', feedName())", "delay(500).then(pressLoad)", "pressRun()":
                 self.page.value(f"{key}.then(() => delay(300)).then(() => {{ tops.add({top}); }})")
-            self.shows(place, "guide.step() + [...tops].map(Math.round).filter((top, at, all) => all[0] !== top).join()",
-                       "done")
+            others = "[...tops].map(Math.round).filter((top, at, all) => all[0] !== top)"
+            self.shows(place, f"guide.step() + {others}.join()", "done")
 
     def test_the_text_of_the_paper(self):
         """It has 11 pixels at least, and *Larger* makes it larger."""
@@ -194,7 +194,8 @@ class Guide(Browser):
             ("none any more", "'DEPOSIT 0220 A'", "feed"),
             ("a card with somebody's name", "'FEED ' + HELLO.slice(0, 40) + 'ADA'", "other"),
         ]:
-            self.page.value(f"(async () => {{ for (const line of [{lines}]) await send(line); await inTurn(look); }})()")
+            sent = f"for (const line of [{lines}]) await send(line); await inTurn(look);"
+            self.page.value(f"(async () => {{ {sent} }})()")
             self.shows(what, "guide.step()", step)
             self.shows(f"{what}: the key", LIT, self.page.value(f"GUIDE_STEPS.{step}.key"))
 
@@ -225,7 +226,8 @@ class Guide(Browser):
         self.page.value("feedText(HELLO), 0")
         self.shows("another hello card", "guide.step()", "load")
         self.page.value("byId('name').value = 'Ada', feedName()")
-        for step, key in ("loadName", "pressLoad()"), ("runName", "pressRun()"), ("loadName", "delay(500).then(pressLoad)"):
+        for step, key in ("loadName", "pressLoad()"), ("runName", "pressRun()"), \
+                ("loadName", "delay(500).then(pressLoad)"):
             self.shows(step, "guide.step()", step)
             self.page.value(key)
         self.shows("the name is in core, not on the paper", "guide.step()", "runName")
@@ -234,8 +236,8 @@ class Guide(Browser):
 
     def test_a_full_printer(self):
         self.page.value("feedChosen()")
-        self.page.value("view.picture.registers.PAPER = 500, guide.draw()")
-        self.shows("the paper is to be torn off", f"view.picture.registers.PAPER = 500, guide.draw(), {LIT}", "tear-key")
+        full = f"view.picture.registers.PAPER = 500, guide.draw(), {LIT}"
+        self.shows("the paper is to be torn off", full, "tear-key")
 
     def test_it_gives_up_after_a_while(self):
         """But not while somebody writes."""
@@ -258,10 +260,13 @@ class Guide(Browser):
 
     def test_names_in_other_letters(self):
         """Each gets letters that cards have, or words that ask for others."""
-        for name, card in [("Zo\u00eb M\u00fcller-Stra\u00df", "ZOE MUELLER-STRASS"), ("\u0141ukasz \u0110or\u0111e", "LUKASZ DORDE"),
-                           ("\u0393\u03b9\u03ce\u03c1\u03b3\u03bf\u03c2", "GIORGOS"), ("\u042e\u043b\u0438\u044f \u0429\u0443\u043a\u0438\u043d\u0430", "YULIYA SHCHUKINA"),
-                           ("\u0641\u0627\u0637\u0645\u0629", "FATMA"), ("\u05d3\u05d5\u05d3", "DVD"), ("\u0130zmir \u0131\u015f\u0131k", "IZMIR ISIK"),
-                           ("\u0414\u0438\u043c\u0438\u0442\u0440\u0438\u0439", "DIMITRIY"), ("Bj\u00f8rn \u00c5se", "BJOERN AASE")]:
+        for name, card in [
+            ("Zo\u00eb M\u00fcller-Stra\u00df", "ZOE MUELLER-STRASS"), ("Bj\u00f8rn \u00c5se", "BJOERN AASE"),
+            ("\u0141ukasz \u0110or\u0111e", "LUKASZ DORDE"), ("\u0130zmir \u0131\u015f\u0131k", "IZMIR ISIK"),
+            ("\u0393\u03b9\u03ce\u03c1\u03b3\u03bf\u03c2", "GIORGOS"), ("\u042e\u043b\u0438\u044f \u0429\u0443\u043a", "YULIYA SHCHUK"),
+            ("\u0414\u0438\u043c\u0438\u0442\u0440\u0438\u0439", "DIMITRIY"), ("\u0641\u0627\u0637\u0645\u0629", "FATMA"),
+            ("\u05d3\u05d5\u05d3", "DVD"),
+        ]:
             self.shows(card, f"plain('{name}')", card)
         self.page.value("feedChosen().then(pressLoad).then(pressRun)")
         self.shows("the name is asked for", "byId('name-form').hidden", False)
@@ -286,7 +291,8 @@ class Guide(Browser):
             self.shows(f"they are large at {size}", large)
         self.page.resize(SIZES["a telephone"])
         for number, letter in enumerate(("A", "X", "\u232b", "D", "A", "SPACE", "7")):
-            self.page.value(f"[...byId('name-keys').children].find(key => key.textContent === '{letter}').id = 'k{number}'")
+            found = f"[...byId('name-keys').children].find(key => key.textContent === '{letter}')"
+            self.page.value(f"{found}.id = 'k{number}'")
             self.check(f"a finger reaches {letter}", "" if self.page.mouse(f"k{number}") else "it doesn't")
         self.shows("the name", "byId('name').value", "ADA 7")
         self.page.value("chooseLanguage('de')")

@@ -21,7 +21,8 @@ class Home(Browser):
         self.shows("the line", "document.readyState === 'complete' && byId('home-line').textContent", "ADA & CO", page)
         self.shows("the card", "byId('home-card').querySelector('.typed').textContent.trim()",
                    ",008015,022029,036037,038041M0802402.   ADA & CO", page)
-        self.shows("nothing else is seen", "['load-key', 'banner', 'stage'].some(id => byId(id).checkVisibility())", False, page)
+        seen = "['load-key', 'banner', 'stage'].some(id => byId(id).checkVisibility())"
+        self.shows("nothing else is seen", seen, False, page)
         page.value("delay(600)")
         asked = "performance.getEntriesByType('resource').length"
         self.shows("no request is made", asked, 0, page)
@@ -53,7 +54,7 @@ class Home(Browser):
     def test_codes_are_read_by_another_program(self):
         """Of each version."""
         # A picture in black and white, with eight pixels a module and four modules around it.
-        drawn = """(code => code && (bits => `P1 ${bits.length} ${bits.length}\\n` + bits.map(row => row.join(' ')).join('\\n'))(
+        drawn = """(code => code && (bits => [`P1 ${bits.length} ${bits.length}`, ...bits.map(row => row.join(' '))].join('\\n'))(
             (rows => rows.flatMap(row => Array(8).fill(row.flatMap(bit => Array(8).fill(bit)))))(
                 Array.from({length: code.length + 8}, (_, y) => Array.from({length: code.length + 8},
                     (_, x) => code[y - 4]?.[x - 4] ? 1 : 0)))))"""
@@ -72,8 +73,10 @@ class Hanging(Browser):
     def test_a_line_that_hangs(self):
         """What others do is seen meanwhile, and after a while the line has failed."""
         second = self.open_page(2)
-        self.page.value("""LIMIT.requestMs = 4000, window.asked = fetch, fetch = (path, how) => path !== '/line' ? asked(path, how)
-            : new Promise((_, fail) => { how.signal.onabort = () => fail(how.signal.reason); }), say('START 0003'), 0""")
+        self.page.value("""LIMIT.requestMs = 4000, window.asked = fetch,
+            fetch = (path, how) => path !== '/line' ? asked(path, how)
+                : new Promise((_, fail) => { how.signal.onabort = () => fail(how.signal.reason); }),
+            say('START 0003'), 0""")
         self.shows("it hangs", "view.posting")
         second.value("say('FEED SEEN')")
         self.shows("the machine is seen", "view.posting && view.picture.hopper", "SEEN")
@@ -184,7 +187,8 @@ class Access(Browser):
 
     def test_the_guide_is_read_aloud(self):
         self.shows("a live region", "byId('guide-now').getAttribute('aria-live')", "polite")
-        names = "[...document.querySelectorAll('details')].every(e => e.hasAttribute('aria-label') || e.hasAttribute('aria-labelledby'))"
+        has = "e.hasAttribute('aria-label') || e.hasAttribute('aria-labelledby')"
+        names = f"[...document.querySelectorAll('details')].every(e => {has})"
         self.shows("parts that open have names", names)
 
     def test_targets_for_a_finger(self):

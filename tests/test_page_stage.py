@@ -10,8 +10,8 @@ KEYS = ["feed-key", "load-key", "step-key", "run-key"]
 SEEN = """(element => (box => box.width > 0 && box.top >= 0 && box.left >= 0 && box.bottom <= innerHeight + 1
     && box.right <= innerWidth + 1)(element.getBoundingClientRect()))"""
 # What a museum's screen hasn't: files, downloads, the print dialog, other seats, the console.
-ABSENT = ["pick-key", "save-key", "print-key", "tear-key", "save-cards-key", "card-print-key", "line", "log", "hold-key",
-          "seats"]
+ABSENT = ["pick-key", "save-key", "print-key", "tear-key", "save-cards-key", "card-print-key", "line", "log",
+          "hold-key", "seats"]
 
 
 class Stage(Browser):
@@ -91,7 +91,8 @@ class Visits(Stage):
     def test_by_touch(self):
         """On a screen without a keyboard."""
         def tap(key):
-            at = self.page.value(f"(box => [box.x + box.width / 2, box.y + box.height / 2])(byId('{key}').getBoundingClientRect())")
+            box = f"byId('{key}').getBoundingClientRect()"
+            at = self.page.value(f"(box => [box.x + box.width / 2, box.y + box.height / 2])({box})")
             point = [{"x": at[0], "y": at[1]}]
             self.page.call("Input.dispatchTouchEvent", type="touchStart", touchPoints=point)
             self.page.call("Input.dispatchTouchEvent", type="touchEnd", touchPoints=[])
@@ -99,7 +100,8 @@ class Visits(Stage):
         def write(name):
             for number, letter in enumerate(name):
                 key = f"{name}{number}"
-                self.page.value(f"[...byId('name-keys').children].find(key => key.textContent === '{letter}').id = '{key}'")
+                found = f"[...byId('name-keys').children].find(key => key.textContent === '{letter}')"
+                self.page.value(f"{found}.id = '{key}'")
                 tap(key)
 
         self.write = write
@@ -139,7 +141,8 @@ class Screen(Stage):
             self.shows(f"{place}: the newest is seen", f"{SEEN}(byId('band').lastElementChild)")
 
     def test_keys_keep_their_place(self):
-        place = f"{KEYS}.map(id => (box => [box.x, box.y, box.width])(byId(id).getBoundingClientRect()).join()).join('|')"
+        box = "(box => [box.x, box.y, box.width])(byId(id).getBoundingClientRect())"
+        place = f"{KEYS}.map(id => {box}.join()).join('|')"
         self.page.value(f"window.places = new Set(), window.seen = () => places.add({place}), seen()")
         for key in "feedChosen()", "pressLoad()", "pressStep()", "pressRun()", "guide.begin()":
             self.page.value(f"{key}, 0")
@@ -184,8 +187,8 @@ class Screen(Stage):
         self.shows("three word marks", lit.format("mark"), ",,,")
         self.shows("the card is cut at two", "stageCuts.getAttribute('d').split('M').length", 3)
         self.page.value("pressRun()")
-        self.shows("the print area", "strip.cells.slice(80).map(cell => cell.textContent).join('').replace(/\u00a0/g, ' ').trim()",
-                   "HELLO FROM AN IBM 1401")
+        printed = "strip.cells.slice(80).map(cell => cell.textContent).join('').replace(/\u00a0/g, ' ').trim()"
+        self.shows("the print area", printed, "HELLO FROM AN IBM 1401")
         self.shows("a line on the drawing", "Number(machines.rows[0].getAttribute('width')) > 20")
 
     def test_run_is_stop_while_it_runs(self):
@@ -209,7 +212,8 @@ class Screen(Stage):
         self.shows("the museum's name", "byId('stage-name').textContent", "Museum of Machines", page)
         self.shows("the language", "document.documentElement.lang + byId('feed-key').textContent", "deKARTE", page)
         plain = self.open_page(2)
-        self.shows("the page without one is as it was", "byId('stage').hidden && byId('grid').checkVisibility()", page=plain)
+        seen = "byId('stage').hidden && byId('grid').checkVisibility()"
+        self.shows("the page without one is as it was", seen, page=plain)
 
 
 class Tour(Stage):
@@ -220,7 +224,8 @@ class Tour(Stage):
         self.mouse("why-key")
         words = "byId('tour-words').textContent"
         self.shows("the card", words, self.page.value("TEXTS.scenes.load"))
-        marks = "It has set word marks at {}. A word mark says that something begins there; the card is cut into its parts."
+        marks = ("It has set word marks at {}. A word mark says that something begins there; the card is cut into its "
+                 "parts.")
         wanted = [marks.format(places) for places in ("8 and 15", "22 and 29", "36 and 37", "38 and 41")]
         wanted += ['It has carried letters from place 41 on to place 201 on: "HELLO FROM AN IBM 1401".',
                    'The chain of the printer has printed the places from 201 on: "HELLO FROM AN IBM 1401".',
@@ -316,8 +321,8 @@ class Between(Stage):
 
     def test_a_deck_runs_most_of_the_time(self):
         """From the first deck's beginning to the second one's."""
-        self.page.value("""VISIT.idleMs = 60000, attract.touched -= 80000, IDLE.attractMs = 0, window.ran = 0, window.all = 0,
-            window.decks = 0, window.was = false, setInterval(() => {
+        self.page.value("""VISIT.idleMs = 60000, attract.touched -= 80000, IDLE.attractMs = 0, window.ran = 0,
+            window.all = 0, window.decks = 0, window.was = false, setInterval(() => {
                 if (run !== null && !was) decks++;
                 was = run !== null;
                 if (decks > 0 && decks < 2) all++, ran += run !== null;
@@ -338,13 +343,15 @@ class Watch(Stage):
         pupil.value("pressLoad().then(pressRun)")
         self.shows("the line", "byId('band').lastElementChild.textContent", "HELLO FROM AN IBM 1401")
         self.page.resize(SIZES["a large screen"])
-        large = "[strip.cells[0], byId('band').lastElementChild].every(e => parseFloat(getComputedStyle(e).fontSize) >= 24)"
+        size = "parseFloat(getComputedStyle(e).fontSize)"
+        large = f"[strip.cells[0], byId('band').lastElementChild].every(e => {size} >= 24)"
         self.shows("paper and core storage are large", large)
         self.shows("no key of the machine", f"{KEYS}.some(id => byId(id).checkVisibility())", False)
 
     def test_the_teacher_stops_a_run(self):
         pupil = self.open_page(2)
-        pupil.value("guide.press(), say('DEPOSIT 0500 ~B500~.').then(() => say('START 0500')).then(() => pressRun()), 0")
+        endless = "say('DEPOSIT 0500 ~B500~.').then(() => say('START 0500')).then(() => pressRun())"
+        pupil.value(f"guide.press(), {endless}, 0")
         self.shows("it runs", "run !== null && run.slices > 2", page=pupil)
         self.mouse("watch-stop")
         self.shows("it is stopped", "run", None, pupil)

@@ -121,8 +121,8 @@ class Turns(Browser):
     def test_the_order_is_that_of_the_seats(self):
         """Seats at which nobody sits are left out."""
         self.page.value("window.own = view.picture, 0")
-        for seat, last, taken, place in (3, 2, [2, 3, 5], 1), (5, 2, [2, 3, 5], 2), (2, 3, [2, 3, 5], 2), (2, 2, [2, 3, 5], 3), \
-                (1, 8, [1, 8], 1), (8, 1, [1, 8], 1):
+        for seat, last, taken, place in (3, 2, [2, 3, 5], 1), (5, 2, [2, 3, 5], 2), (2, 3, [2, 3, 5], 2), \
+                (2, 2, [2, 3, 5], 3), (1, 8, [1, 8], 1), (8, 1, [1, 8], 1):
             placed = f"""view.picture = {{...own, seat: {seat}, seats: 8}}, Object.assign(hold, {{seat: 0, last: {last},
                 taken: {taken}}}), window.found = placeInLine(), view.picture = own, hold.last = 0, found"""
             self.shows(f"seat {seat} after {last}", placed, place)

@@ -4,6 +4,8 @@ const IDLE = {attractMs: 180000, pauseMs: 90000, seatMs: 20000, mostAfter: JOURN
 const attract = {on: false, stop: false, yields: false, press: false, touched: performance.now(),
   pressed: performance.now(), ended: -Infinity};
 
+/* A key of the keyboard that is held down on a button: it presses once. */
+const isHeldDown = ({repeat, key, target}) => repeat && ['Enter', ' '].includes(key) && target.tagName === 'BUTTON';
 /* A hand on the page ends the attract loop, between two decks too, and does nothing else. The click that ends its press
    does nothing either, even if the machine is clear by then. */
 function touch(event) {
@@ -12,8 +14,7 @@ function touch(event) {
   if (event.isTrusted === false) return;
   const waited = VISIT.isFresh;
   if (waited) greet();
-  // A key that is held down presses once.
-  if (event.repeat && ['Enter', ' '].includes(event.key) && event.target.tagName === 'BUTTON') return event.preventDefault();
+  if (isHeldDown(event)) return event.preventDefault();
   const isClick = event.type === 'click', ends = guide.state === 'attract' || waited, goesOn = isClick && attract.press;
   attract.press = ends && !isClick;
   if (ends) {

@@ -194,8 +194,9 @@ const lamps = buildPanel();
 const tapePointer = buildTape();
 const cards = {read: cardIn(byId('card-read')), next: cardIn(byId('card-next')), punched: cardIn(byId('card-punched')),
   keyed: cardIn(byId('card-keyed')), toPrint: cardIn(byId('card-to-print')), stage: cardIn(byId('stage-card'))};
-const stageCuts = drawn(byId('stage-card').querySelector('svg'), 'path', {class: 'cuts'});
-const stageLit = drawn(byId('stage-card').querySelector('svg'), 'rect', {class: 'lit-part', y: 1, height: CARD.height - 2});
+const stageSvg = byId('stage-card').querySelector('svg');
+const stageCuts = drawn(stageSvg, 'path', {class: 'cuts'});
+const stageLit = drawn(stageSvg, 'rect', {class: 'lit-part', y: 1, height: CARD.height - 2});
 for (const card of [cards.read, cards.next, cards.punched, cards.stage]) card(null);
 buildStage();
 putTexts();

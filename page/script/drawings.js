@@ -58,7 +58,8 @@ function drawMachines({registers, from, cells}) {
   const bits = [registers.B, registers.A, registers.I].flatMap(place => bitsWithCheck(at(place)));
   machines.lights.forEach((light, n) => light.classList.toggle('on', bits[n] && registers.I > 0));
   const newest = view.paper.slice(-machines.rows.length).reverse();
-  machines.rows.forEach((row, n) => setAttribute(row, 'width', newest[n] ? String(Math.min(124, 3.2 * newest[n].text.length)) : '0'));
+  const widthOf = line => line ? Math.min(124, 3.2 * line.text.length) : 0;
+  machines.rows.forEach((row, n) => setAttribute(row, 'width', String(widthOf(newest[n]))));
 }
 /* A card goes from the hopper to the stacker; the paper goes up under the chain, which runs. */
 function moveReader() {

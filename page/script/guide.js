@@ -118,7 +118,8 @@ const guide = {
   words(name) {
     if (name === null) return TEXTS.guide[this.state === 'on' ? 'off' : this.preparedWords()];
     if (name === 'wait') return turnWords();
-    const there = name === 'other' ? programThere(view.picture) : null, words = isExhibit ? TEXTS.childWords : TEXTS.guideWords;
+    const words = isExhibit ? TEXTS.childWords : TEXTS.guideWords;
+    const there = name === 'other' ? programThere(view.picture) : null;
     return there ? filled(words.program, {name: TEXTS.programs[there].name}) : words[name];
   },
   preparedWords() {

@@ -43,7 +43,8 @@ async function askForHold(path, method) {
 }
 /* Once, and then again and again in a room of several seats. */
 async function lookForHold() {
-  const now = performance.now(), pause = turn.wants || watching.holds || turn.has && hold.until - now < HOLD_MS ? TURN_LOOK_MS : HOLD_MS;
+  const now = performance.now(), isEnding = turn.has && hold.until - now < HOLD_MS;
+  const pause = turn.wants || watching.holds || watching.stops || isEnding ? TURN_LOOK_MS : HOLD_MS;
   if (view.link !== 'fine' || now - hold.asked < (isShared() ? pause : Infinity)) return;
   hold.asked = now;
   try {

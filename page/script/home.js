@@ -2,7 +2,8 @@
    telephone reads. Opened there, the page shows both, without a room, and from a file too. */
 const isHome = FRAGMENT.has('card');
 
-/* The address for a card; empty if a telephone couldn't reach it. The fragment may name another page (home=https://..). */
+/* The address for a card; empty if a telephone couldn't reach it. The fragment may name another page (home=https://..),
+   and a page at the loopback has no address of its own. */
 function homeAddress(card) {
   const isAlone = /^(127\.|localhost$|\[::1\]$)/.test(location.hostname) || location.protocol === 'file:';
   const page = FRAGMENT.get('home') || (isAlone ? '' : `${location.origin}/`);

@@ -1,5 +1,5 @@
-/* The languages of the page, each by its tag. A language has all texts for visitors; {name} is replaced by a value. A text
-   that counts has a form for each category of Intl.PluralRules that it needs, and `many` for the others. */
+/* The languages of the page, each by its tag. A language has all texts for visitors; {name} is replaced by a value. A
+   text that counts has a form for each category of Intl.PluralRules that it needs, and `many` for the others. */
 const LANGUAGES = {};
 let TEXTS;
 

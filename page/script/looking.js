@@ -161,7 +161,8 @@ async function lookAside() {
   }
 }
 
-const LINK_OF_STATUS = {403: 'foreign', 429: 'busy', 502: 'proxyAlone', 504: 'proxyAlone', 410: 'closed', 503: 'taken503', busy: 'busy', 507: 'noMemory'};
+const LINK_OF_STATUS = {403: 'foreign', 410: 'closed', 429: 'busy', 502: 'proxyAlone', 503: 'taken503',
+  504: 'proxyAlone', 507: 'noMemory', busy: 'busy'};
 function blame(why) {
   if (why instanceof Unreadable) setLink('unread');
   else if (!(why instanceof Refused)) setLink('lost');

@@ -27,6 +27,8 @@ function noteStop(stop) {
   if (view.ended !== null) happened('halt');
 }
 
+/* A deck that a stage runs by itself has parts of a second, since each is an entry of the journal. */
+const ATTRACT_GROWN = 10;
 /* A key that does one thing: a second press is left out until the first one has its answer, and a moment longer. */
 const GUARD_MS = 400;
 const guarded = new Set();
@@ -114,7 +116,8 @@ async function runParts() {
 }
 async function runPart() {
   const pace = PACES[byId('pace').selectedIndex];
-  run.grown = Math.max(grownBy(performance.now() - Math.max(run.began, attract.pressed)), isExhibit && attract.on ? 10 : 1);
+  const idle = performance.now() - Math.max(run.began, attract.pressed);
+  run.grown = Math.max(grownBy(idle), isExhibit && attract.on ? ATTRACT_GROWN : 1);
   const steps = Math.min(MOST_STEPS, run.grown * (pace === OWN_PACE ? OWN_STEPS : pace)), line = `RUN ${steps}`;
   if (run.slices === 0) note('you', line);
   const began = performance.now(), before = view.picture, {breaks} = view;
@@ -174,7 +177,9 @@ const COMMAND_KEYS = ['load-key', 'run-key', 'step-key', 'start-key', 'feed-key'
 function drawKeys() {
   const may = mayCommand(), {PAPER, STACKER} = view.picture ? view.picture.registers : {PAPER: 0, STACKER: 0};
   for (const id of COMMAND_KEYS) setOff(byId(id), !may || guarded.has(id));
-  for (const id of ['load-key', 'run-key', 'step-key', 'start-key']) setOff(byId(id), !may || run !== null || guarded.has(id));
+  for (const id of ['load-key', 'run-key', 'step-key', 'start-key']) {
+    setOff(byId(id), !may || run !== null || guarded.has(id));
+  }
   for (const button of byId('switches').children) setOff(button, !may);
   setOff(byId('stop-key'), run === null);
   if (isExhibit) setOff(byId('run-key'), run === null && (!may || guarded.has('run-key')));

@@ -1,6 +1,6 @@
-/* The stage: the page's fragment says that it is the screen of an exhibit (#exhibit), or a view for a projector (#watch),
-   and what else it has: #exhibit&name=The+museum&lang=de. A stage has drawings, one card, 80 places of core storage, the
-   newest lines and four keys; one key shows everything else. */
+/* The stage: the page's fragment says that it is the screen of an exhibit (#exhibit) or a projector's view (#watch), with
+   more settings: #exhibit&name=The+museum&lang=de. A stage has drawings, one card, 80 places of core storage, the newest
+   lines and four keys; one key shows everything else. */
 const FRAGMENT = new URLSearchParams(location.hash.slice(1));
 const isExhibit = FRAGMENT.has('exhibit'), isWatch = FRAGMENT.has('watch'), isStage = isExhibit || isWatch;
 const STRIP_PLACES = 80;
@@ -34,7 +34,7 @@ function stripFrom({registers: {I}, size}) {
 /* The cell at a place; a blank one if the picture doesn't have it. */
 const cellAt = ({cells, from}, place) => cells[place - from] || {graphic: ' ', mark: false};
 
-/* Draws a picture on the stage: the machine's, or a scene of the tour, with the places that an instruction has touched. */
+/* Draws a picture on the stage: the machine's, or that of a scene, with the places that an instruction has touched. */
 function drawStage(picture, touched = []) {
   if (!isStage) return;
   const from = stripFrom(picture), moved = from !== strip.from;
@@ -42,7 +42,8 @@ function drawStage(picture, touched = []) {
   strip.from = from;
   strip.heads.forEach((head, row) => setText(head, pad(row < 4 ? from + 20 * row : PRINT_FROM + 20 * (row - 4), 3)));
   strip.cells.forEach((element, at) => {
-    const place = at < STRIP_PLACES ? from + at : PRINT_FROM + at - STRIP_PLACES, {graphic, mark} = cellAt(picture, place);
+    const place = at < STRIP_PLACES ? from + at : PRINT_FROM + at - STRIP_PLACES;
+    const {graphic, mark} = cellAt(picture, place);
     const isOther = strip.shown[at] !== undefined && strip.shown[at] !== graphic + mark;
     setText(element, graphic === ' ' ? '\u00a0' : graphic);
     element.classList.toggle('mark', mark);
@@ -113,8 +114,8 @@ async function clearForGuide() {
   await startAfresh(renewal.mode === 'ON' ? renewRoom : clearMachine);
   guide.begin();
 }
-/* The teacher's keys of a projector's view. Both hold the machine, which ends a run before its next part; the one for a run
-   gives it back after the longest part that a run has. */
+/* The teacher's keys of a projector's view. Both hold the machine, which ends a run before its next part; the one for a
+   run gives it back after the longest part that a run has. */
 const watching = {holds: false, stops: false, until: Infinity};
 function watchStop() {
   Object.assign(watching, {stops: true, until: Infinity});
@@ -125,7 +126,7 @@ async function watchHold() {
   if (!watching.holds && !watching.stops && isHolder()) await askToHold('/release');
   return lookForWatch();
 }
-/* Waits for the end of another page's hold. A hold has a minute, so it is asked for again as long as the key is pressed. */
+/* Waits for the end of another page's hold. A hold has a minute; it is asked for again while the key is pressed. */
 async function lookForWatch() {
   const {holds, stops} = watching;
   if ((holds || stops) && !isHeld()) await askToHold('/hold');

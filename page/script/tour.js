@@ -1,4 +1,4 @@
-/* The tour: what each instruction did, one scene after the other. A scene is made from two pictures of the machine, so it
+/* The tour: what each instruction did, one scene after the other. A scene is made from two pictures of the machine, and
    is right for any deck. Going on past the last scene carries out one more instruction. */
 const SCENE_MS = 8000;
 const MOST_SCENES = 200;

@@ -1,4 +1,4 @@
-/* Between visitors: after a minute without a hand a stage asks whether somebody is there, and then everything is as new.
+/* Between visitors: after a minute without a hand a stage asks whether somebody is there; then everything is as new.
    Until the next hand it says that it may be touched, in each language in turn, and decks run by themselves. */
 const VISIT = {idleMs: 60000, leaveMs: 10000, wordsMs: 4000, isFresh: false, at: 0};
 
@@ -31,7 +31,8 @@ async function welcomeNext() {
   asNew();
   guide.state = 'attract';
   guide.draw();
-  if (view.picture && !isClear(view.picture) && mayCommand() && !othersAtWork() && !hold.isPrepared) await startAfresh();
+  const isOurs = mayCommand() && !othersAtWork() && !hold.isPrepared;
+  if (isOurs && view.picture && !isClear(view.picture)) await startAfresh();
   byId('log').replaceChildren();
 }
 /* The page as it is when it is opened. */

@@ -56,7 +56,8 @@ header button,header select{background:var(--panel);border:1px solid var(--faint
 padding:4px 10px;color:var(--ivory);font-size:13px;}
 header button[aria-pressed=true]{background:var(--lamp);color:#2b1d00;}
 header button:hover{background:var(--panel-light);color:var(--ivory);}
-.notice{position:fixed;inset:auto 0 0;z-index:6;pointer-events:none;background:var(--ink);color:#fff;font-weight:700;padding:9px 14px;}
+.notice{position:fixed;inset:auto 0 0;z-index:6;pointer-events:none;background:var(--ink);
+color:#fff;font-weight:700;padding:9px 14px;}
 .banner{background:var(--red);color:#fff;font-weight:700;padding:9px 14px;}
 main{padding:8px 10px;max-width:2200px;margin:auto;}
 .stage{display:grid;gap:8px 10px;align-items:start;grid-template:
@@ -97,8 +98,9 @@ border-top:4px solid #8d8878;padding-top:4px;counter-increment:step;}
 .probe{position:absolute;visibility:hidden;min-height:0 !important;inset:0 0 auto;}
 .guide p{margin:0;padding:6px 12px 8px;}
 .guide .row{padding:0 12px 9px;margin:0;}
-.guide .over-parts{position:absolute;inset:100% -1px auto;z-index:5;padding:10px 12px;background:var(--cabinet);
-border:1px solid var(--edge);border-radius:0 0 6px 6px;box-shadow:0 6px 14px #0005;}
+.guide .over-parts{position:absolute;inset:100% -1px auto;z-index:5;padding:10px 12px;
+background:var(--cabinet);border:1px solid var(--edge);border-radius:0 0 6px 6px;
+box-shadow:0 6px 14px #0005;}
 .name-keys{display:grid;grid-template-columns:repeat(auto-fill, minmax(44px, 1fr));gap:5px;flex:1 1 100%;}
 .name-keys button{height:44px;border:0;border-radius:4px;background:#2d3338;color:#fff;
 font:700 17px var(--mono);box-shadow:0 2px 0 #14181b;}
@@ -280,7 +282,8 @@ background:radial-gradient(circle at 50% 50%, #8f8a7a 0 .42em, transparent .48em
 .paper-keys{display:flex;flex-wrap:wrap;gap:8px;padding:0 14px 11px;align-items:center;font-size:13px;
 color:var(--soft);}
 #sheets-to-print{display:none;}
-.newest{display:none;position:fixed;inset:auto 0 0;z-index:4;padding:6px 14px;font:700 17px/1.4 var(--mono);
+.newest{display:none;position:fixed;inset:auto 0 0;z-index:4;padding:6px 14px;
+font:700 17px/1.4 var(--mono);
 white-space:pre;overflow:hidden;color:var(--print-ink);background:var(--bar);border-top:2px solid #8f8a7a;}
 .log{height:250px;overflow:auto;padding:9px 15px;
 font:14px/20px var(--mono);background:var(--log);border-bottom:1px solid var(--edge);}
@@ -313,14 +316,17 @@ dialog dd{margin:0 0 5px;}
 dialog svg text{fill:#fff;font-size:14px;text-anchor:middle;}
 dialog svg rect{fill:#2e3e4d;stroke:#c3ccd3;}
 dialog svg path{stroke:#ffb238;stroke-width:3;fill:none;}
-.stage-screen{position:fixed;inset:0;z-index:2;container-type:size;overflow:hidden;background:var(--room);}
+.stage-screen{position:fixed;inset:0;z-index:2;container-type:size;overflow:hidden;
+background:var(--room);}
 .exhibit,.watch{overflow:hidden;padding:0;}
-.exhibit>header,.exhibit>.skip,.exhibit>footer,.exhibit .newest,.watch>header,.watch>.skip,.watch>main,
+.exhibit>header,.exhibit>.skip,.exhibit>footer,.exhibit .newest,.watch>header,.watch>.skip,
+.watch>main,
 .watch>footer,.watch .newest{display:none;}
 .exhibit>main{display:none;}
 .exhibit.more>main{display:block;position:fixed;inset:60px 0 0;z-index:6;overflow:auto;
 background:var(--room);}
-.exhibit .console,.exhibit .guide,.exhibit #pick-key,.exhibit .paper-keys,.exhibit #save-cards-key,.exhibit .notice,
+.exhibit .console,.exhibit .guide,.exhibit #pick-key,.exhibit .paper-keys,.exhibit #save-cards-key,
+.exhibit .notice,
 .exhibit #card-print-key,.exhibit .reader .title small,.exhibit .said code{display:none !important;}
 .exhibit #watch-stop,.exhibit #watch-hold,.watch #more-key,.watch #turn-key,.watch #why-key,.watch .stage-keys,
 .watch .stage-said,.watch #name-form{display:none !important;}
@@ -331,7 +337,8 @@ background:var(--panel);color:var(--ivory);border-bottom:4px solid var(--blue);z
 .stage-screen>.stage-head{left:0;right:0;}
 .stage-head h1{margin:0;font-size:min(26px, 5.4cqw);}
 .stage-head div{margin-left:auto;display:flex;gap:8px;}
-.stage-head button,.stage-head select{min-height:48px;background:var(--panel);color:var(--ivory);border:1px solid
+.stage-head button,.stage-head select{min-height:48px;background:var(--panel);color:var(--ivory);
+border:1px solid
 var(--faint);border-radius:4px;padding:0 12px;}
 .stage-head .small-key:hover:not([aria-disabled=true]){background:var(--panel-light);}
 #machines{top:66px;height:21cqh;width:calc(100% - 28px);}
@@ -350,7 +357,8 @@ var(--faint);border-radius:4px;padding:0 12px;}
 #stage-card figcaption{font-size:15px;font-weight:700;color:var(--ink);}
 #stage-card .cuts{stroke:var(--room);stroke-width:2.4;}
 #stage-card .lit-part{fill:var(--lamp);opacity:.45;}
-.stage-screen .strip{top:calc(74px + 21cqh);height:29cqh;left:auto;width:min(49cqw, 90cqh);display:grid;gap:1px;
+.stage-screen .strip{top:calc(74px + 21cqh);height:29cqh;left:auto;width:min(49cqw, 90cqh);display:grid;
+gap:1px;
 grid-template-columns:2.6em repeat(20, minmax(0, 1fr));font:700 min(1.9cqw, 3.4cqh)/1.35 var(--mono);}
 .strip b{font-size:.72em;color:var(--soft);align-self:center;}
 .strip span{background:var(--read);text-align:center;border-bottom:4px solid transparent;overflow:hidden;}
@@ -359,7 +367,8 @@ grid-template-columns:2.6em repeat(20, minmax(0, 1fr));font:700 min(1.9cqw, 3.4c
 .strip .next{background:var(--next);color:#fff;}
 .strip .next.mark{border-bottom-color:var(--lamp);}
 .strip .touched{background:var(--lamp);color:#2b1d00;}
-.stage-screen .tour{top:66px;height:21cqh;padding:8px 14px;background:var(--paper);border:3px solid var(--blue);
+.stage-screen .tour{top:66px;height:21cqh;padding:8px 14px;background:var(--paper);
+border:3px solid var(--blue);
 border-radius:8px;display:flex;gap:10px 16px;align-items:center;justify-content:space-between;z-index:3;}
 .tour p{margin:0;font-size:min(26px, 3.6cqh);font-weight:700;flex:1;}
 .tour div{display:flex;gap:8px;align-items:center;flex-wrap:wrap;}
@@ -374,24 +383,29 @@ border-width:0 12px 1px;}
 white-space:pre;color:var(--print-ink);flex:none;}
 .band p:nth-last-child(even){background:var(--bar);}
 .band p:last-child{font-weight:700;}
-.stage-screen .stage-said{bottom:14px;right:auto;width:calc(100% - 28px - 110px - min(560px, 52cqw));height:92px;
-display:flex;align-items:center;background:var(--cabinet);border-radius:6px;padding:6px 12px;overflow:hidden;}
+.stage-screen .stage-said{bottom:14px;right:auto;width:calc(100% - 28px - 110px - min(560px, 52cqw));
+height:92px;
+display:flex;align-items:center;background:var(--cabinet);border-radius:6px;padding:6px 12px;
+overflow:hidden;}
 .stage-said p{margin:0;font-size:min(30px, 2.1cqw);font-weight:700;line-height:1.2;}
 .stage-screen #guide-said{min-height:0 !important;}
 .stage-screen #why-key{bottom:14px;height:92px;width:92px;left:auto;right:calc(24px + min(560px, 52cqw));}
 .stage-screen .stage-keys{bottom:14px;height:92px;left:auto;width:min(560px, 52cqw);display:grid;gap:10px;
 grid-template-columns:repeat(4, minmax(0, 1fr));}
-.stage-screen .stage-keys button{height:auto;min-height:64px;min-width:0;padding:0 4px;font-size:min(22px, 2.2cqw);font-weight:700;
+.stage-screen .stage-keys button{height:auto;min-height:64px;min-width:0;padding:0 4px;
+font-size:min(22px, 2.2cqw);font-weight:700;
 border-radius:8px;}
 .stage-keys .small-key.main{background:var(--blue);}
-.stage-screen #name-form{inset:66px 14px auto;z-index:4;padding:14px;border-radius:8px;box-shadow:0 8px 30px #0006;
+.stage-screen #name-form{inset:66px 14px auto;z-index:4;padding:14px;border-radius:8px;
+box-shadow:0 8px 30px #0006;
 background:var(--cabinet);margin:0;font-size:20px;}
 .stage-screen #name{font-size:24px;height:56px;width:min(15em, 60cqw);}
 .stage-screen .name-keys{grid-template-columns:repeat(auto-fill, minmax(56px, 1fr));}
 .stage-screen .name-keys button{font-size:22px;}
 .stage-screen .leaving{inset:30% 14px auto;z-index:9;background:var(--ink);color:#fff;text-align:center;
 border-radius:10px;padding:20px;font-size:min(34px, 6cqw);font-weight:700;}
-.stage-screen .touch-me{inset:calc(100cqh - max(120px, 20cqh)) 0 0;z-index:8;display:grid;place-items:center;text-align:center;
+.stage-screen .touch-me{inset:calc(100cqh - max(120px, 20cqh)) 0 0;z-index:8;display:grid;place-items:center;
+text-align:center;
 background:#10171dd9;color:#fff;}
 .touch-me p{margin:0;font-size:max(60px, 9cqh);line-height:1.1;font-weight:700;}
 #stage #home-figure{top:auto;left:auto;right:14px;bottom:116px;width:min(240px, 30cqh);z-index:3;}
@@ -521,7 +535,8 @@ aria-hidden="true"></span></div>
 <div class="stage-head"><h1 id="stage-name"></h1><span id="stage-who"></span><div id="stage-more">
 <button type="button" class="small-key" id="watch-stop" data-text="watchStop"></button>
 <button type="button" class="small-key" id="watch-hold" data-text="watchHold" aria-pressed="false"></button>
-<button type="button" class="small-key" id="more-key" data-text="moreKey" aria-expanded="false"></button></div></div>
+<button type="button" class="small-key" id="more-key" data-text="moreKey" aria-expanded="false"></button>
+</div></div>
 <svg id="machines" viewBox="0 0 900 180" role="img" data-label="machinesLabel"></svg>
 <figure class="card" id="stage-card"><figcaption id="stage-card-name"></figcaption></figure>
 <div class="strip" id="strip" role="img"></div>
@@ -669,7 +684,8 @@ autocomplete="off"></label>
 <button type="button" class="small-key" id="feed-again-key" data-text="feedAgainKey" hidden></button>
 <span class="how" id="taken-words" role="status"></span>
 </div>
-<details class="desk" id="keypunch" data-label="keypunch"><summary data-text="keypunch"></summary><div class="inside">
+<details class="desk" id="keypunch" data-label="keypunch"><summary data-text="keypunch"></summary>
+<div class="inside">
 <figure class="card" id="card-keyed"></figure>
 <input class="keyed" id="keyed" maxlength="80" spellcheck="false" autocomplete="off" autocapitalize="characters"
 data-label="keyedLabel">
@@ -904,7 +920,8 @@ resumed:'The room was opened again; its machine is as you see it.',
 renewing:'A new machine is asked for ..',
 clearing:'The machine is being cleared ..',clear:'The machine is clear: no card, no paper, nothing in core.',
 prepared:'A new machine is here, with what the staff has prepared.',
-nothing:'The machine is empty: feed a program first.',loadFirst:'Nothing is in core storage yet: press LOAD first.',
+nothing:'The machine is empty: feed a program first.',
+loadFirst:'Nothing is in core storage yet: press LOAD first.',
 yourTurn:'It is your turn.',
 notClear:'The machine isn\'t clear. Perhaps somebody else is at work. Try again.',
 },
@@ -1017,7 +1034,8 @@ scenes:{
 and:' and ',at:'{n} of {all}',pause:'Pause',play:'Go on',
 none:'Feed a card and press LOAD. Then each step is explained here.',
 load:'The card is in the machine: each of its 80 columns is now a character in one of the places 001 to 080.',
-SW:'It has set word marks at {places}. A word mark says that something begins there; the card is cut into its parts.',
+SW:'It has set word marks at {places}. A word mark says that something begins there; the card is cut into its '
++ 'parts.',
 MCW:'It has carried letters from place {from} on to place {to} on: "{text}".',
 W:'The chain of the printer has printed the places from 201 on: "{line}".',
 H:'The program has ended, and the machine stops.',A:'It has added the number at {a} to the one at {b}.',
@@ -1092,7 +1110,8 @@ skip:'Zum Stapel und zu den Tasten',
 headline:'Datenverarbeitungssystem',subline:'Gemeinsamer Maschinenraum',
 seatsLabel:'Die Pl\xe4tze dieses Raums',seats:'Pl\xe4tze',seat:'Platz {n}',thisSeat:'Platz {n}, dieser hier',
 takenSeat:'Platz {n}, besetzt',
-after:{one:'1 Eingabe',many:'{n} Eingaben'},afterTitle:'wie viele Eingaben die Maschine von allen Pl\xe4tzen bekam',
+after:{one:'1 Eingabe',many:'{n} Eingaben'},
+afterTitle:'wie viele Eingaben die Maschine von allen Pl\xe4tzen bekam',
 answers:'Die Maschine antwortet.',
 aboutKey:'Was sehe ich hier?',soundKey:'Ton',helpKey:'Tasten',closeKey:'Schlie\xdfen',yesKey:'Ja',
 noKey:'Nein',
@@ -1217,8 +1236,8 @@ full:'Das Journal ist voll; die Maschine nimmt keine Eingaben mehr an. Bitte das
 nearlyFull:'Das Journal hat {n} seiner 100.000 Eintr\xe4ge. Bitte das Personal rufen.',
 refusedStatus:'Der Server hat abgelehnt, was diese Seite wollte ({status}).',
 unread:'Diese Seite versteht nicht, was der Server zeigt. Ist sie von einer anderen Version?',
-proxyAlone:'Der Proxy antwortet, der Raum aber nicht. Starten Sie den Raum; diese Seite geht dann von selbst weiter.',
-foreign:'Der Raum kennt die Adresse dieser Seite nicht. Starten Sie ihn mit --origin und der Adresse, die oben steht.',
+proxyAlone:'Der Proxy antwortet, der Raum aber nicht. Starten Sie den Raum; die Seite geht dann von selbst weiter.',
+foreign:'Der Raum kennt die Adresse dieser Seite nicht. Starten Sie ihn mit --origin und der Adresse von oben.',
 noMemory:'Der Server hatte keinen Speicher f\xfcr ein Bild. Diese Seite versucht es weiter.',
 outcomes:{
 off:'Nicht gesendet: die Maschine nimmt jetzt keine Eingaben an.',
@@ -1355,12 +1374,14 @@ soon:'Die Maschine ist frei. Der N\xe4chste kommt an die Reihe.',
 wait:'Anstellen',leave:'Nicht mehr warten',give:'An den N\xe4chsten geben',
 },
 childWords:{
-feed:'Dr\xfccke KARTE. Eine Karte kommt in die Maschine.',load:'Dr\xfccke LOAD. Die Maschine liest die L\xf6cher der Karte.',
+feed:'Dr\xfccke KARTE. Eine Karte kommt in die Maschine.',
+load:'Dr\xfccke LOAD. Die Maschine liest die L\xf6cher der Karte.',
 step:'Dr\xfccke STEP. Die Maschine tut das Erste, was auf der Karte steht.',
 run:'Dr\xfccke RUN. Die Maschine tut alles andere, und druckt.',
 name:'Sie hat gedruckt! Nun schreibe deinen eigenen Namen.',loadName:'Das ist deine Karte. Dr\xfccke LOAD.',
 runName:'Dr\xfccke RUN, und sieh aufs Papier.',done:'Da ist dein Name! Dr\xfccke KARTE, um neu zu beginnen.',
-other:'Vor dir war jemand hier. Dr\xfccke LEEREN.',program:'Das Programm {name} ist in der Maschine. Dr\xfccke LEEREN.',
+other:'Vor dir war jemand hier. Dr\xfccke LEEREN.',
+program:'Das Programm {name} ist in der Maschine. Dr\xfccke LEEREN.',
 paper:'Das Papier ist voll. Dr\xfccke LEEREN.',
 },
 childKeys:{feed:'KARTE',clear:'LEEREN'},
@@ -1427,11 +1448,11 @@ aboutWords:[
 + 'Zeichen'],
 ['Magazin','wo die Karten liegen, die als n\xe4chste gelesen werden'],
 ['LOAD','die Taste, die die erste Karte nach 001 bis 080 liest und dort beginnt'],
-['Kernspeicher','der Speicher aus kleinen Magnetringen: jede Stelle hat ein Zeichen'],"##;
+['Kernspeicher','der Speicher aus kleinen Magnetringen: jede Stelle hat ein Zeichen'],
+['Wortmarke','ein Bit neben einem Zeichen; es sagt, wo ein Feld oder ein Befehl beginnt'],"##;
 
 /// The rest of the page.
 pub const REST: &[u8] = br##"
-['Wortmarke','ein Bit neben einem Zeichen; es sagt, wo ein Feld oder ein Befehl beginnt'],
 ['Befehl','ein Buchstabe f\xfcr die Operation und Adressen, mit denen sie arbeitet'],
 ['I-Register','die Stelle des n\xe4chsten Befehls'],
 ['Schalter','nach ihm kann ein Programm fragen'],
@@ -1762,7 +1783,8 @@ draw();
 blame(why);
 }
 }
-const LINK_OF_STATUS={403:'foreign',429:'busy',502:'proxyAlone',504:'proxyAlone',410:'closed',503:'taken503',busy:'busy',507:'noMemory'};
+const LINK_OF_STATUS={403:'foreign',410:'closed',429:'busy',502:'proxyAlone',503:'taken503',
+504:'proxyAlone',507:'noMemory',busy:'busy'};
 function blame(why){
 if(why instanceof Unreadable)setLink('unread');
 else if(!(why instanceof Refused))setLink('lost');
@@ -1942,6 +1964,7 @@ function noteStop(stop){
 view.ended=stop&&stop.name==='HALT'?stop.next:null;
 if(view.ended !==null)happened('halt');
 }
+const ATTRACT_GROWN=10;
 const GUARD_MS=400;
 const guarded=new Set();
 async function once(key,action){
@@ -2024,7 +2047,8 @@ if(stop.name !=='LIMIT'||view.picture.after>=JOURNAL_NEARLY||run.stop)return out
 }
 async function runPart(){
 const pace=PACES[byId('pace').selectedIndex];
-run.grown=Math.max(grownBy(performance.now()- Math.max(run.began,attract.pressed)),isExhibit&&attract.on?10:1);
+const idle=performance.now()- Math.max(run.began,attract.pressed);
+run.grown=Math.max(grownBy(idle),isExhibit&&attract.on?ATTRACT_GROWN:1);
 const steps=Math.min(MOST_STEPS,run.grown*(pace===OWN_PACE?OWN_STEPS:pace)),line=`RUN ${steps}`;
 if(run.slices===0)note('you',line);
 const began=performance.now(),before=view.picture,{breaks}=view;
@@ -2076,7 +2100,9 @@ const COMMAND_KEYS=['load-key','run-key','step-key','start-key','feed-key','pick
 function drawKeys(){
 const may=mayCommand(),{PAPER,STACKER}=view.picture?view.picture.registers:{PAPER:0,STACKER:0};
 for(const id of COMMAND_KEYS)setOff(byId(id),!may||guarded.has(id));
-for(const id of['load-key','run-key','step-key','start-key'])setOff(byId(id),!may||run !==null||guarded.has(id));
+for(const id of['load-key','run-key','step-key','start-key']){
+setOff(byId(id),!may||run !==null||guarded.has(id));
+}
 for(const button of byId('switches').children)setOff(button,!may);
 setOff(byId('stop-key'),run===null);
 if(isExhibit)setOff(byId('run-key'),run===null&&(!may||guarded.has('run-key')));
@@ -2385,7 +2411,8 @@ const text=await response.text();
 if(response.status===200||response.status===423)takeHold(text);
 }
 async function lookForHold(){
-const now=performance.now(),pause=turn.wants||watching.holds||turn.has&&hold.until - now<HOLD_MS?TURN_LOOK_MS:HOLD_MS;
+const now=performance.now(),isEnding=turn.has&&hold.until - now<HOLD_MS;
+const pause=turn.wants||watching.holds||watching.stops||isEnding?TURN_LOOK_MS:HOLD_MS;
 if(view.link !=='fine'||now - hold.asked<(isShared()?pause:Infinity))return;
 hold.asked=now;
 try{
@@ -2455,7 +2482,8 @@ const begin=picture.registers.I,end=begin + instructionLength(picture.cells,begi
 strip.from=from;
 strip.heads.forEach((head,row)=>setText(head,pad(row<4?from + 20*row:PRINT_FROM + 20*(row - 4),3)));
 strip.cells.forEach((element,at)=>{
-const place=at<STRIP_PLACES?from + at:PRINT_FROM + at - STRIP_PLACES,{graphic,mark}=cellAt(picture,place);
+const place=at<STRIP_PLACES?from + at:PRINT_FROM + at - STRIP_PLACES;
+const{graphic,mark}=cellAt(picture,place);
 const isOther=strip.shown[at]!==undefined&&strip.shown[at]!==graphic + mark;
 setText(element,graphic===' '?'\u00a0':graphic);
 element.classList.toggle('mark',mark);
@@ -2596,7 +2624,8 @@ const at=place=>cells[place - from]?cells[place - from].graphic:' ';
 const bits=[registers.B,registers.A,registers.I].flatMap(place=>bitsWithCheck(at(place)));
 machines.lights.forEach((light,n)=>light.classList.toggle('on',bits[n]&&registers.I>0));
 const newest=view.paper.slice(-machines.rows.length).reverse();
-machines.rows.forEach((row,n)=>setAttribute(row,'width',newest[n]?String(Math.min(124,3.2*newest[n].text.length)):'0'));
+const widthOf=line=>line?Math.min(124,3.2*line.text.length):0;
+machines.rows.forEach((row,n)=>setAttribute(row,'width',String(widthOf(newest[n]))));
 }
 function moveReader(){
 machines.card.classList.remove('none');
@@ -2845,19 +2874,20 @@ setText(byId('turn-key'),turn.has?TEXTS.turn.give:turn.wants?TEXTS.turn.leave:TE
 }
 const NAME_MOST=CARD_COLUMNS - NAME_COLUMN;
 const SPELLINGS=new Map((
-'\u00e4AE \u00f6OE \u00fcUE \u00dfSS \u00e6AE \u0153OE \u00f8OE \u00e5AA \u0142L \u0111D \u00f0D \u00feTH \u0127H \u0131I '
-+ '\u014bNG \u0167T \u0133IJ \u0138K \u017fS \u0259E \u0192F '
-+ '\u03b1A \u03b2V \u03b3G \u03b4D \u03b5E \u03b6Z \u03b7I \u03b8TH \u03b9I \u03baK \u03bbL \u03bcM \u03bdN \u03beX \u03bfO '
-+ '\u03c0P \u03c1R \u03c3S \u03c2S \u03c4T \u03c5Y \u03c6F \u03c7CH \u03c8PS \u03c9O '
-+ '\u0430A \u0431B \u0432V \u0433G \u0434D \u0435E \u0436ZH \u0437Z \u0438I \u043aK \u043bL \u043cM \u043dN \u043eO '
-+ '\u043fP \u0440R \u0441S \u0442T \u0443U \u0444F \u0445KH \u0446TS \u0447CH \u0448SH \u0449SHCH \u044a \u044bY \u044c '
-+ '\u044dE \u044eYU \u044fYA \u0454YE \u0456I \u0457YI \u0491G \u0451YO \u0439Y \u045eU \u0452DJ \u0458J \u0459LJ '
-+ '\u045aNJ \u045bC \u045fDZ \u0455DZ '
-+ '\u05d0A \u05d1B \u05d2G \u05d3D \u05d4H \u05d5V \u05d6Z \u05d7H \u05d8T \u05d9Y \u05dbK \u05daK \u05dcL \u05deM \u05ddM '
-+ '\u05e0N \u05dfN \u05e1S \u05e2A \u05e4P \u05e3F \u05e6TS \u05e5TS \u05e7K \u05e8R \u05e9SH \u05eaT '
-+ '\u0627A \u0628B \u062aT \u062bTH \u062cJ \u062dH \u062eKH \u062fD \u0630DH \u0631R \u0632Z \u0633S \u0634SH \u0635S '
-+ '\u0636D \u0637T \u0638Z \u0639A \u063aGH \u0641F \u0642Q \u0643K \u0644L \u0645M \u0646N \u0647H \u0648U \u064aI '
-+ '\u0629A \u0649A \u0621 \u067eP \u0686CH \u06a9K \u06afG \u06ccI').split(' ').map(each=>[each[0],each.slice(1)]));
+'\u00e4AE \u00f6OE \u00fcUE \u00dfSS \u00e6AE \u0153OE \u00f8OE \u00e5AA \u0142L \u0111D \u00f0D \u00feTH '
++ '\u0127H \u0131I \u014bNG \u0167T \u0133IJ \u0138K \u017fS \u0259E \u0192F \u03b1A \u03b2V \u03b3G '
++ '\u03b4D \u03b5E \u03b6Z \u03b7I \u03b8TH \u03b9I \u03baK \u03bbL \u03bcM \u03bdN \u03beX \u03bfO \u03c0P '
++ '\u03c1R \u03c3S \u03c2S \u03c4T \u03c5Y \u03c6F \u03c7CH \u03c8PS \u03c9O \u0430A \u0431B \u0432V '
++ '\u0433G \u0434D \u0435E \u0436ZH \u0437Z \u0438I \u043aK \u043bL \u043cM \u043dN \u043eO \u043fP \u0440R '
++ '\u0441S \u0442T \u0443U \u0444F \u0445KH \u0446TS \u0447CH \u0448SH \u0449SHCH \u044a \u044bY \u044c '
++ '\u044dE \u044eYU \u044fYA \u0454YE \u0456I \u0457YI \u0491G \u0451YO \u0439Y \u045eU \u0452DJ \u0458J '
++ '\u0459LJ \u045aNJ \u045bC \u045fDZ \u0455DZ \u05d0A \u05d1B \u05d2G \u05d3D \u05d4H \u05d5V \u05d6Z '
++ '\u05d7H \u05d8T \u05d9Y \u05dbK \u05daK \u05dcL \u05deM \u05ddM \u05e0N \u05dfN \u05e1S \u05e2A \u05e4P '
++ '\u05e3F \u05e6TS \u05e5TS \u05e7K \u05e8R \u05e9SH \u05eaT \u0627A \u0628B \u062aT \u062bTH \u062cJ '
++ '\u062dH \u062eKH \u062fD \u0630DH \u0631R \u0632Z \u0633S \u0634SH \u0635S \u0636D \u0637T \u0638Z '
++ '\u0639A \u063aGH \u0641F \u0642Q \u0643K \u0644L \u0645M \u0646N \u0647H \u0648U \u064aI \u0629A \u0649A '
++ '\u0621 \u067eP \u0686CH \u06a9K \u06afG \u06ccI'
+).split(' ').map(each=>[each[0],each.slice(1)]));
 function spelt(letter){
 const small=letter.toLowerCase();
 if(SPELLINGS.has(small))return SPELLINGS.get(small);
@@ -3206,7 +3236,8 @@ if(before&&before===document.activeElement)setTimeout(()=>byId(focus||lit).focus
 words(name){
 if(name===null)return TEXTS.guide[this.state==='on'?'off':this.preparedWords()];
 if(name==='wait')return turnWords();
-const there=name==='other'?programThere(view.picture):null,words=isExhibit?TEXTS.childWords:TEXTS.guideWords;
+const words=isExhibit?TEXTS.childWords:TEXTS.guideWords;
+const there=name==='other'?programThere(view.picture):null;
 return there?filled(words.program,{name:TEXTS.programs[there].name}):words[name];
 },
 preparedWords(){
@@ -3232,13 +3263,14 @@ byId('guide-said').style.minHeight=`${Math.max(...heights)}px`;
 const IDLE={attractMs:180000,pauseMs:90000,seatMs:20000,mostAfter:JOURNAL_ENTRIES / 2};
 const attract={on:false,stop:false,yields:false,press:false,touched:performance.now(),
 pressed:performance.now(),ended:-Infinity};
+const isHeldDown=({repeat,key,target})=>repeat&&['Enter',' '].includes(key)&&target.tagName==='BUTTON';
 function touch(event){
 attract.touched=attract.pressed=performance.now();
 if(run)run.wake();
 if(event.isTrusted===false)return;
 const waited=VISIT.isFresh;
 if(waited)greet();
-if(event.repeat&&['Enter',' '].includes(event.key)&&event.target.tagName==='BUTTON')return event.preventDefault();
+if(isHeldDown(event))return event.preventDefault();
 const isClick=event.type==='click',ends=guide.state==='attract'||waited,goesOn=isClick&&attract.press;
 attract.press=ends&&!isClick;
 if(ends){
@@ -3335,7 +3367,8 @@ if(turn.has||isHolder())await giveTurn();
 asNew();
 guide.state='attract';
 guide.draw();
-if(view.picture&&!isClear(view.picture)&&mayCommand()&&!othersAtWork()&&!hold.isPrepared)await startAfresh();
+const isOurs=mayCommand()&&!othersAtWork()&&!hold.isPrepared;
+if(isOurs&&view.picture&&!isClear(view.picture))await startAfresh();
 byId('log').replaceChildren();
 }
 function asNew(){
@@ -3947,7 +3980,8 @@ function pressKey(event){
 if(document.querySelector('dialog[open]'))return;
 if(event.key==='Escape')return pressStop();
 const action=SHORTCUTS[event.code];
-if(isStage||!action||!event.altKey||event.ctrlKey||event.metaKey||event.getModifierState('AltGraph'))return;
+if(isStage||!action||!event.altKey)return;
+if(event.ctrlKey||event.metaKey||event.getModifierState('AltGraph'))return;
 event.preventDefault();
 if(!event.repeat)action();
 }
@@ -4138,8 +4172,9 @@ const lamps=buildPanel();
 const tapePointer=buildTape();
 const cards={read:cardIn(byId('card-read')),next:cardIn(byId('card-next')),punched:cardIn(byId('card-punched')),
 keyed:cardIn(byId('card-keyed')),toPrint:cardIn(byId('card-to-print')),stage:cardIn(byId('stage-card'))};
-const stageCuts=drawn(byId('stage-card').querySelector('svg'),'path',{class:'cuts'});
-const stageLit=drawn(byId('stage-card').querySelector('svg'),'rect',{class:'lit-part',y:1,height:CARD.height - 2});
+const stageSvg=byId('stage-card').querySelector('svg');
+const stageCuts=drawn(stageSvg,'path',{class:'cuts'});
+const stageLit=drawn(stageSvg,'rect',{class:'lit-part',y:1,height:CARD.height - 2});
 for(const card of[cards.read,cards.next,cards.punched,cards.stage])card(null);
 buildStage();
 putTexts();
@@ -4161,8 +4196,8 @@ begin();
 /// The `content-security-policy` of the page: its own script and style by their SHA-256, exchanges with its own server,
 /// and nothing else.
 pub const POLICY: &str = "default-src 'none'; \
-    script-src 'sha256-IRCWgqeypcHwU6oZlUrHs11RXmuFHqmrGTVMcQbsviw='; \
-    style-src 'sha256-8i5G64o0z1GEVkfWoo0Df4iEgrM1Upki/D/qitwsUzE='; \
+    script-src 'sha256-TqiI7ztTBY1mzr8N5x6OKHaXNjKFe276NHrQbzQ8MZ0='; \
+    style-src 'sha256-3pxumKpLvXJJqGlU2AXpmGR8zKM5yjvQb7LS2w6QDXI='; \
     img-src data:; \
     connect-src 'self'; \
     form-action 'none'; \
