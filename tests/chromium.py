@@ -1,6 +1,6 @@
 """Chromium without a window, driven over its debugging pipe, and a page that is open in it.
 
-    python3 -m tests.chromium    writes docs/page-wide.png and docs/page-narrow.png, on the built program"""
+    python3 -m tests.chromium    writes the pictures of the page in docs/, on the built program"""
 import base64
 import json
 import os
@@ -14,6 +14,8 @@ from tests.support import SECONDS, TOP, Server, wait_until
 # The sizes of windows, in pixels.
 WIDE = (1500, 1000)
 NARROW = (390, 844)
+# The sizes of a stage in docs/.
+STAGES = {"stage": (1024, 768), "stage-large": (1920, 1080), "stage-narrow": NARROW}
 # A made-up name that the browser looks for on the loopback.
 OTHER_NAME = "museum.example"
 
@@ -214,13 +216,30 @@ class Page:
         return [each for each in found if "net::ERR_NETWORK_CHANGED" not in each]
 
 
+def write_stages(browser):
+    """Writes pictures of a stage, with a visitor's name on the paper."""
+    room = Server("serve", seats=1, pages=True, consoles=False)
+    try:
+        page = Page(browser, f"{room.address()}/#exhibit&name=IBM+1401")
+        page.is_ready()
+        page.value("feedChosen().then(pressLoad).then(pressStep).then(pressRun)")
+        page.value("byId('name').value = 'ADA LOVELACE', feedName().then(() => delay(500)).then(pressLoad)")
+        page.value("(async () => { for (let n = 0; n < 6; n++) await pressStep(); })()")
+        for name, size in STAGES.items():
+            page.resize(size)
+            page.until("document.getAnimations().length < 2", True)
+            page.picture(TOP / f"docs/page-{name}.png")
+    finally:
+        room.kill()
+
+
 def write_pictures():
-    """Writes pictures of the page at two widths, in the middle of a program."""
+    """Writes pictures of the page at two widths, in the middle of a program, and of a stage."""
     room, browser = Server("serve", seats=8, pages=True, consoles=False), Chromium()
     try:
         page = Page(browser, room.address())
         page.is_ready()
-        page.value("guide.press(), byId('program').value = 'listing', drawProgram(), feedChosen()")
+        page.value("guide.press(), byId('program').value = 'listing', drawProgram(), feedProgram()")
         for line in "SWITCH A ON", "SWITCH F ON", "LOAD", "RUN 214":
             page.value(f"say('{line}')")
         page.value("choose(404), tell(TEXTS.said.load), tellDeck('')")
@@ -229,6 +248,8 @@ def write_pictures():
             page.resize(size)
             page.until("view.link === 'fine' && document.getAnimations().length", 0)
             page.picture(TOP / f"docs/page-{name}.png")
+        page.close()
+        write_stages(browser)
     finally:
         room.kill()
         browser.end()

@@ -3,10 +3,11 @@ import unittest
 
 from tests.test_browser import Browser
 
-SIZES = {"a small screen": (1366, 768), "a screen": (1500, 1000), "a large screen": (1920, 1080),
-         "a telephone": (390, 844)}
+SIZES = {"the smallest screen": (1024, 768), "a small screen": (1280, 800), "a wide screen": (1366, 768),
+         "a large screen": (1920, 1080), "a screen of 4K": (3840, 2160), "a telephone": (390, 844)}
+SCREENS = [size for size in SIZES if size != "a telephone"]
 NAMES = ("ADA LOVELACE", "GRACE HOPPER", "HEDY LAMARR", "KATHERINE JOHNSON", "MARGARET HAMILTON", "MARY KENNETH KELLER",
-         "ALAN TURING", "KONRAD ZUSE")
+         "ALAN TURING", "KONRAD ZUSE", "JEAN BARTIK", "BETTY HOLBERTON", "JOHN BACKUS", "ERNA HOOVER")
 LIT = "[...document.querySelectorAll('.lit')].map(element => element.id).join()"
 PRINTED = "view.paper.map(line => line.text).join('|')"
 # Whether a program runs by itself; none follows it then.
@@ -17,8 +18,8 @@ class Visitors(Browser):
     """Visitors who come one after the other."""
 
     def press(self, key):
-        """Presses the key that is lit, after it is seen to be lit."""
-        self.shows(f"{key} is lit", LIT, key)
+        """Presses the key that is lit, after it is seen to be lit and on."""
+        self.shows(f"{key} is lit", f"({LIT}) + isOff(byId('{key}'))", f"{key}false")
         self.by(key)
 
     def mouse(self, key):
@@ -34,14 +35,14 @@ class Visitors(Browser):
         """What the visitor reads below the keys."""
         self.shows("the words below the keys", "byId('said-words').textContent", words)
 
-    def guided(self, at):
+    def guided(self, step):
         """The guide's words."""
-        self.shows(f"the guide's words {at}", f"byId('guide-now').textContent === TEXTS.guideWords[{at}]")
+        self.shows(f"the guide's words at {step}", f"byId('guide-now').textContent === TEXTS.guideWords.{step}")
 
     def come(self):
-        """A visitor finds the machine as the one before has left it, and clears it."""
-        self.by("guide-key")
-        self.shows("the guide says what is left", "byId('guide-now').textContent === TEXTS.guide.left")
+        """A visitor finds the machine as somebody has left it, and clears it."""
+        self.page.value("send('FEED LEFT')")
+        self.guided("other")
         self.press("afresh-key")
         self.shows("the page asks", "byId('ask').open")
         self.by("ask-yes")
@@ -50,30 +51,30 @@ class Visitors(Browser):
 
     def follow_the_guide(self, name):
         """The five steps, and what is read at each."""
-        self.guided(0)
+        self.guided("feed")
         self.press("feed-key")
         self.shows("the card is in the hopper", "byId('HOPPER').textContent", "001")
-        self.guided(1)
+        self.guided("load")
         self.press("load-key")
         self.reads("The first card was read into 001 to 080. RUN carries it out.")
-        self.guided(2)
+        self.guided("step")
         self.press("step-key")
         self.reads("One instruction was carried out.")
-        self.guided(3)
+        self.guided("run")
         self.press("run-key")
         self.reads("The program has ended. Its result is on the paper; feed another program and press LOAD.")
         self.shows("the program has ended", "byId('next').textContent", "the program has ended")
         self.shows("a line is printed", PRINTED, "HELLO FROM AN IBM 1401")
-        self.guided(4)
+        self.guided("name")
         self.by("name")
         self.page.write(name.title())
         self.press("name-key")
-        self.guided(5)
+        self.guided("loadName")
         self.press("load-key")
-        self.guided(6)
+        self.guided("runName")
         self.press("run-key")
         self.shows("the name is printed", PRINTED, f"HELLO FROM AN IBM 1401|{name}")
-        self.shows("the guide says so", "byId('guide-now').textContent === TEXTS.guide.done")
+        self.guided("done")
         self.shows("nothing is lit", LIT, "")
 
     def visit_at_each_size(self):
@@ -107,9 +108,53 @@ class FirstScreen(Browser):
             const box = element.getBoundingClientRect();
             return box.top >= 0 && box.bottom <= innerHeight && box.left >= 0 && box.left < innerWidth;
         }})"""
-        for place, size in list(SIZES.items())[:3]:
-            self.page.resize(size)
+        for place in SCREENS:
+            self.page.resize(SIZES[place])
             self.shows(f"{place}: feed, LOAD, RUN, words and paper", f"scrollY === 0 && {seen}")
+
+    def test_a_telephone_has_the_newest_line(self):
+        """At its lower edge, wherever the page is scrolled to."""
+        self.page.resize(SIZES["a telephone"])
+        box = "byId('newest').getBoundingClientRect()"
+        self.shows("not before there is one", f"{box}.height", 0)
+        self.page.value("feedChosen().then(pressLoad).then(pressRun)")
+        for scroll in 0, 500, 5000:
+            self.page.value(f"scrollTo(0, {scroll})")
+            self.shows("it is seen", f"{box}.height > 20 && {box}.bottom === innerHeight && byId('newest').textContent",
+                       "HELLO FROM AN IBM 1401")
+
+    def test_the_paper_is_no_larger_than_needed(self):
+        """It grows with its lines, and core storage is on the first screen."""
+        self.page.resize(SIZES["a wide screen"])
+        height = "byId('fold').clientHeight"
+        self.shows("without a line", f"{height} < 130 && byId('grid').getBoundingClientRect().bottom < innerHeight")
+        self.page.value("say('DEPOSIT 0500 ~2~B500~.').then(() => say('START 0500')).then(() => say('RUN 40'))")
+        self.shows("with lines", f"view.paper.length === 20 && {height} > 220 && {height} < innerHeight / 2")
+
+    def test_keys_keep_their_place(self):
+        """Whatever the guide says."""
+        for place in SCREENS:
+            self.page.resize(SIZES[place])
+            tops = """Object.keys(TEXTS.guideWords).map(name => {
+                byId('guide-now').textContent = TEXTS.guideWords[name];
+                byId('guide-end').hidden = name !== 'done';
+                byId('name-form').hidden = name !== 'name';
+                return byId('load-key').getBoundingClientRect().top;
+            })"""
+            self.shows(place, f"new Set({tops}).size", 1)
+        self.page.value("guide.draw(), 0")
+
+    def test_keys_keep_their_place_in_a_visit(self):
+        """With a hold, which the page takes with the first card and gives back with the name."""
+        top = "byId('load-key').getBoundingClientRect().top"
+        for place in "the smallest screen", "a large screen":
+            self.page.resize(SIZES[place])
+            self.page.value(f"guide.begin(), window.tops = new Set([{top}]), 0")
+            for key in "feedChosen()", "pressLoad()", "pressStep()", "pressRun()", \
+                    "(byId('name').value = 'ADA', feedName())", "delay(500).then(pressLoad)", "pressRun()":
+                self.page.value(f"{key}.then(() => delay(300)).then(() => {{ tops.add({top}); }})")
+            others = "[...tops].map(Math.round).filter((top, at, all) => all[0] !== top)"
+            self.shows(place, f"guide.step() + {others}.join()", "done")
 
     def test_the_text_of_the_paper(self):
         """It has 11 pixels at least, and *Larger* makes it larger."""
@@ -124,7 +169,7 @@ class FirstScreen(Browser):
 
     def test_parts_follow_each_other_on_a_telephone(self):
         self.page.resize(SIZES["a telephone"])
-        parts = "['guide', 'feeder', 'load-key', 'said-words', 'fold', 'line', 'core', 'reader']"
+        parts = "['guide', 'feeder', 'load-key', 'said-words', 'fold', 'core', 'reader', 'line']"
         tops = f"{parts}.map(id => byId(id).getBoundingClientRect().top)"
         self.shows("one after the other", f"{tops}.every((top, at, all) => at === 0 || top > all[at - 1])")
 
@@ -132,23 +177,146 @@ class FirstScreen(Browser):
 class Guide(Browser):
     """The guide next to the machine."""
 
-    def test_it_waits_and_gives_up(self):
-        self.page.value("feedText('ANOTHER CARD')")
-        self.shows("it takes any card for its first step", LIT, "load-key")
-        self.page.value("feedText('ONE'), 0")
-        self.shows("it waits", "guide.detours", 1)
-        self.page.value("feedText('TWO').then(() => feedText('THREE')).then(() => feedText('FOUR'))")
-        self.shows("and steps aside", "byId('guide-now').textContent === TEXTS.guide.aside && guide.step()", None)
-        self.shows("with nothing lit", LIT, "")
+    def test_it_asks_the_machine(self):
+        """Whoever has fed, loaded or run something, here or at another seat, the key is the one for what is there."""
+        hello = "'FEED ' + HELLO"
+        for what, lines, step in [
+            ("a card of another program", "'FEED ANOTHER CARD'", "other"),
+            ("its card in core", "'LOAD'", "other"),
+            ("the hello card", f"'START 0', 'DEPOSIT 0001 {12 * ' '}', {hello}", "load"),
+            ("two hello cards", hello, "load"),
+            ("one of them in core", "'LOAD'", "step"),
+            ("its first instruction is done", "'RUN 1'", "run"),
+            ("in the middle of an instruction", "'START 5'", "load"),
+            ("read again", "'LOAD'", "step"),
+            ("it has halted", "'RUN 7'", "feed"),
+            ("a word mark in the print area", "'DEPOSIT 0220 ~A'", "other"),
+            ("none any more", "'DEPOSIT 0220 A'", "feed"),
+            ("a card with somebody's name", "'FEED ' + HELLO.slice(0, 40) + 'ADA'", "other"),
+        ]:
+            sent = f"for (const line of [{lines}]) await send(line); await inTurn(look);"
+            self.page.value(f"(async () => {{ {sent} }})()")
+            self.shows(what, "guide.step()", step)
+            self.shows(f"{what}: the key", LIT, self.page.value(f"GUIDE_STEPS.{step}.key"))
+
+    def test_another_program(self):
+        """The guide says which one is there, and takes none of its steps for its own."""
+        for name, words in ("game", "Higher and lower"), ("listing", "Listing"):
+            self.page.value(f"byId('program').value = '{name}', drawProgram(), feedChosen()")
+            for after, key in ("feeding", None), ("LOAD", "pressLoad()"), ("STEP", "pressStep()"):
+                self.page.value(key or "0")
+                said = "byId('guide-now').textContent"
+                if name == "listing":
+                    self.shows(f"{words} after {after}", f"{said} === filled(TEXTS.guideWords.program, "
+                               f"{{name: '{words}'}})")
+                done = "document.querySelectorAll('#guide-steps .done').length"
+                self.shows(f"{words} after {after}: no step is done", f"guide.step() + {done}", "other0")
+            self.page.value("startAfresh().then(() => guide.begin())")
+            self.shows("it begins again", "guide.step()", "feed")
+
+    def test_detours(self):
+        """A visitor who presses other keys comes back to the line."""
+        self.page.value("feedChosen()")
+        self.shows("a card", "guide.step()", "load")
+        self.page.value("pressStep().then(pressRun)")
+        self.shows("LOAD is needed", "guide.step() + byId('said-words').textContent",
+                   "loadNothing is in core storage yet: press LOAD first.")
+        self.page.value("pressLoad().then(pressRun)")
+        self.shows("RUN without STEP", "guide.step()", "name")
+        self.page.value("feedText(HELLO), 0")
+        self.shows("another hello card", "guide.step()", "load")
+        self.page.value("byId('name').value = 'Ada', feedName()")
+        for step, key in ("loadName", "pressLoad()"), ("runName", "pressRun()"), \
+                ("loadName", "delay(500).then(pressLoad)"):
+            self.shows(step, "guide.step()", step)
+            self.page.value(key)
+        self.shows("the name is in core, not on the paper", "guide.step()", "runName")
+        self.page.value("pressRun()")
+        self.shows("now it is", f"guide.step() + {PRINTED}", "doneHELLO FROM AN IBM 1401|HELLO FROM AN IBM 1401|ADA")
+
+    def test_a_full_printer(self):
+        self.page.value("feedChosen()")
+        full = f"view.picture.registers.PAPER = 500, guide.draw(), {LIT}"
+        self.shows("the paper is to be torn off", full, "tear-key")
 
     def test_it_gives_up_after_a_while(self):
-        self.page.click("feed-key")
-        self.shows("the first step", "guide.at", 1)
-        self.page.value("guide.since -= GUIDE_WAITS_MS, 0")
+        """But not while somebody writes."""
+        self.page.value("feedChosen()")
+        self.shows("the first step", "guide.step()", "load")
+        self.page.value("guide.since -= GUIDE_WAITS_MS, attract.touched = performance.now(), 0")
+        self.page.value("delay(600)")
+        self.shows("a hand is there", "guide.step()", "load")
+        self.page.value("attract.touched -= GUIDE_WAITS_MS, 0")
         self.shows("it steps aside", "guide.state", "aside")
+        self.shows("nothing is lit", LIT, "")
 
-    def test_a_name_with_accents(self):
-        self.shows("letters that cards have", "plain('Zo\\u00eb M\\u00fcller-Stra\\u00df')", "ZOE MUELLER-STRASS")
+    def test_after_a_reload(self):
+        """Guide and panel say the same."""
+        self.page.value("feedChosen().then(pressLoad)")
+        self.shows("a step is next", "guide.step()", "step")
+        again = self.open_page()
+        self.shows("it goes on there", "guide.step() + byId('said-words').textContent",
+                   "stepA program is in core storage. RUN carries it out.", again)
+
+    def test_names_in_other_letters(self):
+        """Each gets letters that cards have, or words that ask for others."""
+        for name, card in [
+            ("Zo\u00eb M\u00fcller-Stra\u00df", "ZOE MUELLER-STRASS"), ("Bj\u00f8rn \u00c5se", "BJOERN AASE"),
+            ("\u0141ukasz \u0110or\u0111e", "LUKASZ DORDE"), ("\u0130zmir \u0131\u015f\u0131k", "IZMIR ISIK"),
+            ("\u0393\u03b9\u03ce\u03c1\u03b3\u03bf\u03c2", "GIORGOS"), ("\u042e\u043b\u0438\u044f \u0429\u0443\u043a", "YULIYA SHCHUK"),
+            ("\u0414\u0438\u043c\u0438\u0442\u0440\u0438\u0439", "DIMITRIY"), ("\u0641\u0627\u0637\u0645\u0629", "FATMA"),
+            ("\u05d3\u05d5\u05d3", "DVD"),
+        ]:
+            self.shows(card, f"plain('{name}')", card)
+        self.page.value("feedChosen().then(pressLoad).then(pressRun)")
+        self.shows("the name is asked for", "byId('name-form').hidden", False)
+        self.page.value("byId('name').focus()")
+        self.page.write("\u0141ukasz")
+        self.shows("a proposal", "byId('name-words').textContent", "On the card: LUKASZ")
+        self.page.value("byId('name').value = ''")
+        self.page.write("\u674e\u660e")
+        self.shows("none", "byId('name-words').textContent", "No card has \u674e. Choose a name in A to Z.")
+        self.page.mouse("name-key")
+        self.shows("nothing is fed", "view.picture.registers.HOPPER", 0)
+
+    def test_a_name_without_a_keyboard(self):
+        """By the page's own keys, in the order of the language's letters."""
+        self.page.value("feedChosen().then(pressLoad).then(pressRun)")
+        self.shows("the name is asked for", "byId('name-form').hidden", False)
+        keys = "[...byId('name-keys').children].map(key => key.textContent).join('')"
+        self.shows("the keys", keys, "ABCDEFGHIJKLMNOPQRSTUVWXYZ0123456789-SPACE\u232b")
+        for size in SIZES.values():
+            self.page.resize(size)
+            large = "[...byId('name-keys').children].every(key => key.offsetWidth >= 44 && key.offsetHeight >= 44)"
+            self.shows(f"they are large at {size}", large)
+        self.page.resize(SIZES["a telephone"])
+        for number, letter in enumerate(("A", "X", "\u232b", "D", "A", "SPACE", "7")):
+            found = f"[...byId('name-keys').children].find(key => key.textContent === '{letter}')"
+            self.page.value(f"{found}.id = 'k{number}'")
+            self.check(f"a finger reaches {letter}", "" if self.page.mouse(f"k{number}") else "it doesn't")
+        self.shows("the name", "byId('name').value", "ADA 7")
+        self.page.value("chooseLanguage('de')")
+        self.shows("the letters of German", f"({keys}).slice(24, 30)", "YZ\u00c4\u00d6\u00dc\u00df")
+
+    def test_a_double_press(self):
+        """Of LOAD and of a feed key: the second one does nothing."""
+        self.page.value("feedText('ONE\\nTWO\\nTHREE')")
+        for _ in range(2):
+            self.page.mouse("load-key")
+        self.shows("one card is read", "!guarded.size && view.picture.registers.HOPPER", 2)
+        for _ in range(2):
+            self.page.mouse("feed-key")
+        self.shows("one card is fed", "!guarded.size && view.picture.registers.HOPPER", 3)
+        self.page.mouse("load-key")
+        self.shows("the key works again", "view.picture.registers.HOPPER", 2)
+
+    def test_run_on_an_empty_machine(self):
+        count = self.served.after()
+        for key in "run-key", "step-key":
+            self.page.value("byId('said-words').textContent = ''")
+            self.page.mouse(key)
+            self.shows(key, "byId('said-words').textContent", "The machine is empty: feed a program first.")
+        self.unchanged("nothing is sent", self.served, count)
 
 
 class StartAfresh(Browser):

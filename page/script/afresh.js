@@ -29,7 +29,7 @@ function isClear({registers, cells, next}) {
 async function pressAfresh() {
   if (!mayCommand() || taking || feed) return;
   const question = othersAtWork() ? TEXTS.afreshOthers : TEXTS.afreshAsk;
-  if (!(await confirmed(question))) return;
+  if (!(await confirmed(question)) || !(await takeTurn())) return;
   stopRun();
   while (run) await delay(SLICE_MS);
   await startAfresh(renewal.mode === 'ON' ? renewRoom : clearMachine);
@@ -68,7 +68,7 @@ function leaveClear(words) {
 function beginAnew(words) {
   forgetWords();
   tell(words);
-  if (guide.state !== 'off' && guide.state !== 'attract') guide.begin();
+  if (!['off', 'attract'].includes(guide.state)) guide.begin();
 }
 /* Sends lines in as few requests as there may be, as long as each reply is of this form. */
 async function sendInTurn(lines, wanted) {

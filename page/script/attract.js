@@ -4,13 +4,18 @@ const IDLE = {attractMs: 180000, pauseMs: 90000, seatMs: 20000, mostAfter: JOURN
 const attract = {on: false, stop: false, yields: false, press: false, touched: performance.now(),
   pressed: performance.now(), ended: -Infinity};
 
+/* A key of the keyboard that is held down on a button: it presses once. */
+const isHeldDown = ({repeat, key, target}) => repeat && ['Enter', ' '].includes(key) && target.tagName === 'BUTTON';
 /* A hand on the page ends the attract loop, between two decks too, and does nothing else. The click that ends its press
    does nothing either, even if the machine is clear by then. */
 function touch(event) {
   attract.touched = attract.pressed = performance.now();
   if (run) run.wake();
   if (event.isTrusted === false) return;
-  const isClick = event.type === 'click', ends = guide.state === 'attract', goesOn = isClick && attract.press;
+  const waited = VISIT.isFresh;
+  if (waited) greet();
+  if (isHeldDown(event)) return event.preventDefault();
+  const isClick = event.type === 'click', ends = guide.state === 'attract' || waited, goesOn = isClick && attract.press;
   attract.press = ends && !isClick;
   if (ends) {
     if (attract.on) attract.stop = true;
@@ -27,7 +32,8 @@ function noteHand() {
 function isIdle() {
   const now = performance.now(), {picture} = view;
   if (!picture || hold.isPrepared || !mayCommand() || run || feed || taking || document.hidden) return false;
-  if (document.querySelector('dialog[open]') || picture.after > IDLE.mostAfter) return false;
+  if (isStage && !VISIT.isFresh) return false;
+  if (picture.after > IDLE.mostAfter) return false;
   const wanted = IDLE.attractMs + picture.seat * IDLE.seatMs;
   return now - attract.touched > wanted && now - view.changed > wanted - IDLE.attractMs + IDLE.pauseMs
     && now - attract.ended > IDLE.pauseMs && now - view.others.at > wanted;
@@ -36,6 +42,7 @@ async function attractIfIdle() {
   if (attract.on || !isIdle()) return;
   Object.assign(attract, {on: true, stop: false, yields: false});
   document.body.classList.add('attracts');
+  if (!isStage) asNew();
   guide.state = 'attract';
   guide.draw();
   await playDeck();
@@ -46,7 +53,8 @@ async function attractIfIdle() {
 /* The guide begins for whoever has come, with a clear machine unless somebody works at another seat. */
 async function takeOver() {
   Object.assign(attract, {on: true, stop: true});
-  if (!attract.yields) await startAfresh();
+  const isOurs = !attract.yields && mayCommand() && !othersAtWork();
+  if (isOurs && !isClear(view.picture)) await startAfresh();
   Object.assign(attract, {on: false, ended: performance.now()});
   document.body.classList.remove('attracts');
   guide.begin();
@@ -59,15 +67,14 @@ function yieldToOthers() {
 }
 function stepAside() {
   document.body.classList.remove('attracts');
-  guide.state = 'aside';
-  guide.draw();
+  guide.stepAside();
 }
 /* Clears the machine, feeds a deck that needs nobody, and runs it at the machine's own pace. */
 async function playDeck() {
-  const ends = () => attract.stop || attract.yields;
+  const ends = () => attract.stop || attract.yields || !mayCommand();
   await startAfresh();
   if (ends()) return;
-  const shown = PROGRAMS.filter(program => program.alone);
+  const shown = PROGRAMS.filter(program => program.alone && !(isExhibit && program.name === 'hello'));
   const program = shown[Math.floor(Math.random() * shown.length)], pace = byId('pace').selectedIndex;
   byId('program').value = program.name;
   drawProgram();
@@ -76,7 +83,7 @@ async function playDeck() {
   if (program.switches) await say(`SWITCH ${program.switches} ON`);
   await pressLoad();
   if (ends()) return;
-  byId('pace').selectedIndex = PACES.indexOf(OWN_PACE);
+  byId('pace').selectedIndex = isExhibit ? 0 : PACES.indexOf(OWN_PACE);
   await pressRun();
   byId('pace').selectedIndex = pace;
 }

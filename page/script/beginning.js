@@ -1,6 +1,7 @@
 /* The beginning: texts, parts that are built once, and what listens. */
 function putTexts() {
   document.documentElement.lang = TEXTS.language;
+  document.documentElement.dir = TEXTS.dir;
   for (const element of document.querySelectorAll('[data-text], [data-label], [data-title], [data-hint]')) {
     const {text, label, title, hint} = element.dataset;
     if (text) element.textContent = TEXTS[text];
@@ -20,7 +21,10 @@ function putTexts() {
   byId('guide-steps').replaceChildren();
   for (const step of TEXTS.guideSteps) added(byId('guide-steps'), 'li', {textContent: step});
   buildAbout();
+  if (isStage) buildDrawings();
   buildKeyboard();
+  buildNameKeys();
+  reserveGuide();
   namePanel();
 }
 /* What can be chosen, by its names. */
@@ -74,7 +78,9 @@ function listenForClicks() {
     'load-key': pressLoad, 'run-key': pressRun, 'stop-key': pressStop, 'step-key': pressStep,
     'pick-key': () => byId('file').click(), 'card-key': takeCard, 'deck-key': () => feedText(byId('deck').value),
     'feed-key': feedChosen, 'all-cards-key': takeAllCards, 'afresh-key': pressAfresh, 'guide-key': () => guide.press(),
-    'view-key': pressView, 'hold-key': pressHold, 'sound-key': pressSound, 'card-print-key': printCard,
+    'view-key': pressView, 'hold-key': pressHold, 'turn-key': pressTurn, 'more-key': pressMore,
+    'why-key': pressWhy, 'tour-back': tourBack, 'tour-pause': pauseTour, 'tour-next': tourNext,
+    'watch-stop': watchStop, 'watch-hold': watchHold, 'sound-key': pressSound, 'card-print-key': printCard,
     'about-key': showAbout, 'about-close': () => byId('about').close(),
     'feed-again-key': () => feedDeck([...taken]),
     'save-cards-key': () => saveFile('taken.cards', `${taken.join('\n')}\n`),
@@ -99,6 +105,7 @@ function listen() {
   byId('program').addEventListener('change', drawProgram);
   byId('language').addEventListener('change', () => chooseLanguage(byId('language').value));
   byId('name-form').addEventListener('submit', punchName);
+  byId('name').addEventListener('input', drawName);
   byId('keyboard').addEventListener('keydown', moveOnKeyboard);
   byId('start-form').addEventListener('submit', pressStart);
   byId('find').addEventListener('submit', findPlace);
@@ -136,7 +143,7 @@ function listenForPlaces(places) {
 function listenForFiles() {
   document.addEventListener('dragover', event => {
     event.preventDefault();
-    byId('feeder').classList.add('over');
+    if (!isStage) byId('feeder').classList.add('over');
   });
   for (const name of ['dragleave', 'drop']) {
     document.addEventListener(name, () => byId('feeder').classList.remove('over'));
@@ -144,10 +151,11 @@ function listenForFiles() {
   document.addEventListener('drop', event => {
     event.preventDefault();
     const [file] = event.dataTransfer.files;
-    if (file) feedFile(file);
+    if (file && !isStage) feedFile(file);
   });
 }
 function resized() {
+  reserveGuide();
   if (columnsWanted() !== core.columns) buildCore();
   if (view.picture) draw();
 }
@@ -156,16 +164,22 @@ function resized() {
    which would wait for each look. */
 async function poll() {
   for (;;) {
-    if (!taking && !(feed && !feed.waits)) await inTurn(look);
+    if (!taking && !(feed && !feed.waits)) await (view.posting ? lookAside() : inTurn(look));
     if (view.picture) drawOthers();
     guide.look();
     lookForRenewal();
     lookForHold();
+    lookForTurn();
+    lookForVisitor();
+    lookForTour();
+    lookForWatch();
+    drawStageHead();
     attractIfIdle();
     await delay(view.link !== 'fine' ? RETRY_MS : document.hidden ? HIDDEN_POLL_MS : POLL_MS);
   }
 }
 async function begin() {
+  if (isHome) return showHome();
   tell(TEXTS.said.welcome);
   note('words', TEXTS.said.firstNote);
   while (!(await inTurn(look))) await delay(RETRY_MS);
@@ -179,8 +193,12 @@ TEXTS = LANGUAGES[languageWanted()];
 const lamps = buildPanel();
 const tapePointer = buildTape();
 const cards = {read: cardIn(byId('card-read')), next: cardIn(byId('card-next')), punched: cardIn(byId('card-punched')),
-  keyed: cardIn(byId('card-keyed')), toPrint: cardIn(byId('card-to-print'))};
-for (const card of [cards.read, cards.next, cards.punched]) card(null);
+  keyed: cardIn(byId('card-keyed')), toPrint: cardIn(byId('card-to-print')), stage: cardIn(byId('stage-card'))};
+const stageSvg = byId('stage-card').querySelector('svg');
+const stageCuts = drawn(stageSvg, 'path', {class: 'cuts'});
+const stageLit = drawn(stageSvg, 'rect', {class: 'lit-part', y: 1, height: CARD.height - 2});
+for (const card of [cards.read, cards.next, cards.punched, cards.stage]) card(null);
+buildStage();
 putTexts();
 buildCore();
 drawKeyed();

@@ -2,13 +2,6 @@
 let feed = null;    // the deck that is being fed
 let fedAt = null;   // how many cards the hopper had when words were shown that are over once one of them is read
 
-/* A text with letters that cards have: capitals, and no accents. */
-function plain(text) {
-  const own = {'ä': 'AE', 'ö': 'OE', 'ü': 'UE', 'ß': 'SS', 'æ': 'AE', 'ø': 'OE', 'å': 'AA', '’': '\'', '‘': '\''};
-  const spelt = [...text].map(letter => own[letter.toLowerCase()] || letter).join('');
-  return spelt.normalize('NFD').replace(/[\u0300-\u036f]/g, '').toUpperCase();
-}
-
 /* The cards of a text, or the first fault of it. */
 function deckOf(text) {
   const lines = text.replace(/^\ufeff/, '').split('\n');
@@ -25,9 +18,9 @@ function deckOf(text) {
   return cards.length ? {cards} : {fault: TEXTS.deckEmpty};
 }
 function noCard(letter) {
-  const spelt = plain(letter);
-  const isSpelt = spelt !== letter && [...spelt].every(each => GRAPHICS.includes(each));
-  return isSpelt ? filled(TEXTS.noAccent, {letter, spelt}) : TEXTS.noGraphic;
+  const known = plain(letter);
+  const isKnown = known !== letter && known !== '' && [...known].every(each => GRAPHICS.includes(each));
+  return isKnown ? filled(TEXTS.noAccent, {letter, spelt: known}) : TEXTS.noGraphic;
 }
 
 function tellDeck(text, isWrong = false) {
@@ -121,10 +114,12 @@ function drawFeed() {
 function chosenProgram() {
   return PROGRAMS.find(program => program.name === byId('program').value) || PROGRAMS[0];
 }
-function feedChosen() {
+const feedChosen = () => once('feed-key', feedProgram);
+async function feedProgram() {
+  if (feed || !mayCommand() || !(await takeTurn())) return;
   const program = chosenProgram(), words = TEXTS.programs[program.name];
   const cards = program.extra ? [...program.cards, ...program.extra()] : program.cards;
-  return feedDeck(cards, words.fed);
+  await feedDeck(cards, words.fed);
 }
 function drawProgram() {
   const program = chosenProgram(), words = TEXTS.programs[program.name];

@@ -7,10 +7,10 @@ const still = matchMedia('(prefers-reduced-motion: reduce)');
 function filled(text, values = {}) {
   return text.replace(/\{(\w+)\}/g, (whole, name) => name in values ? String(values[name]) : whole);
 }
-/* A text with a form for one thing and a form for several. */
+/* A text with a form for one thing and forms for several, by the rules of its language. */
 function counted(forms, n, values = {}) {
-  const {one, many} = forms;
-  return filled(n === 1 ? one : many, {n: withCommas(n), ...values});
+  const form = forms[new Intl.PluralRules(TEXTS.language).select(n)] ?? forms.many;
+  return filled(form, {n: withCommas(n), ...values});
 }
 function withCommas(number) {
   return String(number).replace(/\B(?=(\d{3})+$)/g, TEXTS.thousands);

@@ -1,110 +1,146 @@
-/* The guide: it lights the key to press, ticks it off, waits, and gives up politely. Each step has what is to happen,
-   the key for it, and the number of the step that is shown: the last one has three parts. */
-const GUIDE_STEPS = [
-  {until: 'fed', key: 'feed-key', shown: 0}, {until: 'load', key: 'load-key', shown: 1},
-  {until: 'step', key: 'step-key', shown: 2}, {until: 'halt', key: 'run-key', shown: 3},
-  {until: 'named', key: 'name-key', shown: 4}, {until: 'load', key: 'load-key', shown: 4},
-  {until: 'halt', key: 'run-key', shown: 4},
-];
+/* The guide. Before each step it asks the machine: what is in hopper, core storage and registers decides which key it
+   lights. The page remembers only whether its visitor has fed a card, and the card with their name. */
 const GUIDE_WAITS_MS = 120000;
-const MOST_DETOURS = 3;
+/* Where the instructions of the hello card begin, and where its halt leaves the I register. */
+const HELLO_AT = [1, 8, 15, 22, 29, 36, 37];
+const HELLO_END = 38;
+/* Each step has the key for it, and the number of the step that is shown. */
+const GUIDE_STEPS = {
+  feed: {key: 'feed-key', shown: 0}, load: {key: 'load-key', shown: 1}, step: {key: 'step-key', shown: 2},
+  run: {key: 'run-key', shown: 3}, name: {key: 'name-key', shown: 4},
+  loadName: {key: 'load-key', shown: 4}, runName: {key: 'run-key', shown: 4}, done: {key: '', shown: 5},
+  other: {key: 'afresh-key', shown: -1}, paper: {key: 'tear-key', shown: -1}, wait: {key: 'turn-key', shown: -1},
+};
+
+const isHello = text => text !== null && text.startsWith(HELLO.slice(0, NAME_COLUMN));
+/* Whether the line of a card is on the paper. The lines that were there before the card was punched don't count. */
+function isPrinted(card, from) {
+  return [...torn, ...view.paper].slice(from).some(line => line.text === card.slice(NAME_COLUMN));
+}
+/* Whether a hello card would run: core storage is clear, but for an earlier hello card that has halted. */
+function isFree({cells, from, read, next, registers}) {
+  if (isHello(read) && registers.I === HELLO_END) return from > 0 || cells.slice(201, 333).every(cell => !cell.mark);
+  return next === null && cells.every(cell => cell.graphic === ' ' && !cell.mark);
+}
+/* The step that the machine is at, for a visitor who has fed a card or not, and has a card with a name or not. */
+function stepOf(picture, {hasFed, card, from}) {
+  const {registers: {I, HOPPER, PAPER}, read, hopper} = picture, isOurs = text => text === HELLO || text === card;
+  if (card !== null && isPrinted(card, from)) return 'done';
+  if (PAPER >= MOST_CARDS) return 'paper';
+  if (isOurs(read) && HELLO_AT.includes(I)) return card !== null ? 'runName' : I === 1 ? 'step' : 'run';
+  if (HOPPER > 0) return !isOurs(hopper) ? 'other' : card !== null ? 'loadName' : 'load';
+  if (!isFree(picture)) return 'other';
+  return hasFed && isOurs(read) ? 'name' : 'feed';
+}
+/* The program whose cards are next and were read last, if there is just one. */
+function programThere({read, hopper}) {
+  const has = ({cards}, card) => cards.some(each => each.trimEnd() === card);
+  const found = PROGRAMS.filter(each => (hopper === null || has(each, hopper)) && (read === '' || has(each, read)));
+  return (hopper !== null || read !== '') && found.length === 1 ? found[0].name : null;
+}
 
 const guide = {
-  at: 0, state: 'off', detours: 0, since: 0,
+  state: 'off', hasFed: false, card: null, from: 0, since: 0, lit: '',
 
-  /* Begins with the first step; if somebody has left something in the machine, with the key that clears it. What the
-     staff has put into it isn't to be cleared. */
+  /* Begins with what the machine has now. What the staff has put into it isn't to be cleared. */
   begin() {
-    const isLeft = view.picture !== null && !isClear(view.picture), left = hold.isPrepared ? 'prepared' : 'left';
-    Object.assign(this, {at: 0, detours: 0, since: performance.now(), state: isLeft ? left : 'on'});
+    const isPrepared = hold.isPrepared && view.picture !== null && !isClear(view.picture);
+    Object.assign(this, {hasFed: false, card: null, since: performance.now(), state: isPrepared ? 'prepared' : 'on'});
     byId('program').value = 'hello';
     drawProgram();
     this.draw();
   },
-  /* Something has happened: a step is done, or the visitor does something else for a while. */
+  /* Something has happened here: the guide is needed. A card that follows a name's is the next visitor's. */
   on(event) {
-    if (this.state === 'done' && event === 'fed') {
-      this.state = 'aside';
-      this.draw();
-    }
-    if (this.state !== 'on' && this.state !== 'left') return;
-    // A step may be left out, but not the name.
-    const next = GUIDE_STEPS.slice(this.at, this.at + (this.step()?.until === 'named' ? 1 : 2));
-    const ahead = next.findIndex(step => step.until === event);
     this.since = performance.now();
-    if (event === 'fed' && this.state === 'left') this.state = 'on';
-    if (ahead >= 0 && this.state === 'on') {
-      this.at += ahead + 1;
-      this.detours = 0;
-      if (this.at === GUIDE_STEPS.length) this.state = 'done';
-    } else if (event !== 'run' && ++this.detours > MOST_DETOURS) this.state = 'aside';
+    if (event === 'fed') {
+      if (this.step() === 'done') this.card = null;
+      this.hasFed = true;
+    }
     this.draw();
   },
-  /* After a while without a step the guide steps aside. A run that nobody has touched for longer was left here. */
+  /* After a while without a hand the guide steps aside. A run that nobody has touched for longer was left here. */
   look() {
-    const isLeft = run !== null && !attract.on && performance.now() - attract.touched > IDLE.attractMs;
-    if (isLeft && this.state !== 'left' && this.state !== 'prepared') this.begin();
-    const isLate = performance.now() - this.since > GUIDE_WAITS_MS;
-    if ((this.state === 'on' && this.at > 0 || this.state === 'left') && isLate && !run) {
-      this.state = 'aside';
-      this.draw();
-    }
+    const now = performance.now(), isLeft = run !== null && !attract.on && now - attract.touched > IDLE.attractMs;
+    if (isLeft && this.state === 'aside') this.begin();
+    const isLate = now - Math.max(this.since, attract.touched) > GUIDE_WAITS_MS;
+    if (this.state === 'on' && !['feed', 'wait'].includes(this.step()) && isLate && !run) this.stepAside();
+  },
+  stepAside() {
+    if (isStage) return this.begin();
+    this.state = 'aside';
+    this.draw();
   },
   press() {
-    if (this.state === 'on' || this.state === 'left') {
-      this.state = 'off';
-      this.draw();
-    } else this.begin();
+    if (this.state !== 'on') return this.begin();
+    this.state = 'off';
+    this.draw();
   },
 
+  /* The step that the machine is at now; null if there is nothing to guide. */
   step() {
-    return this.state === 'on' ? GUIDE_STEPS[this.at] : null;
+    if (this.state !== 'on' || view.picture === null) return null;
+    return turn.wants || isKeptOff() ? 'wait' : stepOf(view.picture, this);
   },
   draw() {
-    const step = this.step(), lit = this.state === 'left' ? 'afresh-key' : step ? step.key : '';
-    for (const element of document.querySelectorAll('.lit')) element.classList.remove('lit');
-    if (lit) byId(lit).classList.add('lit');
+    const name = this.step(), step = name && GUIDE_STEPS[name], shown = step ? step.shown : -1;
+    this.light(this.keyFor(name), name === 'name' && !tour.isOn && 'name');
+    if (isExhibit) setText(byId('feed-key'), TEXTS.childKeys[wantsClearing() ? 'clear' : 'feed']);
     [...byId('guide-steps').children].forEach((element, at) => {
-      const isDone = this.state === 'done' || step !== null && at < step.shown;
-      element.classList.toggle('done', isDone);
-      element.toggleAttribute('aria-current', step !== null && at === step.shown);
-      if (step !== null && at === step.shown) element.setAttribute('aria-current', 'step');
-      setAttribute(element, 'aria-label', filled(isDone ? TEXTS.stepDone : TEXTS.stepOpen,
+      element.classList.toggle('done', at < shown);
+      element.toggleAttribute('aria-current', at === shown);
+      if (at === shown) element.setAttribute('aria-current', 'step');
+      setAttribute(element, 'aria-label', filled(at < shown ? TEXTS.stepDone : TEXTS.stepOpen,
         {n: at + 1, name: TEXTS.guideSteps[at]}));
     });
-    byId('name-form').hidden = !step || step.until !== 'named';
-    byId('guide-end').hidden = this.state !== 'done';
-    setText(byId('guide-now'), this.words());
-    setText(byId('guide-key'), this.state === 'on' || this.state === 'left' ? TEXTS.guideOff : TEXTS.guideOn);
+    byId('name-form').hidden = name !== 'name' || tour.isOn;
+    byId('guide-end').hidden = name !== 'done';
+    setText(byId('guide-now'), this.words(name));
+    setText(byId('guide-key'), this.state === 'on' ? TEXTS.guideOff : TEXTS.guideOn);
+    drawHomeCode(name === 'done');
+    drawTurn();
   },
-  words() {
-    if (this.state === 'prepared' && renewal.mode === 'ON') return TEXTS.guide.preparedAgain;
-    if (this.state !== 'on') return TEXTS.guide[this.state];
-    return TEXTS.guideWords[this.at] + (this.detours > 1 ? ` ${TEXTS.guide.waits}` : '');
+  /* The key for a step. On a stage FEED clears too, and the tour is closed before the name is written. */
+  keyFor(name) {
+    if (name === null) return '';
+    return wantsClearing() ? 'feed-key' : name === 'name' && tour.isOn ? 'why-key' : GUIDE_STEPS[name].key;
+  },
+  /* Lights a key. The keyboard's focus goes on to it from the key that was lit before. */
+  light(lit, focus) {
+    if (lit === this.lit) return;
+    const before = this.lit && byId(this.lit);
+    this.lit = lit;
+    if (before) before.classList.remove('lit');
+    if (!lit) return;
+    byId(lit).classList.add('lit');
+    if (before && before === document.activeElement) setTimeout(() => byId(focus || lit).focus());
+  },
+  words(name) {
+    if (name === null) return TEXTS.guide[this.state === 'on' ? 'off' : this.preparedWords()];
+    if (name === 'wait') return turnWords();
+    const words = isExhibit ? TEXTS.childWords : TEXTS.guideWords;
+    const there = name === 'other' ? programThere(view.picture) : null;
+    return there ? filled(words.program, {name: TEXTS.programs[there].name}) : words[name];
+  },
+  preparedWords() {
+    return this.state === 'prepared' && renewal.mode === 'ON' ? 'preparedAgain' : this.state;
   },
 };
 onHappened.push(event => guide.on(event));
 
-let nameCard = HELLO;   // the card with the name of the last visitor who punched one
-
-/* Punches the hello card with a visitor's name in place of its greeting, and feeds it. */
-async function punchName(event) {
-  event.preventDefault();
-  const name = plain(byId('name').value).trim().slice(0, CARD_COLUMNS - NAME_COLUMN);
-  const wrong = [...name].find(letter => !GRAPHICS.includes(letter));
-  setText(byId('name-words'), name === '' ? TEXTS.nameEmpty : wrong ? filled(TEXTS.nameWrong, {letter: wrong}) : '');
-  if (name === '' || wrong || !mayCommand() || feed) return;
-  byId('name').value = name;
-  nameCard = released = HELLO.slice(0, NAME_COLUMN) + name;
-  await feedDeck([nameCard], filled(TEXTS.fedName, {name}));
-  sound('punch');
-  happened('named');
-  byId('load-key').focus();
-}
-/* Prints the card with the name in its real size. */
-function printCard() {
-  cards.toPrint(nameCard);
-  document.body.classList.add('prints-card');
-  print();
-  document.body.classList.remove('prints-card');
+/* The longest of the guide's texts decides its height, so the keys below it stay where they are. */
+function reserveGuide() {
+  if (isStage) return;
+  const probe = byId('guide-said').cloneNode(true), [words, end] = probe.children;
+  probe.id = words.id = '';
+  probe.className = 'probe';
+  words.removeAttribute('aria-live');
+  byId('guide').append(probe);
+  const heights = Object.entries(TEXTS.guideWords).map(([name, text]) => {
+    words.textContent = text;
+    end.hidden = name !== 'done';
+    return probe.offsetHeight + 1;
+  });
+  probe.remove();
+  byId('guide-said').style.minHeight = `${Math.max(...heights)}px`;
 }

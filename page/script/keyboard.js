@@ -11,7 +11,8 @@ function pressKey(event) {
   if (document.querySelector('dialog[open]')) return;
   if (event.key === 'Escape') return pressStop();
   const action = SHORTCUTS[event.code];
-  if (!action || !event.altKey || event.ctrlKey || event.metaKey || event.getModifierState('AltGraph')) return;
+  if (isStage || !action || !event.altKey) return;
+  if (event.ctrlKey || event.metaKey || event.getModifierState('AltGraph')) return;
   event.preventDefault();
   if (!event.repeat) action();
 }

@@ -15,14 +15,18 @@ async function post(path, body, breaks) {
   if (view.made === null && !(await look())) return {failed: bannerText()};
   const count = view.made, {room} = view.picture;
   view.made = null;
+  view.posting = true;
   let response, text;
   try {
     const headers = {'Content-Type': 'text/plain', 'X-1401-Line': String(count), 'X-1401-Room': room};
-    response = await fetch(path, {method: 'POST', body, cache: 'no-store', headers});
+    response = await fetch(path, {method: 'POST', body, cache: 'no-store', headers, signal: timeLimit()});
     text = await response.text();
   } catch {
     return lostLine(count, room);
+  } finally {
+    view.posting = false;
   }
+  if (PROXY_STATUS.includes(response.status)) return lostLine(count, room);
   if (response.status === 423) takeHold(text);
   return response.status === 200 ? {text, count} : refusedLine(statusOf(response));
 }

@@ -3,6 +3,7 @@ const view = {
   core: 0,          // the first place that is asked for
   picture: null,    // the picture that is drawn
   paper: [],        // the printed lines that nobody has taken, oldest first
+  posting: false,   // whether a line is being sent
   made: null,       // how many commands this seat has made, null where only a picture can tell
   link: 'lost',     // whether the server answers, and else why not
   status: 0,
@@ -16,6 +17,11 @@ const view = {
   ended: null,      // the I register after a halt, until this page gives another command
 };
 const OTHERS_MS = 8000;
+/* A request that isn't answered within this time has failed. */
+const LIMIT = {requestMs: 10000};
+const timeLimit = () => AbortSignal.timeout(LIMIT.requestMs);
+/* A proxy that doesn't reach the room answers so. */
+const PROXY_STATUS = [502, 504];
 const PAUSE_MS = 800;
 const LONGEST_PART_MS = 7000;
 const torn = [];    // the printed lines that this page has taken
@@ -47,7 +53,7 @@ async function askForPicture(kept, after) {
   const room = view.picture ? view.picture.room : '';
   const part = `room=${room}&core=${pad(view.core, 4)}&paper=${Math.max(0, kept.length - 1)}`;
   const query = after === null ? part : `${part}&after=${after}`;
-  const response = await fetch(`/picture?${query}`, {cache: 'no-store', signal: AbortSignal.timeout(10 * RETRY_MS)});
+  const response = await fetch(`/picture?${query}`, {cache: 'no-store', signal: timeLimit()});
   const text = await response.text();
   if (response.status === 204) return null;
   if (response.status !== 200) throw new Refused(statusOf(response));
@@ -86,8 +92,8 @@ async function takeIn(picture) {
 function noteNewState(shown, isNewRoom) {
   if (!shown) return;
   const {newRoom, resumed, clear} = TEXTS.said, words = view.picture.after < shown.after ? newRoom : resumed;
-  if (isNewRoom) note('words', words);
   if (isClearing) return;
+  if (isNewRoom) note('words', words);
   if (isNewRoom) beginAnew(words);
   else if (isClear(view.picture) && !isClear(shown)) beginAnew(clear);
 }
@@ -140,7 +146,23 @@ async function look() {
   }
 }
 
-const LINK_OF_STATUS = {410: 'closed', 503: 'taken503', busy: 'busy', 507: 'noMemory'};
+/* A look while a line is being sent, which may hang: what it shows is drawn, and the line's own answer says how many
+   commands this seat has made. */
+async function lookAside() {
+  try {
+    const picture = await askForPicture(view.paper, null), lines = joined(view.paper, picture);
+    const isLater = picture.room === view.picture.room && picture.after >= view.picture.after;
+    if (!isLater || lines === null || lines.length !== picture.registers.PAPER) return;
+    noteOthers(picture);
+    Object.assign(view, {paper: lines, picture});
+    draw();
+  } catch (why) {
+    blame(why);
+  }
+}
+
+const LINK_OF_STATUS = {403: 'foreign', 410: 'closed', 429: 'busy', 502: 'proxyAlone', 503: 'taken503',
+  504: 'proxyAlone', 507: 'noMemory', busy: 'busy'};
 function blame(why) {
   if (why instanceof Unreadable) setLink('unread');
   else if (!(why instanceof Refused)) setLink('lost');

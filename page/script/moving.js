@@ -17,8 +17,10 @@ function showChanges(before, now) {
   const from = before.registers, to = now.registers;
   const isRead = to.HOPPER < from.HOPPER || now.read !== before.read && now.read !== '';
   if (isRead) moveCard();
+  if (isRead && isStage) moveReader();
   const lines = to.LINE - from.LINE + FORM_LINES * (to.FORM - from.FORM);
   if (lines > 0) movePaper(lines);
+  if (lines > 0 && isStage) movePrinter(lines);
   if (to.STACKER > from.STACKER) sound('punch');
   else if (to.PAPER > from.PAPER) sound('print');
   else if (to.HOPPER < from.HOPPER) sound('read');

@@ -6,6 +6,9 @@ function draw() {
   drawCards();
   drawPaper();
   drawKeys();
+  guide.draw();
+  drawMachines(view.picture);
+  if (!tour.isOn) drawStage(view.picture);
   followI();
   showChanges(drawnLast, view.picture);
   drawnLast = view.picture;
@@ -112,7 +115,7 @@ function bulbRows() {
   const {registers, from, cells} = view.picture;
   const at = place => cells[place - from] ? cells[place - from].graphic : ' ';
   const rows = [['B', at(registers.B)], ['A', at(registers.A)], ['OP', at(registers.I)]];
-  const address = [...pad(registers.I, 5)].map(digit => [TEXTS.bulbAddress, digit]);
+  const address = [...pad(registers.I, 5)].map((digit, at) => [`${TEXTS.bulbAddress}${at + 1}`, digit]);
   return [...rows, ...address];
 }
 function drawBulbs() {

@@ -33,6 +33,9 @@ function drawPaper() {
   const place = {form: pad(registers.FORM, 4), line: registers.LINE};
   setText(byId('paper-at'), counted(TEXTS.paperAt, view.paper.length, place));
   drawTape(registers.LINE);
+  byId('fold').style.setProperty('--lines', view.paper.length);
+  byId('newest').hidden = view.paper.length === 0;
+  setText(byId('newest'), view.paper.length === 0 ? '' : view.paper.at(-1).text);
   followPaper();
 }
 function textsByForm(lines) {

@@ -5,7 +5,7 @@ const renewal = {mode: '', seconds: null, asked: -Infinity};
 /* Asks when another machine follows, or for one now. */
 async function askRenewal(method) {
   const headers = method === 'POST' ? {'X-1401-Room': view.picture.room} : {};
-  const response = await fetch('/renewal', {method, headers, cache: 'no-store'});
+  const response = await fetch('/renewal', {method, headers, cache: 'no-store', signal: timeLimit()});
   const found = /^RENEWAL (?:(OFF|ON)|IN (\d+))\n$/.exec(await response.text());
   if (response.status !== 200 || !found) return;
   const {mode} = renewal;

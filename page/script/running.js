@@ -15,26 +15,52 @@ function warnsOfEnd() {
   tell(TEXTS.said.afterEnd);
   return true;
 }
+/* Nothing is in core storage to be carried out: what is to be done first is said, and nothing is sent. */
+function warnsOfNothing() {
+  const {cells, next, registers} = view.picture;
+  if (next !== null || !cells.every(cell => cell.graphic === ' ' && !cell.mark)) return false;
+  tell(registers.HOPPER > 0 ? TEXTS.said.loadFirst : TEXTS.said.nothing);
+  return true;
+}
 function noteStop(stop) {
   view.ended = stop && stop.name === 'HALT' ? stop.next : null;
   if (view.ended !== null) happened('halt');
 }
 
-async function pressLoad() {
+/* A deck that a stage runs by itself has parts of a second, since each is an entry of the journal. */
+const ATTRACT_GROWN = 10;
+/* A key that does one thing: a second press is left out until the first one has its answer, and a moment longer. */
+const GUARD_MS = 400;
+const guarded = new Set();
+async function once(key, action) {
+  if (guarded.has(key)) return;
+  guarded.add(key);
+  drawKeys();
+  await action();
+  setTimeout(() => {
+    guarded.delete(key);
+    drawKeys();
+  }, GUARD_MS);
+}
+
+const pressLoad = () => once('load-key', loadCard);
+async function loadCard() {
   if (run || !mayCommand()) return;
   view.ended = null;
-  const outcome = await say('LOAD');
+  const before = view.picture, outcome = await say('LOAD');
   tellOutcome(outcome, TEXTS.said.load);
   if (outcome.reply !== 'OK') return;
   tellDeck('');
   sound('read');
+  noteScene(before, view.picture, true);
   happened('load');
 }
 async function pressStep() {
-  if (run || !mayCommand() || warnsOfEnd()) return;
-  const outcome = await say('RUN 1'), stop = stopOf(outcome.reply);
+  if (run || !mayCommand() || warnsOfEnd() || warnsOfNothing()) return;
+  const before = view.picture, outcome = await say('RUN 1'), stop = stopOf(outcome.reply);
   tellOutcome(outcome, TEXTS.said.step);
   noteStop(stop);
+  if (stop && stop.steps === 1) noteScene(before, view.picture, false);
   if (stop) happened('step');
   drawPanel();
 }
@@ -55,7 +81,7 @@ function stopRun() {
 
 /* RUN in parts, ten a second at first, so STOP ends it and the others get their turn. */
 async function pressRun() {
-  if (run || !mayCommand() || warnsOfEnd()) return;
+  if (run || !mayCommand() || warnsOfEnd() || warnsOfNothing()) return;
   run = {stop: false, slices: 0, steps: 0, waits: '', began: performance.now(), grown: 1, wake: () => {}};
   view.ended = null;
   tell('');
@@ -90,7 +116,8 @@ async function runParts() {
 }
 async function runPart() {
   const pace = PACES[byId('pace').selectedIndex];
-  run.grown = grownBy(performance.now() - Math.max(run.began, attract.pressed));
+  const idle = performance.now() - Math.max(run.began, attract.pressed);
+  run.grown = Math.max(grownBy(idle), isExhibit && attract.on ? ATTRACT_GROWN : 1);
   const steps = Math.min(MOST_STEPS, run.grown * (pace === OWN_PACE ? OWN_STEPS : pace)), line = `RUN ${steps}`;
   if (run.slices === 0) note('you', line);
   const began = performance.now(), before = view.picture, {breaks} = view;
@@ -149,10 +176,13 @@ const COMMAND_KEYS = ['load-key', 'run-key', 'step-key', 'start-key', 'feed-key'
   'all-cards-key', 'tear-key', 'send-key', 'release-key', 'deck-key', 'name-key', 'afresh-key', 'feed-again-key'];
 function drawKeys() {
   const may = mayCommand(), {PAPER, STACKER} = view.picture ? view.picture.registers : {PAPER: 0, STACKER: 0};
-  for (const id of COMMAND_KEYS) setOff(byId(id), !may);
-  for (const id of ['load-key', 'run-key', 'step-key', 'start-key']) setOff(byId(id), !may || run !== null);
+  for (const id of COMMAND_KEYS) setOff(byId(id), !may || guarded.has(id));
+  for (const id of ['load-key', 'run-key', 'step-key', 'start-key']) {
+    setOff(byId(id), !may || run !== null || guarded.has(id));
+  }
   for (const button of byId('switches').children) setOff(button, !may);
   setOff(byId('stop-key'), run === null);
+  if (isExhibit) setOff(byId('run-key'), run === null && (!may || guarded.has('run-key')));
   setOff(byId('tear-key'), !may || taking !== null || PAPER === 0);
   for (const id of ['card-key', 'all-cards-key']) setOff(byId(id), !may || taking !== null || STACKER === 0);
   drawRun();
@@ -162,5 +192,6 @@ function runWords() {
   return run.waits ? TEXTS.waits[run.waits] : filled(TEXTS.running, {steps: withCommas(run.steps)});
 }
 function drawRun() {
+  if (isExhibit) setText(byId('run-key'), run ? TEXTS.stopKey : TEXTS.runKey);
   setText(byId('running'), runWords());
 }

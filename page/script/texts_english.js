@@ -1,6 +1,6 @@
 /* Every text for visitors, in English. */
 LANGUAGES.en = {
-  language: 'en', name: 'English', languageLabel: 'language', thousands: ',',
+  language: 'en', name: 'English', dir: 'ltr', languageLabel: 'language', thousands: ',',
   documentTitle: 'IBM 1401, seat {seat}',
   skip: 'To the deck and the keys',
   headline: 'Data processing system', subline: 'Shared machine room',
@@ -132,6 +132,8 @@ LANGUAGES.en = {
   nearlyFull: 'The journal has {n} of its 100,000 entries. Please call the staff.',
   refusedStatus: 'The server refused what this page asked for ({status}).',
   unread: 'This page doesn\'t understand what the server shows. Is the page of another version?',
+  proxyAlone: 'The proxy answers, but the room doesn\'t. Start the room; this page then goes on by itself.',
+  foreign: 'The room doesn\'t know this page\'s address. Start it with --origin and the address that is shown above.',
   noMemory: 'The server had no memory for a picture. This page tries again.',
 
   outcomes: {
@@ -174,6 +176,9 @@ LANGUAGES.en = {
     renewing: 'A new machine is asked for ..',
     clearing: 'The machine is being cleared ..', clear: 'The machine is clear: no card, no paper, nothing in core.',
     prepared: 'A new machine is here, with what the staff has prepared.',
+    nothing: 'The machine is empty: feed a program first.',
+    loadFirst: 'Nothing is in core storage yet: press LOAD first.',
+    yourTurn: 'It is your turn.',
     notClear: 'The machine isn\'t clear. Perhaps somebody else is at work. Try again.',
   },
   stops: {
@@ -228,31 +233,74 @@ LANGUAGES.en = {
   guideTitle: 'Your first program', guideOn: 'Begin the guide', guideOff: 'Without the guide',
   guideSteps: ['Feed', 'LOAD', 'STEP', 'RUN', 'Your name'], stepDone: 'step {n}, {name}: done',
     stepOpen: 'step {n}, {name}',
-  guideWords: [
-    'Press "Feed this program": a card with the program Hello goes into the hopper. One card is a whole program.',
-    'Press LOAD: the machine reads the card into its places 001 to 080.',
-    'Press STEP: the machine carries out one instruction. The first ones set word marks, which divide the '
+  guideWords: {
+    feed: 'Press "Feed this program": a card with the program Hello goes into the hopper. One card is a whole program.',
+    load: 'Press LOAD: the machine reads the card into its places 001 to 080.',
+    step: 'Press STEP: the machine carries out one instruction. The first ones set word marks, which divide the '
       + 'card into instructions.',
-    'Press RUN: the machine carries out the others, prints a line, and halts. Watch the paper.',
-    'The line is on the paper. Now your name: write it here, and punch a card of your own.',
-    'Your card is in the hopper. Press LOAD to read it.',
-    'Press RUN, and look at the paper.',
-  ],
+    run: 'Press RUN: the machine carries out the others, prints a line, and halts. Watch the paper.',
+    name: 'The line is printed. Now your name: write it here, and punch a card of your own.',
+    loadName: 'Your card is in the hopper. Press LOAD to read it.',
+    runName: 'Press RUN, and look at the paper.',
+    done: 'Your name is on the paper. Save it, print the card to take home, or choose another program.',
+    other: 'Somebody has left cards or a program in the machine. Press "Start afresh" to clear it; or go on with it.',
+    program: 'The program {name} is in the machine. Go on with it; or press "Start afresh", and the guide begins.',
+    paper: 'The printer is full: it holds 500 lines. Press "Tear off" to go on.',
+  },
   guide: {
     off: 'The guide leads you to a printed line with your name, in about two minutes.',
-    left: 'Somebody has left cards, paper or a program in the machine. Press "Start afresh" to clear it; or go on '
-      + 'with it.',
     prepared: 'The staff has prepared this machine: it was begun with a program or with cards. Press LOAD if there are '
       + 'cards, then RUN. "Start afresh" would clear it.',
     preparedAgain: 'The staff has prepared this machine: it was begun with a program or with cards. Press LOAD if '
       + 'there are cards, then RUN. "Start afresh" brings a new one, prepared in the same way.',
     aside: 'The guide has stepped aside. It begins again when you like.',
-    done: 'Your name is on the paper. Save it, print the card to take home, or choose another program.',
     attract: 'Nobody is here, so the machine runs by itself. Touch the screen or a key to take over.',
-    waits: '(The guide waits here.)',
+  },
+  turn: {
+    busy: 'Seat {seat} is at the machine. Press "Wait in line", and your turn comes.',
+    next: 'Seat {seat} is at the machine; you are next.',
+    later: {one: 'Seat {seat} is at the machine. At most 1 other seat comes before you.',
+      many: 'Seat {seat} is at the machine. At most {n} other seats come before you.'},
+    soon: 'The machine is free. The next in line is called.',
+    wait: 'Wait in line', leave: 'Leave the line', give: 'Give it to the next',
+  },
+  childWords: {
+    feed: 'Press FEED. A card goes into the machine.', load: 'Press LOAD. The machine reads the holes of the card.',
+    step: 'Press STEP. The machine does the first thing that the card asks for.',
+    run: 'Press RUN. The machine does all the rest, and prints.',
+    name: 'It has printed! Now write your own name.', loadName: 'This is your card. Press LOAD.',
+    runName: 'Press RUN, and look at the paper.', done: 'There is your name! Press FEED to begin again.',
+    other: 'Somebody was here before you. Press CLEAR.', program: 'The program {name} is in the machine. Press CLEAR.',
+    paper: 'The paper is full. Press CLEAR.',
+  },
+  childKeys: {feed: 'FEED', clear: 'CLEAR'},
+  stage: {
+    name: 'IBM 1401', more: 'More', back: 'Back', stripLabel: 'core storage from {from} on, and the print area',
+    cardRead: 'The card that was read', cardNext: 'The next card', cardNone: 'No card yet',
+    machines: {reader: 'Card reader 1402', unit: 'Computer 1401', printer: 'Printer 1403'},
+    who: 'Seat {seat} is at the machine', nobody: 'Nobody is at the machine', touch: 'TOUCH ME',
+    leaving: {one: 'Are you still there? Touch the screen. (1)', many: 'Are you still there? Touch the screen. ({n})'},
+  },
+  homeCode: 'Take your card home: point a telephone here.', homeTitle: 'Your card from an IBM 1401',
+  homeLine: 'It printed this line',
+  machinesLabel: 'the card reader, the computer and the printer', moreKey: 'More', whyKey: 'Why?',
+  watchStop: 'Stop the run', watchHold: 'Hold for all',
+  tourLabel: 'what the machine does', tourBack: 'Back', tourNext: 'Next',
+  scenes: {
+    and: ' and ', at: '{n} of {all}', pause: 'Pause', play: 'Go on',
+    none: 'Feed a card and press LOAD. Then each step is explained here.',
+    load: 'The card is in the machine: each of its 80 columns is now a character in one of the places 001 to 080.',
+    SW: 'It has set word marks at {places}. A word mark says that something begins there; the card is cut into its '
+      + 'parts.',
+    MCW: 'It has carried letters from place {from} on to place {to} on: "{text}".',
+    W: 'The chain of the printer has printed the places from 201 on: "{line}".',
+    H: 'The program has ended, and the machine stops.', A: 'It has added the number at {a} to the one at {b}.',
+    S: 'It has subtracted the number at {a} from the one at {b}.',
+    other: 'The machine has carried out: {what}.',
   },
   nameLabel: 'Your name', nameKey: 'Punch and feed', nameEmpty: 'Write a name first.',
-  nameWrong: 'No card has {letter}.',
+  nameWrong: 'No card has {letter}. Choose a name in A to Z.', nameSpelt: 'On the card: {name}',
+  nameKeys: 'keys for your name', alphabet: 'ABCDEFGHIJKLMNOPQRSTUVWXYZ', wipe: 'wipe',
   afreshKey: 'Start afresh', afreshTitle: 'clears the machine: cards, paper, switches and core storage',
   afreshAsk: 'This clears the machine for everybody: cards, paper, switches and core storage. What this page has torn '
     + 'off and taken goes too. Start afresh?',

@@ -1,12 +1,13 @@
 /* Every text for visitors, in German. */
 LANGUAGES.de = {
-  language: 'de', name: 'Deutsch', languageLabel: 'Sprache', thousands: '.',
+  language: 'de', name: 'Deutsch', dir: 'ltr', languageLabel: 'Sprache', thousands: '.',
   documentTitle: 'IBM 1401, Platz {seat}',
   skip: 'Zum Stapel und zu den Tasten',
   headline: 'Datenverarbeitungssystem', subline: 'Gemeinsamer Maschinenraum',
   seatsLabel: 'Die Plätze dieses Raums', seats: 'Plätze', seat: 'Platz {n}', thisSeat: 'Platz {n}, dieser hier',
   takenSeat: 'Platz {n}, besetzt',
-  after: {one: '1 Befehl', many: '{n} Befehle'}, afterTitle: 'wie viele Befehle die Maschine von allen Plätzen bekam',
+  after: {one: '1 Eingabe', many: '{n} Eingaben'},
+  afterTitle: 'wie viele Eingaben die Maschine von allen Plätzen bekam',
   answers: 'Die Maschine antwortet.',
   aboutKey: 'Was sehe ich hier?', soundKey: 'Ton', helpKey: 'Tasten', closeKey: 'Schließen', yesKey: 'Ja',
     noKey: 'Nein',
@@ -70,7 +71,7 @@ LANGUAGES.de = {
   cardKey: 'Gestanzte Karte nehmen', cardTitle: 'nimmt die älteste Karte aus der Ablage, endgültig',
   allCardsKey: 'Alle gestanzten Karten nehmen', takingCards: '{n} von {all} Karten genommen', takeStop: 'Aufhören',
   takenAll: {one: '1 Karte wurde genommen.', many: '{n} Karten wurden genommen.'},
-  saveCardsKey: 'Genommene Karten sichern', feedAgainKey: 'Genommene Karten wieder einlegen',
+  saveCardsKey: 'Genommene Karten speichern', feedAgainKey: 'Genommene Karten wieder einlegen',
   taken: 'Karte genommen: {text}', takenBlank: 'Eine leere Karte wurde genommen.',
   typedDeck: 'Einen Stapel tippen oder einfügen, eine Karte je Zeile', deckKey: 'Diese Karten einlegen',
   feedingLabel: 'eingelegte Karten', feedingCount: '{n} von {all} Karten eingelegt', feedStop: 'Aufhören',
@@ -98,24 +99,24 @@ LANGUAGES.de = {
     + 'der Vorschub ist bei Zeile {line}',
   tearKey: 'Abreißen', tearTitle: 'nimmt die gedruckten Zeilen aus dem Drucker, endgültig (Alt+T)',
   tearAsk: {one: 'Das nimmt die gedruckte Zeile aus dem Drucker, und kein anderer Platz sieht sie mehr. '
-    + 'Diese Seite behält sie, zum Sichern oder Drucken. Abreißen?',
+    + 'Diese Seite behält sie, zum Speichern oder Drucken. Abreißen?',
   many: 'Das nimmt {n} gedruckte Zeilen aus dem Drucker, und kein anderer Platz sieht sie mehr. '
-    + 'Diese Seite behält sie, zum Sichern oder Drucken. Abreißen?'},
+    + 'Diese Seite behält sie, zum Speichern oder Drucken. Abreißen?'},
   tearing: '{n} von {all} Zeilen genommen', noPaper: 'Es gibt keine gedruckte Zeile.',
   torn: {one: 'abgerissen und noch hier: 1 Zeile', many: 'abgerissen und noch hier: {n} Zeilen'},
   dropKey: 'Wegwerfen', dropAsk: 'Das abgerissene Papier wegwerfen?',
-  saveKey: 'Als Text sichern', printKey: 'Drucken', largeKey: 'Größer', toCarriage: 'Zum Vorschub',
+  saveKey: 'Als Text speichern', printKey: 'Drucken', largeKey: 'Größer', toCarriage: 'Zum Vorschub',
 
   console: 'Konsole', logLabel: 'Zeilen und Antworten', lineLabel: 'eine Zeile der Konsole',
     lineHint: 'EXAMINE 0500 11',
   sendKey: 'SENDEN', linesTitle: 'Die Zeilen, und was sie tun (oder HELP)',
-  others: {one: 'andere gaben 1 Befehl, seit Sie da sind', many: 'andere gaben {n} Befehle, seit Sie da sind'},
+  others: {one: 'andere machten 1 Eingabe, seit Sie da sind', many: 'andere machten {n} Eingaben, seit Sie da sind'},
   othersNow: 'Ein anderer Platz arbeitet auch an dieser Maschine.',
   othersRun: 'Ein anderer Platz lässt ein Programm laufen: LOAD, RUN, STEP und START AT würden mitten darin wirken.',
   othersRunning: 'ein anderer Platz lässt ein Programm laufen',
   seatNow: 'Platz {seat} arbeitet auch an dieser Maschine ({line}).',
   seatRun: 'Platz {seat} lässt ein Programm laufen: LOAD, RUN, STEP und START AT würden mitten darin wirken.',
-  seatRunning: 'Platz {seat} lässt ein Programm laufen', seatLast: '; der letzte Befehl ist von Platz {seat}: {line}',
+  seatRunning: 'Platz {seat} lässt ein Programm laufen', seatLast: '; die letzte Eingabe ist von Platz {seat}: {line}',
   holdKey: 'Maschine halten', releaseHold: 'Andere weitermachen lassen',
   holdTitle: 'eine Minute lang gibt keine andere Seite der Maschine Zeilen; Konsolen schon',
   holder: 'Sie halten die Maschine: die Tasten der anderen Seiten sind aus.',
@@ -125,26 +126,28 @@ LANGUAGES.de = {
   cardsInLog: {one: '(1 Karte genommen)', many: '({n} Karten genommen)'},
   notText: 'Eine Zeile hat nur Buchstaben, Ziffern und Zeichen der 1401.',
 
-  footer: 'Eine simulierte IBM 1401. Alles, was Sie sehen, ist von einem Augenblick, nach so vielen Befehlen wie oben.',
+  footer: 'Eine simulierte IBM 1401. Alles, was Sie sehen, ist von einem Augenblick, nach so vielen Eingaben wie oben.',
 
   lost: 'Die Maschine antwortet nicht, darum sind die Tasten aus. Diese Seite versucht es weiter.',
   closed: 'Der Raum ist geschlossen: die Maschine wurde weggeräumt. Diese Seite versucht es weiter.',
   taken503: 'An diesem Platz sitzt jemand mit einer Konsole. Diese Seite geht weiter, wenn er gegangen ist.',
   busy: 'Zu viele Anfragen warten bei dieser Seite. Sie versucht es weiter.',
-  unkept: 'Die Datei des Journals lässt sich nicht schreiben; die Maschine nimmt keine Befehle an. Bitte das '
+  unkept: 'Die Datei des Journals lässt sich nicht schreiben; die Maschine nimmt keine Eingaben an. Bitte das '
     + 'Personal rufen.',
   renewal: {one: 'Diese Maschine wird in 1 Sekunde weggeräumt, und eine neue folgt.',
     many: 'Diese Maschine wird in {n} Sekunden weggeräumt, und eine neue folgt.'},
-  full: 'Das Journal ist voll; die Maschine nimmt keine Befehle mehr an. Bitte das Personal rufen.',
+  full: 'Das Journal ist voll; die Maschine nimmt keine Eingaben mehr an. Bitte das Personal rufen.',
   nearlyFull: 'Das Journal hat {n} seiner 100.000 Einträge. Bitte das Personal rufen.',
   refusedStatus: 'Der Server hat abgelehnt, was diese Seite wollte ({status}).',
   unread: 'Diese Seite versteht nicht, was der Server zeigt. Ist sie von einer anderen Version?',
+  proxyAlone: 'Der Proxy antwortet, der Raum aber nicht. Starten Sie den Raum; die Seite geht dann von selbst weiter.',
+  foreign: 'Der Raum kennt die Adresse dieser Seite nicht. Starten Sie ihn mit --origin und der Adresse von oben.',
   noMemory: 'Der Server hatte keinen Speicher für ein Bild. Diese Seite versucht es weiter.',
 
   outcomes: {
-    off: 'Nicht gesendet: die Maschine nimmt jetzt keine Befehle an.',
+    off: 'Nicht gesendet: die Maschine nimmt jetzt keine Eingaben an.',
     broken: 'Nicht gesendet: es war für die Maschine vor dem Abbruch der Verbindung gemeint.',
-    409: 'Nicht ausgeführt: dieser Platz hat inzwischen etwas anderes befohlen, vielleicht in einem anderen Fenster. '
+    409: 'Nicht ausgeführt: dieser Platz hat inzwischen etwas anderes eingegeben, vielleicht in einem anderen Fenster. '
       + 'Sehen Sie nach, und senden Sie es noch einmal.',
     403: 'Nicht ausgeführt: der Server nimmt keine Zeilen von dieser Seite.',
     410: 'Nicht ausgeführt: der Raum ist geschlossen.',
@@ -160,7 +163,7 @@ LANGUAGES.de = {
   lostDone: 'Sie wurde ausgeführt; ihre Antwort ging verloren.',
   lostNotDone: 'Sie wurde bis jetzt nicht ausgeführt.',
   lostNewRoom: 'Der Raum wurde seitdem neu geöffnet; ob sie ausgeführt wurde, lässt sich nicht sagen.',
-  lostUnclear: 'Dieser Platz hat seitdem {n} Befehle gegeben; ob sie ausgeführt wurde, lässt sich nicht sagen.',
+  lostUnclear: 'Dieser Platz hat seitdem {n} Eingaben gemacht; ob sie ausgeführt wurde, lässt sich nicht sagen.',
 
   said: {
     firstNote: 'Hier steht jede Zeile, die Sie und die Tasten an die Maschine senden, mit ihrer Antwort.',
@@ -185,6 +188,8 @@ LANGUAGES.de = {
     clearing: 'Die Maschine wird geleert ..', clear: 'Die Maschine ist leer: keine Karte, kein Papier, nichts im '
       + 'Speicher.',
     prepared: 'Eine neue Maschine ist da, mit dem, was das Museum vorbereitet hat.',
+    nothing: 'Die Maschine ist leer: legen Sie erst ein Programm ein.',
+    loadFirst: 'Im Kernspeicher ist noch nichts: drücken Sie erst LOAD.', yourTurn: 'Sie sind an der Reihe.',
     notClear: 'Die Maschine ist nicht leer. Vielleicht arbeitet jemand anders. Versuchen Sie es noch einmal.',
   },
   stops: {
@@ -213,7 +218,7 @@ LANGUAGES.de = {
     'ERROR 2': 'Eine Zahl oder Adresse fehlt oder ist keine.',
     'ERROR 3': 'Ein Zeichen, das keine Karte und keine Stelle hat, oder ein ~ ohne Zeichen danach.',
     'ERROR 4': 'Der Text ist leer oder zu lang.',
-    'ERROR 5': 'Nach dem Ende des Befehls kommt noch etwas.',
+    'ERROR 5': 'Nach dem Ende der Eingabe kommt noch etwas.',
     'FAULT 1': 'Für den nächsten Eintrag des Journals war kein Speicher da.',
     'FAULT 2': 'Das Journal ist voll.',
     'FAULT 3': 'Nicht ausgeführt: der Platz ließ sich nicht mit dem Journal vergleichen.',
@@ -233,39 +238,85 @@ LANGUAGES.de = {
     ['RUN 1000', 'führt höchstens 1.000 Befehle aus; mehr als 1.000.000 gehen nicht'],
     ['LINE', 'nimmt die älteste gedruckte Zeile'],
     ['CARD', 'nimmt die älteste gestanzte Karte'],
-    ['GLANCE 0500', 'zeigt eine Stelle ohne einen Befehl'],
+    ['GLANCE 0500', 'zeigt eine Stelle, ohne dass es als Eingabe zählt'],
     ['HELP', 'zeigt diese Liste; es wird nicht gesendet'],
   ],
   guideTitle: 'Ihr erstes Programm', guideOn: 'Führung beginnen', guideOff: 'Ohne Führung',
-  guideSteps: ['Einlegen', 'LOAD', 'STEP', 'RUN', 'Ihr Name'], stepDone: 'Schritt {n}, {name}: getan',
+  guideSteps: ['Einlegen', 'LOAD', 'STEP', 'RUN', 'Ihr Name'], stepDone: 'Schritt {n}, {name}: erledigt',
   stepOpen: 'Schritt {n}, {name}',
-  guideWords: [
-    'Drücken Sie "Programm einlegen": eine Karte mit dem Programm Hallo kommt ins Magazin. Sie ist ein ganzes '
+  guideWords: {
+    feed: 'Drücken Sie "Programm einlegen": eine Karte mit dem Programm Hallo kommt ins Magazin. Sie ist ein ganzes '
       + 'Programm.',
-    'Drücken Sie LOAD: die Maschine liest die Karte in ihre Stellen 001 bis 080.',
-    'Drücken Sie STEP: die Maschine führt einen Befehl aus. Die ersten setzen Wortmarken, die die '
+    load: 'Drücken Sie LOAD: die Maschine liest die Karte in ihre Stellen 001 bis 080.',
+    step: 'Drücken Sie STEP: die Maschine führt einen Befehl aus. Die ersten setzen Wortmarken, die die '
       + 'Karte in Befehle teilen.',
-    'Drücken Sie RUN: die Maschine führt die anderen aus, druckt eine Zeile und hält an. Sehen Sie aufs Papier.',
-    'Die Zeile ist auf dem Papier. Nun Ihr Name: schreiben Sie ihn hier, und stanzen Sie eine eigene Karte.',
-    'Ihre Karte ist im Magazin. Drücken Sie LOAD, um sie zu lesen.',
-    'Drücken Sie RUN, und sehen Sie aufs Papier.',
-  ],
+    run: 'Drücken Sie RUN: die Maschine führt die anderen aus, druckt eine Zeile und hält an. Sehen Sie aufs Papier.',
+    name: 'Die Zeile ist gedruckt. Nun Ihr Name: schreiben Sie ihn hier, und stanzen Sie eine eigene Karte.',
+    loadName: 'Ihre Karte ist im Magazin. Drücken Sie LOAD, um sie zu lesen.',
+    runName: 'Drücken Sie RUN, und sehen Sie aufs Papier.',
+    done: 'Ihr Name ist auf dem Papier. Speichern Sie es, drucken Sie die Karte, oder wählen Sie ein anderes Programm.',
+    other: 'Jemand hat Karten oder ein Programm in der Maschine gelassen. "Von vorn" leert sie; oder machen Sie damit '
+      + 'weiter.',
+    program: 'Das Programm {name} ist in der Maschine. Machen Sie damit weiter; oder drücken Sie "Von vorn", dann '
+      + 'beginnt die Führung.',
+    paper: 'Der Drucker ist voll: er fasst 500 Zeilen. Drücken Sie "Abreißen".',
+  },
   guide: {
     off: 'Die Führung bringt Sie in etwa zwei Minuten zu einer gedruckten Zeile mit Ihrem Namen.',
-    left: 'Jemand hat Karten, Papier oder ein Programm in der Maschine gelassen. "Von vorn" leert sie; '
-      + 'oder machen Sie damit weiter.',
     prepared: 'Das Museum hat diese Maschine vorbereitet: sie begann mit einem Programm oder mit Karten. Drücken Sie '
       + 'LOAD, wenn Karten da sind, dann RUN. "Von vorn" würde sie leeren.',
     preparedAgain: 'Das Museum hat diese Maschine vorbereitet: sie begann mit einem Programm oder mit Karten. Drücken '
       + 'Sie LOAD, wenn Karten da sind, dann RUN. "Von vorn" bringt eine neue, die genauso vorbereitet ist.',
     aside: 'Die Führung ist zur Seite getreten. Sie beginnt wieder, wenn Sie wollen.',
-    done: 'Ihr Name ist auf dem Papier. Sichern Sie es, drucken Sie die Karte, oder wählen Sie ein anderes Programm.',
     attract: 'Niemand ist hier, darum läuft die Maschine allein. Ein Druck auf den Bildschirm oder eine Taste '
       + 'übernimmt sie.',
-    waits: '(Die Führung wartet hier.)',
+  },
+  turn: {
+    busy: 'Platz {seat} ist an der Maschine. Drücken Sie "Anstellen", dann kommen Sie an die Reihe.',
+    next: 'Platz {seat} ist an der Maschine; Sie sind der Nächste.',
+    later: {one: 'Platz {seat} ist an der Maschine. Höchstens 1 anderer Platz ist vor Ihnen dran.',
+      many: 'Platz {seat} ist an der Maschine. Höchstens {n} andere Plätze sind vor Ihnen dran.'},
+    soon: 'Die Maschine ist frei. Der Nächste kommt an die Reihe.',
+    wait: 'Anstellen', leave: 'Nicht mehr warten', give: 'An den Nächsten geben',
+  },
+  childWords: {
+    feed: 'Drücke KARTE. Eine Karte kommt in die Maschine.',
+    load: 'Drücke LOAD. Die Maschine liest die Löcher der Karte.',
+    step: 'Drücke STEP. Die Maschine tut das Erste, was auf der Karte steht.',
+    run: 'Drücke RUN. Die Maschine tut alles andere, und druckt.',
+    name: 'Sie hat gedruckt! Nun schreibe deinen eigenen Namen.', loadName: 'Das ist deine Karte. Drücke LOAD.',
+    runName: 'Drücke RUN, und sieh aufs Papier.', done: 'Da ist dein Name! Drücke KARTE, um neu zu beginnen.',
+    other: 'Vor dir war jemand hier. Drücke LEEREN.',
+    program: 'Das Programm {name} ist in der Maschine. Drücke LEEREN.',
+    paper: 'Das Papier ist voll. Drücke LEEREN.',
+  },
+  childKeys: {feed: 'KARTE', clear: 'LEEREN'},
+  stage: {
+    name: 'IBM 1401', more: 'Mehr', back: 'Zurück', stripLabel: 'Kernspeicher ab {from}, und der Druckbereich',
+    cardRead: 'Die gelesene Karte', cardNext: 'Die nächste Karte', cardNone: 'Noch keine Karte',
+    machines: {reader: 'Kartenleser 1402', unit: 'Computer 1401', printer: 'Drucker 1403'},
+    who: 'Platz {seat} ist an der Maschine', nobody: 'Niemand ist an der Maschine', touch: 'BERÜHRE MICH',
+    leaving: {one: 'Ist noch jemand da? Bitte berühren. (1)', many: 'Ist noch jemand da? Bitte berühren. ({n})'},
+  },
+  homeCode: 'Nimm deine Karte mit: richte ein Telefon hierher.', homeTitle: 'Deine Karte von einer IBM 1401',
+  homeLine: 'Sie hat diese Zeile gedruckt',
+  machinesLabel: 'der Kartenleser, der Computer und der Drucker', moreKey: 'Mehr', whyKey: 'Warum?',
+  watchStop: 'Lauf anhalten', watchHold: 'Für alle halten',
+  tourLabel: 'was die Maschine tut', tourBack: 'Zurück', tourNext: 'Weiter',
+  scenes: {
+    and: ' und ', at: '{n} von {all}', pause: 'Pause', play: 'Weiterlaufen',
+    none: 'Lege eine Karte ein und drücke LOAD. Dann wird hier jeder Schritt erklärt.',
+    load: 'Die Karte ist in der Maschine: jede ihrer 80 Spalten ist nun ein Zeichen in einer der Stellen 001 bis 080.',
+    SW: 'Sie hat Wortmarken bei {places} gesetzt. Eine Wortmarke sagt, dass dort etwas beginnt; sie teilen die Karte.',
+    MCW: 'Sie hat Buchstaben von Stelle {from} an nach Stelle {to} gebracht: "{text}".',
+    W: 'Die Kette des Druckers hat die Stellen ab 201 gedruckt: "{line}".',
+    H: 'Das Programm ist zu Ende, und die Maschine hält an.', A: 'Sie hat die Zahl bei {a} zu der bei {b} addiert.',
+    S: 'Sie hat die Zahl bei {a} von der bei {b} subtrahiert.',
+    other: 'Die Maschine hat ausgeführt: {what}.',
   },
   nameLabel: 'Ihr Name', nameKey: 'Stanzen und einlegen', nameEmpty: 'Schreiben Sie erst einen Namen.',
-  nameWrong: 'Keine Karte hat {letter}.',
+  nameWrong: 'Keine Karte hat {letter}. Wählen Sie einen Namen mit A bis Z.', nameSpelt: 'Auf der Karte: {name}',
+  nameKeys: 'Tasten für Ihren Namen', alphabet: 'ABCDEFGHIJKLMNOPQRSTUVWXYZÄÖÜß', wipe: 'löschen',
   afreshKey: 'Von vorn', afreshTitle: 'leert die Maschine: Karten, Papier, Schalter und Kernspeicher',
   afreshAsk: 'Das leert die Maschine für alle: Karten, Papier, Schalter und Kernspeicher. Was diese Seite abgerissen '
     + 'und genommen hat, ist auch fort. Von vorn beginnen?',
@@ -286,13 +337,13 @@ LANGUAGES.de = {
       + 'Stanzen '
       + 'Sie Ihren Tipp, zwei Ziffern, dann RELEASE und RUN: die Maschine druckt, ob die Zahl größer oder kleiner ist.',
       fed: 'Drücken Sie LOAD, dann RUN. Stanzen Sie dann eine Karte mit zwei Ziffern, und wieder RUN.'},
-    listing: {name: 'Liste', about: 'Druckt und kopiert die Karten nach ihm. Mit Schalter A hält es nach der '
+    listing: {name: 'Liste', about: 'Druckt und kopiert die Karten nach ihr. Mit Schalter A hält es nach der '
       + 'letzten Karte an.',
       fed: 'Schalter A an, LOAD, dann RUN. Bei 100 Schritten je Sekunde sehen Sie zu.'},
   },
   aboutFirst: 'Das ist eine simulierte IBM 1401, ein Rechner von 1959, mit Kartenleser, Stanzer und Drucker. '
     + 'Alles, was '
-    + 'Sie sehen, ist eine Maschine, die alle in diesem Raum teilen.',
+    + 'Sie sehen, ist eine Maschine, die sich alle in diesem Raum teilen.',
   aboutDrawing: 'Karten gehen vom Leser zur Recheneinheit, Ergebnisse von dort zum Drucker und zum Stanzer.',
   aboutParts: {reader: ['Kartenleser', 'und Stanzer'], unit: ['Recheneinheit', 'mit Kernspeicher'],
     printer: ['Drucker', '132 Spalten'],
@@ -315,7 +366,7 @@ LANGUAGES.de = {
   aboutNumbers: 'Die Seite fragt die Maschine viermal in der Sekunde, und jedes Bild ist von einem Augenblick. Im '
     + 'Tempo von '
     + '1960 wartet sie so lange, wie Leser, Stanzer und Drucker brauchten. Jede Operation des Simulators wurde '
-      + 'bewiesen.',
+      + 'als korrekt bewiesen.',
   shortcutsTitle: 'Tasten',
   shortcuts: [
     ['Alt+F', 'legt das gewählte Programm ein'], ['Alt+L', 'LOAD'], ['Alt+R', 'RUN'], ['Escape', 'STOP'],

@@ -56,18 +56,19 @@ header button,header select{background:var(--panel);border:1px solid var(--faint
 padding:4px 10px;color:var(--ivory);font-size:13px;}
 header button[aria-pressed=true]{background:var(--lamp);color:#2b1d00;}
 header button:hover{background:var(--panel-light);color:var(--ivory);}
-.notice{background:var(--ink);color:#fff;font-weight:700;padding:9px 14px;}
+.notice{position:fixed;inset:auto 0 0;z-index:6;pointer-events:none;background:var(--ink);
+color:#fff;font-weight:700;padding:9px 14px;}
 .banner{background:var(--red);color:#fff;font-weight:700;padding:9px 14px;}
 main{padding:8px 10px;max-width:2200px;margin:auto;}
-.stage{display:grid;gap:8px 10px;grid-template:"stand printer" auto "console printer" minmax(210px, 1fr)
-/ minmax(380px, 1fr) minmax(0, max(932px, 57%));}
-.stand{grid-area:stand;display:flex;flex-direction:column;gap:8px;min-width:0;}
-.below{display:grid;grid-template-columns:minmax(0, 1fr) minmax(0, 1fr);gap:10px;margin-top:10px;
-align-items:start;}
+.stage{display:grid;gap:8px 10px;align-items:start;grid-template:
+"desk printer" auto "desk core" auto "cards core" 1fr / minmax(360px, 1fr) minmax(0, max(932px, 57%));}
+.stand{grid-area:desk;display:flex;flex-direction:column;gap:8px;min-width:0;}
+.reader{grid-area:cards;}
+.below{margin-top:10px;}
 section{background:var(--cabinet);border:1px solid var(--edge);border-radius:6px;min-width:0;
 box-shadow:0 1px 0 #fff inset,0 2px 5px #0002;display:flex;flex-direction:column;}
-.printing{grid-area:printer;height:max(520px, 100vh - 76px);position:sticky;top:8px;}
-.console{grid-area:console;}
+.printing{grid-area:printer;}
+.storage{grid-area:core;}
 .title{display:flex;flex-wrap:wrap;gap:4px 14px;align-items:center;padding:4px 12px;min-height:34px;
 border-bottom:1px solid var(--edge);}
 h2{margin:0;font-size:12px;letter-spacing:.14em;text-transform:uppercase;font-weight:700;
@@ -76,6 +77,7 @@ color:var(--soft);}
 .small-key{border:1px solid #8d8878;background:#fffdf6;border-radius:4px;padding:4px 11px;font-size:13px;}
 .small-key:hover:not([aria-disabled=true]){background:var(--warm);}
 .small-key[aria-disabled=true]{color:#585851;background:#e4e0d4;}
+.small-key[aria-pressed=true]{background:var(--blue);color:#fff;box-shadow:0 2px 4px #0006 inset;}
 .small-key.main{background:var(--blue);border-color:var(--blue);color:#fff;font-weight:700;}
 .small-key.main:hover:not([aria-disabled=true]){background:#1e4a6e;}
 .small-key.main[aria-disabled=true]{background:#e4e0d4;border-color:#8d8878;color:#585851;}
@@ -90,16 +92,36 @@ details>summary:hover{color:var(--ink);}
 border-top:4px solid #8d8878;padding-top:4px;counter-increment:step;}
 .steps li::before{content:counter(step) " ";}
 .steps li.done{border-top-color:var(--green);}
-.steps li.done::before{content:"\2713 ";}
-.steps li[aria-current]{border-top-color:var(--lit);color:var(--ink);font-weight:700;}
-.guide p{margin:0;padding:6px 12px 8px;min-height:3.9em;}
+.steps li.done::before{content:"\2713\a0";}
+.steps li[aria-current]{border-top-color:var(--lit);color:var(--ink);}
+.guide{position:relative;}
+.probe{position:absolute;visibility:hidden;min-height:0 !important;inset:0 0 auto;}
+.guide p{margin:0;padding:6px 12px 8px;}
 .guide .row{padding:0 12px 9px;margin:0;}
+.guide .over-parts{position:absolute;inset:100% -1px auto;z-index:5;padding:10px 12px;
+background:var(--cabinet);border:1px solid var(--edge);border-radius:0 0 6px 6px;
+box-shadow:0 6px 14px #0005;}
+.name-keys{display:grid;grid-template-columns:repeat(auto-fill, minmax(44px, 1fr));gap:5px;flex:1 1 100%;}
+.name-keys button{height:44px;border:0;border-radius:4px;background:#2d3338;color:#fff;
+font:700 17px var(--mono);box-shadow:0 2px 0 #14181b;}
+.name-keys .wide{grid-column:span 2;background:var(--ivory);color:#1f2225;font:700 14px var(--sans);}
+.name-keys button:active{transform:translateY(2px);box-shadow:none;}
+#name-words{flex:1 1 100%;min-height:1.4em;}
 #name{width:15em;font:15px var(--mono);padding:4px 8px;text-transform:uppercase;border:1px solid #8d8878;
 border-radius:4px;background:#fff;}
-.lit{outline:4px solid var(--lit) !important;outline-offset:2px;animation:lit 1.2s infinite alternate;}
+.lit{outline:4px solid var(--lit) !important;outline-offset:2px;animation:lit 1.2s steps(3) infinite alternate;}
 .board .lit{outline-color:var(--lamp) !important;}
+.lit[aria-disabled=true]{outline:0 !important;animation:none;}
 @keyframes lit{from{outline-offset:1px;}to{outline-offset:4px;}}
 .attracts .guide{border:2px solid var(--lit);}
+#home-figure{position:absolute;top:100%;right:8px;z-index:4;width:230px;padding:8px;background:#fff;
+border:1px solid var(--edge);border-radius:6px;font-size:13px;text-align:center;}
+#home-code{width:100%;display:block;}
+#home-code .ground{fill:#fff;}
+.home-page{padding:16px;max-width:1100px;margin:auto;}
+.home-page pre{font:700 max(20px, 2.4vw)/1.5 var(--mono);background:var(--paper);border:solid #8f8a7a;
+border-width:1px 12px;padding:8px 14px;margin:8px 0;overflow-x:auto;}
+.home>header,.home>main,.home>footer,.home .banner,.home .skip{display:none;}
 .board{background:linear-gradient(var(--panel-light), var(--panel));color:var(--ivory);padding:10px 12px;
 display:flex;flex-wrap:wrap;gap:9px 14px;align-items:flex-end;align-content:flex-start;flex:1;}
 .shown{display:flex;flex-wrap:wrap;gap:6px 12px;}
@@ -123,14 +145,14 @@ white-space:pre;overflow:hidden;min-height:30px;}
 background:linear-gradient(#dcd5c0 50%, #a9a28d 50%);font:700 13px var(--mono);}
 .switches button[aria-pressed=true]{background:linear-gradient(#a9a28d 50%, #ffdf9d 50%);padding:16px 0 0;}
 .keys{flex:1 1 100%;display:flex;flex-wrap:wrap;gap:8px;align-items:flex-end;}
-.key{border:0;border-radius:4px;min-width:58px;height:40px;padding:0 10px;font-weight:700;
+.key{border:0;border-radius:4px;min-width:58px;height:44px;padding:0 10px;font-weight:700;
 font-size:13px;letter-spacing:.07em;background:var(--ivory);color:#1f2225;box-shadow:0 3px 0 #8f8a79;}
 .key.go{background:var(--green);color:#fff;box-shadow:0 3px 0 #174a2e;}
 .key.halt{background:var(--red);color:#fff;box-shadow:0 3px 0 #651a0f;}
 .key:active:not([aria-disabled=true]){transform:translateY(2px);box-shadow:none;}
 .key[aria-disabled=true]{background:var(--off);color:#d5dce2;box-shadow:none;}
 .start{display:flex;align-items:flex-end;}
-.start input{width:4.6em;height:40px;border:0;border-radius:4px 0 0 4px;background:var(--well);
+.start input{width:4.6em;height:44px;border:0;border-radius:4px 0 0 4px;background:var(--well);
 color:var(--lamp);font:700 17px var(--mono);text-align:center;padding:0;}
 .start .key{border-radius:0 4px 4px 0;}
 .pace{margin-left:auto;}
@@ -236,8 +258,7 @@ padding:0 6px;font:700 14px var(--mono);box-shadow:0 2px 0 #14181b;}
 font:700 12px var(--sans);}
 #card-to-print{display:none;}
 .keyboard button:active{transform:translateY(2px);box-shadow:none;}
-.printer{display:grid;grid-template:minmax(0, 1fr) / 30px minmax(0, 1fr);gap:6px;padding:6px;
-flex:1 1 0;min-height:300px;}
+.printer{display:grid;grid-template:minmax(0, 1fr) / 30px minmax(0, 1fr);gap:6px;padding:6px;}
 .tape{width:30px;height:100%;}
 .tape .strip{fill:#fbf6e4;stroke:#b3a885;}
 .tape .hole{fill:#2c271d;}
@@ -246,7 +267,7 @@ flex:1 1 0;min-height:300px;}
 .machine{min-width:0;display:flex;flex-direction:column;container-type:inline-size;}
 .slot{flex:0 0 13px;background:linear-gradient(#5d646a, #2b2f33);border-radius:5px 5px 2px 2px;}
 .fold{margin:0 2px;overflow:auto;background:#a6a294;box-shadow:0 4px 9px #0003;position:relative;
-scrollbar-width:thin;flex:1 1 0;min-height:0;}
+scrollbar-width:thin;height:clamp(110px,calc(var(--lines, 0) * 1.1em + 100px),46vh);}
 .sheet{position:relative;border-bottom:1px dashed #8f8a7a;padding:0 16px;width:calc(32px + 79.6em);
 min-width:100%;font:max(11px,calc((100cqi - 48px) / 79.6))/1.18 var(--mono);
 background:repeating-linear-gradient(var(--paper) 0 3.54em, var(--bar) 3.54em 7.08em);}
@@ -261,7 +282,10 @@ background:radial-gradient(circle at 50% 50%, #8f8a7a 0 .42em, transparent .48em
 .paper-keys{display:flex;flex-wrap:wrap;gap:8px;padding:0 14px 11px;align-items:center;font-size:13px;
 color:var(--soft);}
 #sheets-to-print{display:none;}
-.log{flex:1 1 0;min-height:90px;overflow:auto;padding:9px 15px;
+.newest{display:none;position:fixed;inset:auto 0 0;z-index:4;padding:6px 14px;
+font:700 17px/1.4 var(--mono);
+white-space:pre;overflow:hidden;color:var(--print-ink);background:var(--bar);border-top:2px solid #8f8a7a;}
+.log{height:250px;overflow:auto;padding:9px 15px;
 font:14px/20px var(--mono);background:var(--log);border-bottom:1px solid var(--edge);}
 .log p{margin:0;white-space:pre-wrap;}
 .log .you{color:var(--blue);}
@@ -292,15 +316,142 @@ dialog dd{margin:0 0 5px;}
 dialog svg text{fill:#fff;font-size:14px;text-anchor:middle;}
 dialog svg rect{fill:#2e3e4d;stroke:#c3ccd3;}
 dialog svg path{stroke:#ffb238;stroke-width:3;fill:none;}
+.stage-screen{position:fixed;inset:0;z-index:2;container-type:size;overflow:hidden;
+background:var(--room);}
+.exhibit,.watch{overflow:hidden;padding:0;}
+.exhibit>header,.exhibit>.skip,.exhibit>footer,.exhibit .newest,.watch>header,.watch>.skip,
+.watch>main,
+.watch>footer,.watch .newest{display:none;}
+.exhibit>main{display:none;}
+.exhibit.more>main{display:block;position:fixed;inset:60px 0 0;z-index:6;overflow:auto;
+background:var(--room);}
+.exhibit .console,.exhibit .guide,.exhibit #pick-key,.exhibit .paper-keys,.exhibit #save-cards-key,
+.exhibit .notice,
+.exhibit #card-print-key,.exhibit .reader .title small,.exhibit .said code{display:none !important;}
+.exhibit #watch-stop,.exhibit #watch-hold,.watch #more-key,.watch #turn-key,.watch #why-key,.watch .stage-keys,
+.watch .stage-said,.watch #name-form{display:none !important;}
+.stage-screen>*{position:absolute;left:14px;right:14px;margin:0;}
+.stage-screen button,.stage-screen select{min-height:56px;min-width:56px;font-size:17px;}
+.stage-head{top:0;height:60px;display:flex;align-items:center;gap:14px;left:0;right:0;padding:0 14px;
+background:var(--panel);color:var(--ivory);border-bottom:4px solid var(--blue);z-index:7;}
+.stage-screen>.stage-head{left:0;right:0;}
+.stage-head h1{margin:0;font-size:min(26px, 5.4cqw);}
+.stage-head div{margin-left:auto;display:flex;gap:8px;}
+.stage-head button,.stage-head select{min-height:48px;background:var(--panel);color:var(--ivory);
+border:1px solid
+var(--faint);border-radius:4px;padding:0 12px;}
+.stage-head .small-key:hover:not([aria-disabled=true]){background:var(--panel-light);}
+#machines{top:66px;height:21cqh;width:calc(100% - 28px);}
+#machines text{font:700 17px var(--sans);fill:var(--ink);text-anchor:middle;}
+#machines .cabinet{fill:var(--cabinet);stroke:var(--edge);stroke-width:2;}
+#machines .tray,#machines .slot{fill:var(--panel);stroke:#8d8878;}
+#machines .pile{fill:var(--card);stroke:#8a6d2c;}
+#machines .pile.none{visibility:hidden;}
+#machines .light{fill:#0b0f13;stroke:var(--off);stroke-width:2;}
+#machines .light.on{fill:var(--lamp);stroke:#fff1cf;}
+#machines .paper{fill:var(--paper);stroke:#8f8a7a;}
+#machines .row{fill:var(--print-ink);}
+#machines .chain{stroke:#d5dce2;stroke-width:8;stroke-dasharray:7 5;}
+.stage-screen #stage-card{top:calc(74px + 21cqh);height:29cqh;right:auto;width:min(47cqw, 76cqh);}
+#stage-card svg{height:calc(100% - 22px);width:100%;}
+#stage-card figcaption{font-size:15px;font-weight:700;color:var(--ink);}
+#stage-card .cuts{stroke:var(--room);stroke-width:2.4;}
+#stage-card .lit-part{fill:var(--lamp);opacity:.45;}
+.stage-screen .strip{top:calc(74px + 21cqh);height:29cqh;left:auto;width:min(49cqw, 90cqh);display:grid;
+gap:1px;
+grid-template-columns:2.6em repeat(20, minmax(0, 1fr));font:700 min(1.9cqw, 3.4cqh)/1.35 var(--mono);}
+.strip b{font-size:.72em;color:var(--soft);align-self:center;}
+.strip span{background:var(--read);text-align:center;border-bottom:4px solid transparent;overflow:hidden;}
+.strip .print{background:var(--print);}
+.strip .mark{border-bottom-color:#14181c;}
+.strip .next{background:var(--next);color:#fff;}
+.strip .next.mark{border-bottom-color:var(--lamp);}
+.strip .touched{background:var(--lamp);color:#2b1d00;}
+.stage-screen .tour{top:66px;height:21cqh;padding:8px 14px;background:var(--paper);
+border:3px solid var(--blue);
+border-radius:8px;display:flex;gap:10px 16px;align-items:center;justify-content:space-between;z-index:3;}
+.tour p{margin:0;font-size:min(26px, 3.6cqh);font-weight:700;flex:1;}
+.tour div{display:flex;gap:8px;align-items:center;flex-wrap:wrap;}
+.tour button,#why-key{border:1px solid #8d8878;border-radius:6px;background:#fffdf6;padding:0 14px;
+font-weight:700;}
+.tour button[aria-disabled=true]{color:#585851;background:#e4e0d4;}
+#why-key[aria-pressed=true]{background:var(--blue);color:#fff;box-shadow:0 2px 4px #0006 inset;}
+.stage-screen .band{top:calc(84px + 50cqh);max-height:calc(48cqh - 190px);overflow:hidden;display:flex;
+flex-direction:column;justify-content:flex-end;background:var(--paper);border:solid #8f8a7a;
+border-width:0 12px 1px;}
+.band p{margin:0;padding:0 10px;font:max(24px,min(4.4cqh, 158cqw / var(--columns, 26)))/1.4 var(--mono);
+white-space:pre;color:var(--print-ink);flex:none;}
+.band p:nth-last-child(even){background:var(--bar);}
+.band p:last-child{font-weight:700;}
+.stage-screen .stage-said{bottom:14px;right:auto;width:calc(100% - 28px - 110px - min(560px, 52cqw));
+height:92px;
+display:flex;align-items:center;background:var(--cabinet);border-radius:6px;padding:6px 12px;
+overflow:hidden;}
+.stage-said p{margin:0;font-size:min(30px, 2.1cqw);font-weight:700;line-height:1.2;}
+.stage-screen #guide-said{min-height:0 !important;}
+.stage-screen #why-key{bottom:14px;height:92px;width:92px;left:auto;right:calc(24px + min(560px, 52cqw));}
+.stage-screen .stage-keys{bottom:14px;height:92px;left:auto;width:min(560px, 52cqw);display:grid;gap:10px;
+grid-template-columns:repeat(4, minmax(0, 1fr));}
+.stage-screen .stage-keys button{height:auto;min-height:64px;min-width:0;padding:0 4px;
+font-size:min(22px, 2.2cqw);font-weight:700;
+border-radius:8px;}
+.stage-keys .small-key.main{background:var(--blue);}
+.stage-screen #name-form{inset:66px 14px auto;z-index:4;padding:14px;border-radius:8px;
+box-shadow:0 8px 30px #0006;
+background:var(--cabinet);margin:0;font-size:20px;}
+.stage-screen #name{font-size:24px;height:56px;width:min(15em, 60cqw);}
+.stage-screen .name-keys{grid-template-columns:repeat(auto-fill, minmax(56px, 1fr));}
+.stage-screen .name-keys button{font-size:22px;}
+.stage-screen .leaving{inset:30% 14px auto;z-index:9;background:var(--ink);color:#fff;text-align:center;
+border-radius:10px;padding:20px;font-size:min(34px, 6cqw);font-weight:700;}
+.stage-screen .touch-me{inset:calc(100cqh - max(120px, 20cqh)) 0 0;z-index:8;display:grid;place-items:center;
+text-align:center;
+background:#10171dd9;color:#fff;}
+.touch-me p{margin:0;font-size:max(60px, 9cqh);line-height:1.1;font-weight:700;}
+#stage #home-figure{top:auto;left:auto;right:14px;bottom:116px;width:min(240px, 30cqh);z-index:3;}
+.watch .band{max-height:calc(50cqh - 100px);}
+.watch .strip{font-size:max(24px, min(1.9cqw, 3.4cqh));}
+.stage-head #stage-who{font-size:24px;}
+@container (max-width:640px){
+.stage-screen>*{left:8px;right:8px;}
+.stage-screen>.stage-head{padding:0 6px;gap:6px;}
+.stage-head h1{font-size:15px;}
+.stage-head div{gap:4px;}
+.stage-head button,.stage-head select{padding:0 6px;font-size:14px;}
+.stage-head select{max-width:84px;}
+#more-key{white-space:nowrap;}
+#machines{height:12cqh;width:calc(100% - 16px);}
+.stage-screen #stage-card{top:calc(70px + 12cqh);height:19cqh;width:calc(100% - 16px);}
+.stage-screen .strip{top:calc(74px + 31cqh);height:18cqh;left:8px;width:auto;
+font-size:min(3.6cqw, 2.2cqh);}
+.stage-screen .tour{height:calc(4px + 31cqh);flex-direction:column;top:66px;}
+.tour p{font-size:20px;}
+.stage-screen .band{top:calc(80px + 49cqh);max-height:calc(50cqh - 290px);border-width:0 6px 1px;}
+.band p{padding:0 4px;}
+.stage-screen .stage-said{bottom:92px;height:88px;width:calc(100% - 16px - 82px);right:auto;}
+.stage-said p{font-size:16px;}
+.stage-screen #why-key{bottom:92px;right:8px;width:74px;height:88px;padding:0;}
+.stage-screen .stage-keys{bottom:10px;height:72px;width:calc(100% - 16px);gap:6px;}
+.stage-screen .stage-keys button{font-size:15px;}
+.stage-screen #name-form{inset:66px 8px auto;font-size:17px;padding:10px;}
+.stage-screen .name-keys{grid-template-columns:repeat(auto-fill, minmax(44px, 1fr));}
+.stage-screen .name-keys button{min-width:44px;min-height:50px;}
+.touch-me p{font-size:60px;}
+#stage #home-figure{bottom:190px;width:150px;}
+}
 @media (max-width:1579px){
 .tape{display:none;}
 .printer{grid-template:minmax(0, 1fr) / minmax(0, 1fr);padding:4px;}
 }
 @media (max-width:1299px){
-.stage{grid-template:"stand" "printer" "console" / minmax(0, 1fr);}
-.printing{position:static;height:max(400px, min(760px, 80vh));}
-.console{min-height:260px;}
-.below{grid-template-columns:minmax(0, 1fr);}
+.stage{grid-template-columns:minmax(360px, 400px) minmax(0, 1fr);}
+.pair{grid-template-columns:minmax(0, 1fr);}
+}
+@media (max-width:899px){
+.stage{grid-template:"desk" "printer" "core" "cards" / minmax(0, 1fr);}
+.newest{display:block;}
+.notice{bottom:38px;}
+body{padding-bottom:44px;}
 }
 @media (max-width:640px){
 main{padding:6px;}
@@ -315,6 +466,12 @@ main{padding:6px;}
 .lines td:first-child{white-space:normal;}
 .lines td{padding-right:8px;}
 }
+@media (min-width:3000px){
+body{zoom:1.75;}
+}
+@media (pointer:coarse){
+button,select,summary,.find label{min-height:44px;min-width:44px;}
+}
 @media (prefers-reduced-motion:reduce){
 *{animation:none !important;transition:none !important;scroll-behavior:auto !important;}
 }
@@ -326,7 +483,9 @@ color:CanvasText;border-bottom-color:Canvas;border-top-color:Canvas;}
 .core td.next.mark.mark{border-bottom-color:HighlightText;}
 .lamp,.bulbs i,header .after i{forced-color-adjust:none;background:Canvas;color:CanvasText;
 border:1px solid CanvasText;}
-.lamp.on,.bulbs i.on{background:Highlight;color:HighlightText;border:3px solid CanvasText;}
+.bulbs i{line-height:13px;}
+.lamp.on{border:3px solid CanvasText;}
+.lamp.on,.bulbs i.on{background:Highlight;color:HighlightText;}
 .switches button,.keyboard button,.key,.tabs button,header button{border:1px solid ButtonText;}
 [aria-pressed=true]{forced-color-adjust:none;background:Highlight !important;color:HighlightText !important;}
 .seats a[aria-current]{forced-color-adjust:none;background:Highlight;color:HighlightText;}
@@ -367,23 +526,53 @@ background-color:#fff;}
 <div class="notice" id="notice" role="status" hidden><span id="notice-words"></span><span id="notice-left"
 aria-hidden="true"></span></div>
 <noscript><p class="banner">This page needs JavaScript, which it has within itself.</p></noscript>
+<div class="home-page" id="home" hidden>
+<h1 data-text="homeTitle"></h1>
+<figure class="card" id="home-card"></figure>
+<h2 data-text="homeLine"></h2><pre id="home-line"></pre>
+</div>
+<div class="stage-screen" id="stage" hidden>
+<div class="stage-head"><h1 id="stage-name"></h1><span id="stage-who"></span><div id="stage-more">
+<button type="button" class="small-key" id="watch-stop" data-text="watchStop"></button>
+<button type="button" class="small-key" id="watch-hold" data-text="watchHold" aria-pressed="false"></button>
+<button type="button" class="small-key" id="more-key" data-text="moreKey" aria-expanded="false"></button>
+</div></div>
+<svg id="machines" viewBox="0 0 900 180" role="img" data-label="machinesLabel"></svg>
+<figure class="card" id="stage-card"><figcaption id="stage-card-name"></figcaption></figure>
+<div class="strip" id="strip" role="img"></div>
+<div class="tour" id="tour" role="group" data-label="tourLabel" hidden>
+<p id="tour-words" aria-live="polite"></p>
+<div><button type="button" id="tour-back" data-text="tourBack"></button>
+<button type="button" id="tour-pause"></button>
+<button type="button" id="tour-next" data-text="tourNext"></button><span id="tour-at"></span></div></div>
+<div class="band" id="band" role="region" data-label="paperLabel"></div>
+<div class="stage-said" id="stage-said"></div>
+<button type="button" id="why-key" data-text="whyKey" aria-pressed="false"></button>
+<div class="stage-keys" id="stage-keys"></div>
+<div class="leaving" id="leaving" role="alert" hidden><p id="leaving-words"></p></div>
+<div class="touch-me" id="touch-me" hidden><p id="touch-words"></p></div>
+</div>
 <main>
 <div class="stage">
 <div class="stand">
 <section class="guide" id="guide" aria-labelledby="guide-title">
 <div class="title"><h2 id="guide-title" data-text="guideTitle"></h2>
+<button type="button" class="small-key" id="turn-key" hidden></button>
 <button type="button" class="small-key" id="guide-key"></button>
 <button type="button" class="small-key" id="afresh-key" data-text="afreshKey" data-title="afreshTitle"></button>
 </div>
 <ol class="steps" id="guide-steps"></ol>
-<p id="guide-now"></p>
-<form class="row" id="name-form" hidden>
+<div id="guide-said"><p id="guide-now" aria-live="polite"></p>
+<div class="row" id="guide-end" hidden>
+<button type="button" class="small-key" id="card-print-key" data-text="cardPrintKey"></button></div></div>
+<figure id="home-figure" hidden><figcaption data-text="homeCode"></figcaption>
+<svg id="home-code" role="img" data-label="homeCode"></svg></figure>
+<form class="row over-parts" id="name-form" hidden>
 <label><span data-text="nameLabel"></span> <input id="name" maxlength="40" autocomplete="off"
 spellcheck="false" autocapitalize="characters"></label>
 <button class="small-key main" id="name-key" data-text="nameKey"></button>
-<span class="wrong" id="name-words"></span></form>
-<div class="row" id="guide-end" hidden>
-<button type="button" class="small-key" id="card-print-key" data-text="cardPrintKey"></button></div>
+<span id="name-words" role="status"></span>
+<div class="name-keys" id="name-keys" role="group" data-label="nameKeys"></div></form>
 </section>
 <section class="feeder" id="feeder" aria-labelledby="feeder-title">
 <h2 id="feeder-title" class="unseen" data-text="feeder"></h2>
@@ -456,18 +645,6 @@ data-label="startLabel">
 <button type="button" class="small-key" id="drop-key" data-text="dropKey" hidden></button>
 </div>
 </section>
-<section class="console" aria-labelledby="console-title">
-<div class="title"><h2 id="console-title" data-text="console"></h2><small id="others"></small>
-<button type="button" class="small-key" id="hold-key" data-title="holdTitle" hidden></button></div>
-<div class="log" id="log" role="log" aria-live="off" tabindex="0" data-label="logLabel"></div>
-<form id="line-form">
-<input id="line" maxlength="200" autocomplete="off" autocapitalize="characters" spellcheck="false"
-data-label="lineLabel" data-hint="lineHint"><button id="send-key" data-text="sendKey"></button></form>
-<details id="lines-details"><summary data-text="linesTitle"></summary>
-<table class="lines" id="lines"></table></details>
-</section>
-</div>
-<div class="below">
 <section class="storage" aria-labelledby="core-title">
 <div class="title"><h2 id="core-title" data-text="core"></h2>
 <span class="tabs" id="tabs" role="group" data-label="tabsLabel"></span></div>
@@ -485,9 +662,9 @@ autocomplete="off"></label>
 <span><i class="next"></i><span data-text="legendNext"></span></span>
 <span><i class="mark"></i><span data-text="legendMark"></span></span>
 </div>
-<details id="core-details"><summary data-text="coreText"></summary>
+<details id="core-details" data-label="coreText"><summary data-text="coreText"></summary>
 <pre class="as-text" id="core-text" tabindex="0" data-label="coreText"></pre></details>
-<details id="source-details" open><summary id="source-title"></summary>
+<details id="source-details" aria-labelledby="source-title" open><summary id="source-title"></summary>
 <p class="about-program" id="source-about"></p>
 <pre class="as-text" id="source" tabindex="0" role="region" data-label="sourceLabel"></pre></details>
 </section>
@@ -507,7 +684,8 @@ autocomplete="off"></label>
 <button type="button" class="small-key" id="feed-again-key" data-text="feedAgainKey" hidden></button>
 <span class="how" id="taken-words" role="status"></span>
 </div>
-<details class="desk" id="keypunch"><summary data-text="keypunch"></summary><div class="inside">
+<details class="desk" id="keypunch" data-label="keypunch"><summary data-text="keypunch"></summary>
+<div class="inside">
 <figure class="card" id="card-keyed"></figure>
 <input class="keyed" id="keyed" maxlength="80" spellcheck="false" autocomplete="off" autocapitalize="characters"
 data-label="keyedLabel">
@@ -516,13 +694,26 @@ data-label="keyedLabel">
 <button type="button" class="small-key" id="program-key" data-text="programKey"></button>
 <span id="keyed-words"></span></div>
 </div></details>
-<details class="desk"><summary data-text="typedDeck"></summary><div class="inside">
+<details class="desk" data-label="typedDeck"><summary data-text="typedDeck"></summary><div class="inside">
 <textarea id="deck" rows="6" spellcheck="false" autocapitalize="characters" data-label="typedDeck"></textarea>
 <div class="row"><button type="button" class="small-key main" id="deck-key" data-text="deckKey"></button></div>
 </div></details>
 </section>
 </div>
+<div class="below">
+<section class="console" aria-labelledby="console-title">
+<div class="title"><h2 id="console-title" data-text="console"></h2><small id="others"></small>
+<button type="button" class="small-key" id="hold-key" data-title="holdTitle" hidden></button></div>
+<div class="log" id="log" role="log" aria-live="off" tabindex="0" data-label="logLabel"></div>
+<form id="line-form">
+<input id="line" maxlength="200" autocomplete="off" autocapitalize="characters" spellcheck="false"
+data-label="lineLabel" data-hint="lineHint"><button id="send-key" data-text="sendKey"></button></form>
+<details id="lines-details" data-label="linesTitle"><summary data-text="linesTitle"></summary>
+<table class="lines" id="lines"></table></details>
+</section>
+</div>
 </main>
+<div class="newest" id="newest" aria-hidden="true" hidden></div>
 <footer data-text="footer"></footer>
 <dialog id="help" aria-labelledby="help-title">
 <h2 id="help-title" data-text="shortcutsTitle"></h2><table class="lines" id="help-shortcuts"></table>
@@ -549,8 +740,13 @@ const PROGRAM_FILES = {"banner":{"source":"~F* A BANNER: THE LETTERS OF COLUMNS 
 const LANGUAGES={};
 let TEXTS;
 function languageWanted(){
-const known=navigator.languages.map(name=>name.slice(0,2)).find(name=>name in LANGUAGES);
-return known||'en';
+const asked=[FRAGMENT.get('lang'),...navigator.languages].filter(Boolean),known=Object.keys(LANGUAGES);
+const first=tag=>tag.split('-')[0];
+for(const wanted of asked){
+const found=known.find(tag=>tag===wanted)||known.find(tag=>first(tag)===first(wanted));
+if(found)return found;
+}
+return 'en';
 }
 function chooseLanguage(name){
 TEXTS=LANGUAGES[name];
@@ -558,7 +754,7 @@ putTexts();
 drawAnew();
 }
 LANGUAGES.en={
-language:'en',name:'English',languageLabel:'language',thousands:',',
+language:'en',name:'English',dir:'ltr',languageLabel:'language',thousands:',',
 documentTitle:'IBM 1401, seat {seat}',
 skip:'To the deck and the keys',
 headline:'Data processing system',subline:'Shared machine room',
@@ -682,6 +878,8 @@ full:'The journal is full, so the machine takes no more commands. Please call th
 nearlyFull:'The journal has {n} of its 100,000 entries. Please call the staff.',
 refusedStatus:'The server refused what this page asked for ({status}).',
 unread:'This page doesn\'t understand what the server shows. Is the page of another version?',
+proxyAlone:'The proxy answers, but the room doesn\'t. Start the room; this page then goes on by itself.',
+foreign:'The room doesn\'t know this page\'s address. Start it with --origin and the address that is shown above.',
 noMemory:'The server had no memory for a picture. This page tries again.',
 outcomes:{
 off:'Not sent: the machine doesn\'t take commands now.',
@@ -722,6 +920,9 @@ resumed:'The room was opened again; its machine is as you see it.',
 renewing:'A new machine is asked for ..',
 clearing:'The machine is being cleared ..',clear:'The machine is clear: no card, no paper, nothing in core.',
 prepared:'A new machine is here, with what the staff has prepared.',
+nothing:'The machine is empty: feed a program first.',
+loadFirst:'Nothing is in core storage yet: press LOAD first.',
+yourTurn:'It is your turn.',
 notClear:'The machine isn\'t clear. Perhaps somebody else is at work. Try again.',
 },
 stops:{
@@ -776,31 +977,74 @@ lines:[
 guideTitle:'Your first program',guideOn:'Begin the guide',guideOff:'Without the guide',
 guideSteps:['Feed','LOAD','STEP','RUN','Your name'],stepDone:'step {n}, {name}: done',
 stepOpen:'step {n}, {name}',
-guideWords:[
-'Press "Feed this program": a card with the program Hello goes into the hopper. One card is a whole program.',
-'Press LOAD: the machine reads the card into its places 001 to 080.',
-'Press STEP: the machine carries out one instruction. The first ones set word marks, which divide the '
+guideWords:{
+feed:'Press "Feed this program": a card with the program Hello goes into the hopper. One card is a whole program.',
+load:'Press LOAD: the machine reads the card into its places 001 to 080.',
+step:'Press STEP: the machine carries out one instruction. The first ones set word marks, which divide the '
 + 'card into instructions.',
-'Press RUN: the machine carries out the others, prints a line, and halts. Watch the paper.',
-'The line is on the paper. Now your name: write it here, and punch a card of your own.',
-'Your card is in the hopper. Press LOAD to read it.',
-'Press RUN, and look at the paper.',
-],
+run:'Press RUN: the machine carries out the others, prints a line, and halts. Watch the paper.',
+name:'The line is printed. Now your name: write it here, and punch a card of your own.',
+loadName:'Your card is in the hopper. Press LOAD to read it.',
+runName:'Press RUN, and look at the paper.',
+done:'Your name is on the paper. Save it, print the card to take home, or choose another program.',
+other:'Somebody has left cards or a program in the machine. Press "Start afresh" to clear it; or go on with it.',
+program:'The program {name} is in the machine. Go on with it; or press "Start afresh", and the guide begins.',
+paper:'The printer is full: it holds 500 lines. Press "Tear off" to go on.',
+},
 guide:{
 off:'The guide leads you to a printed line with your name, in about two minutes.',
-left:'Somebody has left cards, paper or a program in the machine. Press "Start afresh" to clear it; or go on '
-+ 'with it.',
 prepared:'The staff has prepared this machine: it was begun with a program or with cards. Press LOAD if there are '
 + 'cards, then RUN. "Start afresh" would clear it.',
 preparedAgain:'The staff has prepared this machine: it was begun with a program or with cards. Press LOAD if '
 + 'there are cards, then RUN. "Start afresh" brings a new one, prepared in the same way.',
 aside:'The guide has stepped aside. It begins again when you like.',
-done:'Your name is on the paper. Save it, print the card to take home, or choose another program.',
 attract:'Nobody is here, so the machine runs by itself. Touch the screen or a key to take over.',
-waits:'(The guide waits here.)',
+},
+turn:{
+busy:'Seat {seat} is at the machine. Press "Wait in line", and your turn comes.',
+next:'Seat {seat} is at the machine; you are next.',
+later:{one:'Seat {seat} is at the machine. At most 1 other seat comes before you.',
+many:'Seat {seat} is at the machine. At most {n} other seats come before you.'},
+soon:'The machine is free. The next in line is called.',
+wait:'Wait in line',leave:'Leave the line',give:'Give it to the next',
+},
+childWords:{
+feed:'Press FEED. A card goes into the machine.',load:'Press LOAD. The machine reads the holes of the card.',
+step:'Press STEP. The machine does the first thing that the card asks for.',
+run:'Press RUN. The machine does all the rest, and prints.',
+name:'It has printed! Now write your own name.',loadName:'This is your card. Press LOAD.',
+runName:'Press RUN, and look at the paper.',done:'There is your name! Press FEED to begin again.',
+other:'Somebody was here before you. Press CLEAR.',program:'The program {name} is in the machine. Press CLEAR.',
+paper:'The paper is full. Press CLEAR.',
+},
+childKeys:{feed:'FEED',clear:'CLEAR'},
+stage:{
+name:'IBM 1401',more:'More',back:'Back',stripLabel:'core storage from {from} on, and the print area',
+cardRead:'The card that was read',cardNext:'The next card',cardNone:'No card yet',
+machines:{reader:'Card reader 1402',unit:'Computer 1401',printer:'Printer 1403'},
+who:'Seat {seat} is at the machine',nobody:'Nobody is at the machine',touch:'TOUCH ME',
+leaving:{one:'Are you still there? Touch the screen. (1)',many:'Are you still there? Touch the screen. ({n})'},
+},
+homeCode:'Take your card home: point a telephone here.',homeTitle:'Your card from an IBM 1401',
+homeLine:'It printed this line',
+machinesLabel:'the card reader, the computer and the printer',moreKey:'More',whyKey:'Why?',
+watchStop:'Stop the run',watchHold:'Hold for all',
+tourLabel:'what the machine does',tourBack:'Back',tourNext:'Next',
+scenes:{
+and:' and ',at:'{n} of {all}',pause:'Pause',play:'Go on',
+none:'Feed a card and press LOAD. Then each step is explained here.',
+load:'The card is in the machine: each of its 80 columns is now a character in one of the places 001 to 080.',
+SW:'It has set word marks at {places}. A word mark says that something begins there; the card is cut into its '
++ 'parts.',
+MCW:'It has carried letters from place {from} on to place {to} on: "{text}".',
+W:'The chain of the printer has printed the places from 201 on: "{line}".',
+H:'The program has ended, and the machine stops.',A:'It has added the number at {a} to the one at {b}.',
+S:'It has subtracted the number at {a} from the one at {b}.',
+other:'The machine has carried out: {what}.',
 },
 nameLabel:'Your name',nameKey:'Punch and feed',nameEmpty:'Write a name first.',
-nameWrong:'No card has {letter}.',
+nameWrong:'No card has {letter}. Choose a name in A to Z.',nameSpelt:'On the card: {name}',
+nameKeys:'keys for your name',alphabet:'ABCDEFGHIJKLMNOPQRSTUVWXYZ',wipe:'wipe',
 afreshKey:'Start afresh',afreshTitle:'clears the machine: cards, paper, switches and core storage',
 afreshAsk:'This clears the machine for everybody: cards, paper, switches and core storage. What this page has torn '
 + 'off and taken goes too. Start afresh?',
@@ -860,13 +1104,14 @@ shortcuts:[
 ],
 };
 LANGUAGES.de={
-language:'de',name:'Deutsch',languageLabel:'Sprache',thousands:'.',
+language:'de',name:'Deutsch',dir:'ltr',languageLabel:'Sprache',thousands:'.',
 documentTitle:'IBM 1401, Platz {seat}',
 skip:'Zum Stapel und zu den Tasten',
 headline:'Datenverarbeitungssystem',subline:'Gemeinsamer Maschinenraum',
 seatsLabel:'Die Pl\xe4tze dieses Raums',seats:'Pl\xe4tze',seat:'Platz {n}',thisSeat:'Platz {n}, dieser hier',
 takenSeat:'Platz {n}, besetzt',
-after:{one:'1 Befehl',many:'{n} Befehle'},afterTitle:'wie viele Befehle die Maschine von allen Pl\xe4tzen bekam',
+after:{one:'1 Eingabe',many:'{n} Eingaben'},
+afterTitle:'wie viele Eingaben die Maschine von allen Pl\xe4tzen bekam',
 answers:'Die Maschine antwortet.',
 aboutKey:'Was sehe ich hier?',soundKey:'Ton',helpKey:'Tasten',closeKey:'Schlie\xdfen',yesKey:'Ja',
 noKey:'Nein',
@@ -926,7 +1171,7 @@ pickKey:'Aus einer Datei',
 cardKey:'Gestanzte Karte nehmen',cardTitle:'nimmt die \xe4lteste Karte aus der Ablage, endg\xfcltig',
 allCardsKey:'Alle gestanzten Karten nehmen',takingCards:'{n} von {all} Karten genommen',takeStop:'Aufh\xf6ren',
 takenAll:{one:'1 Karte wurde genommen.',many:'{n} Karten wurden genommen.'},
-saveCardsKey:'Genommene Karten sichern',feedAgainKey:'Genommene Karten wieder einlegen',
+saveCardsKey:'Genommene Karten speichern',feedAgainKey:'Genommene Karten wieder einlegen',
 taken:'Karte genommen: {text}',takenBlank:'Eine leere Karte wurde genommen.',
 typedDeck:'Einen Stapel tippen oder einf\xfcgen, eine Karte je Zeile',deckKey:'Diese Karten einlegen',
 feedingLabel:'eingelegte Karten',feedingCount:'{n} von {all} Karten eingelegt',feedStop:'Aufh\xf6ren',
@@ -953,23 +1198,23 @@ tapeLabel:'Vorschubstreifen: Kanal 1 bei Zeile 4, Kanal 9 bei Zeile 60, Kanal 12
 + 'der Vorschub ist bei Zeile {line}',
 tearKey:'Abrei\xdfen',tearTitle:'nimmt die gedruckten Zeilen aus dem Drucker, endg\xfcltig (Alt+T)',
 tearAsk:{one:'Das nimmt die gedruckte Zeile aus dem Drucker, und kein anderer Platz sieht sie mehr. '
-+ 'Diese Seite beh\xe4lt sie, zum Sichern oder Drucken. Abrei\xdfen?',
++ 'Diese Seite beh\xe4lt sie, zum Speichern oder Drucken. Abrei\xdfen?',
 many:'Das nimmt {n} gedruckte Zeilen aus dem Drucker, und kein anderer Platz sieht sie mehr. '
-+ 'Diese Seite beh\xe4lt sie, zum Sichern oder Drucken. Abrei\xdfen?'},
++ 'Diese Seite beh\xe4lt sie, zum Speichern oder Drucken. Abrei\xdfen?'},
 tearing:'{n} von {all} Zeilen genommen',noPaper:'Es gibt keine gedruckte Zeile.',
 torn:{one:'abgerissen und noch hier: 1 Zeile',many:'abgerissen und noch hier: {n} Zeilen'},
 dropKey:'Wegwerfen',dropAsk:'Das abgerissene Papier wegwerfen?',
-saveKey:'Als Text sichern',printKey:'Drucken',largeKey:'Gr\xf6\xdfer',toCarriage:'Zum Vorschub',
+saveKey:'Als Text speichern',printKey:'Drucken',largeKey:'Gr\xf6\xdfer',toCarriage:'Zum Vorschub',
 console:'Konsole',logLabel:'Zeilen und Antworten',lineLabel:'eine Zeile der Konsole',
 lineHint:'EXAMINE 0500 11',
 sendKey:'SENDEN',linesTitle:'Die Zeilen, und was sie tun (oder HELP)',
-others:{one:'andere gaben 1 Befehl, seit Sie da sind',many:'andere gaben {n} Befehle, seit Sie da sind'},
+others:{one:'andere machten 1 Eingabe, seit Sie da sind',many:'andere machten {n} Eingaben, seit Sie da sind'},
 othersNow:'Ein anderer Platz arbeitet auch an dieser Maschine.',
 othersRun:'Ein anderer Platz l\xe4sst ein Programm laufen: LOAD, RUN, STEP und START AT w\xfcrden mitten darin wirken.',
 othersRunning:'ein anderer Platz l\xe4sst ein Programm laufen',
 seatNow:'Platz {seat} arbeitet auch an dieser Maschine ({line}).',
 seatRun:'Platz {seat} l\xe4sst ein Programm laufen: LOAD, RUN, STEP und START AT w\xfcrden mitten darin wirken.',
-seatRunning:'Platz {seat} l\xe4sst ein Programm laufen',seatLast:'; der letzte Befehl ist von Platz {seat}: {line}',
+seatRunning:'Platz {seat} l\xe4sst ein Programm laufen',seatLast:'; die letzte Eingabe ist von Platz {seat}: {line}',
 holdKey:'Maschine halten',releaseHold:'Andere weitermachen lassen',
 holdTitle:'eine Minute lang gibt keine andere Seite der Maschine Zeilen; Konsolen schon',
 holder:'Sie halten die Maschine: die Tasten der anderen Seiten sind aus.',
@@ -978,24 +1223,26 @@ fedInLog:{one:'(1 Karte eingelegt)',many:'({n} Karten eingelegt)'},
 tornInLog:{one:'(1 Zeile genommen)',many:'({n} Zeilen genommen)'},
 cardsInLog:{one:'(1 Karte genommen)',many:'({n} Karten genommen)'},
 notText:'Eine Zeile hat nur Buchstaben, Ziffern und Zeichen der 1401.',
-footer:'Eine simulierte IBM 1401. Alles, was Sie sehen, ist von einem Augenblick, nach so vielen Befehlen wie oben.',
+footer:'Eine simulierte IBM 1401. Alles, was Sie sehen, ist von einem Augenblick, nach so vielen Eingaben wie oben.',
 lost:'Die Maschine antwortet nicht, darum sind die Tasten aus. Diese Seite versucht es weiter.',
 closed:'Der Raum ist geschlossen: die Maschine wurde wegger\xe4umt. Diese Seite versucht es weiter.',
 taken503:'An diesem Platz sitzt jemand mit einer Konsole. Diese Seite geht weiter, wenn er gegangen ist.',
 busy:'Zu viele Anfragen warten bei dieser Seite. Sie versucht es weiter.',
-unkept:'Die Datei des Journals l\xe4sst sich nicht schreiben; die Maschine nimmt keine Befehle an. Bitte das '
+unkept:'Die Datei des Journals l\xe4sst sich nicht schreiben; die Maschine nimmt keine Eingaben an. Bitte das '
 + 'Personal rufen.',
 renewal:{one:'Diese Maschine wird in 1 Sekunde wegger\xe4umt, und eine neue folgt.',
 many:'Diese Maschine wird in {n} Sekunden wegger\xe4umt, und eine neue folgt.'},
-full:'Das Journal ist voll; die Maschine nimmt keine Befehle mehr an. Bitte das Personal rufen.',
+full:'Das Journal ist voll; die Maschine nimmt keine Eingaben mehr an. Bitte das Personal rufen.',
 nearlyFull:'Das Journal hat {n} seiner 100.000 Eintr\xe4ge. Bitte das Personal rufen.',
 refusedStatus:'Der Server hat abgelehnt, was diese Seite wollte ({status}).',
 unread:'Diese Seite versteht nicht, was der Server zeigt. Ist sie von einer anderen Version?',
+proxyAlone:'Der Proxy antwortet, der Raum aber nicht. Starten Sie den Raum; die Seite geht dann von selbst weiter.',
+foreign:'Der Raum kennt die Adresse dieser Seite nicht. Starten Sie ihn mit --origin und der Adresse von oben.',
 noMemory:'Der Server hatte keinen Speicher f\xfcr ein Bild. Diese Seite versucht es weiter.',
 outcomes:{
-off:'Nicht gesendet: die Maschine nimmt jetzt keine Befehle an.',
+off:'Nicht gesendet: die Maschine nimmt jetzt keine Eingaben an.',
 broken:'Nicht gesendet: es war f\xfcr die Maschine vor dem Abbruch der Verbindung gemeint.',
-409:'Nicht ausgef\xfchrt: dieser Platz hat inzwischen etwas anderes befohlen, vielleicht in einem anderen Fenster. '
+409:'Nicht ausgef\xfchrt: dieser Platz hat inzwischen etwas anderes eingegeben, vielleicht in einem anderen Fenster. '
 + 'Sehen Sie nach, und senden Sie es noch einmal.',
 403:'Nicht ausgef\xfchrt: der Server nimmt keine Zeilen von dieser Seite.',
 410:'Nicht ausgef\xfchrt: der Raum ist geschlossen.',
@@ -1011,7 +1258,7 @@ lostAsking:'Die Verbindung brach ab, als diese Zeile gesendet wurde. Diese Seite
 lostDone:'Sie wurde ausgef\xfchrt; ihre Antwort ging verloren.',
 lostNotDone:'Sie wurde bis jetzt nicht ausgef\xfchrt.',
 lostNewRoom:'Der Raum wurde seitdem neu ge\xf6ffnet; ob sie ausgef\xfchrt wurde, l\xe4sst sich nicht sagen.',
-lostUnclear:'Dieser Platz hat seitdem {n} Befehle gegeben; ob sie ausgef\xfchrt wurde, l\xe4sst sich nicht sagen.',
+lostUnclear:'Dieser Platz hat seitdem {n} Eingaben gemacht; ob sie ausgef\xfchrt wurde, l\xe4sst sich nicht sagen.',
 said:{
 firstNote:'Hier steht jede Zeile, die Sie und die Tasten an die Maschine senden, mit ihrer Antwort.',
 welcome:'W\xe4hlen Sie ein Programm und legen Sie es ein; dann LOAD, dann RUN.',
@@ -1035,6 +1282,8 @@ renewing:'Eine neue Maschine wird verlangt ..',
 clearing:'Die Maschine wird geleert ..',clear:'Die Maschine ist leer: keine Karte, kein Papier, nichts im '
 + 'Speicher.',
 prepared:'Eine neue Maschine ist da, mit dem, was das Museum vorbereitet hat.',
+nothing:'Die Maschine ist leer: legen Sie erst ein Programm ein.',
+loadFirst:'Im Kernspeicher ist noch nichts: dr\xfccken Sie erst LOAD.',yourTurn:'Sie sind an der Reihe.',
 notClear:'Die Maschine ist nicht leer. Vielleicht arbeitet jemand anders. Versuchen Sie es noch einmal.',
 },
 stops:{
@@ -1063,13 +1312,10 @@ replies:{
 'ERROR 2':'Eine Zahl oder Adresse fehlt oder ist keine.',
 'ERROR 3':'Ein Zeichen, das keine Karte und keine Stelle hat, oder ein ~ ohne Zeichen danach.',
 'ERROR 4':'Der Text ist leer oder zu lang.',
-'ERROR 5':'Nach dem Ende des Befehls kommt noch etwas.',
+'ERROR 5':'Nach dem Ende der Eingabe kommt noch etwas.',
 'FAULT 1':'F\xfcr den n\xe4chsten Eintrag des Journals war kein Speicher da.',
 'FAULT 2':'Das Journal ist voll.',
-'FAULT 3':'Nicht ausgef\xfchrt: der Platz lie\xdf sich nicht mit dem Journal vergleichen.',"##;
-
-/// The rest of the page.
-pub const REST: &[u8] = br##"
+'FAULT 3':'Nicht ausgef\xfchrt: der Platz lie\xdf sich nicht mit dem Journal vergleichen.',
 'FAULT 4':'Die Datei des Journals l\xe4sst sich nicht schreiben.',
 'GLANCE FAULT 1':'Diese Stelle gibt es nicht.',
 'GLANCE FAULT 2':'Es gab nichts zu lesen.',
@@ -1086,39 +1332,85 @@ lines:[
 ['RUN 1000','f\xfchrt h\xf6chstens 1.000 Befehle aus; mehr als 1.000.000 gehen nicht'],
 ['LINE','nimmt die \xe4lteste gedruckte Zeile'],
 ['CARD','nimmt die \xe4lteste gestanzte Karte'],
-['GLANCE 0500','zeigt eine Stelle ohne einen Befehl'],
+['GLANCE 0500','zeigt eine Stelle, ohne dass es als Eingabe z\xe4hlt'],
 ['HELP','zeigt diese Liste; es wird nicht gesendet'],
 ],
 guideTitle:'Ihr erstes Programm',guideOn:'F\xfchrung beginnen',guideOff:'Ohne F\xfchrung',
-guideSteps:['Einlegen','LOAD','STEP','RUN','Ihr Name'],stepDone:'Schritt {n}, {name}: getan',
+guideSteps:['Einlegen','LOAD','STEP','RUN','Ihr Name'],stepDone:'Schritt {n}, {name}: erledigt',
 stepOpen:'Schritt {n}, {name}',
-guideWords:[
-'Dr\xfccken Sie "Programm einlegen": eine Karte mit dem Programm Hallo kommt ins Magazin. Sie ist ein ganzes '
+guideWords:{
+feed:'Dr\xfccken Sie "Programm einlegen": eine Karte mit dem Programm Hallo kommt ins Magazin. Sie ist ein ganzes '
 + 'Programm.',
-'Dr\xfccken Sie LOAD: die Maschine liest die Karte in ihre Stellen 001 bis 080.',
-'Dr\xfccken Sie STEP: die Maschine f\xfchrt einen Befehl aus. Die ersten setzen Wortmarken, die die '
+load:'Dr\xfccken Sie LOAD: die Maschine liest die Karte in ihre Stellen 001 bis 080.',
+step:'Dr\xfccken Sie STEP: die Maschine f\xfchrt einen Befehl aus. Die ersten setzen Wortmarken, die die '
 + 'Karte in Befehle teilen.',
-'Dr\xfccken Sie RUN: die Maschine f\xfchrt die anderen aus, druckt eine Zeile und h\xe4lt an. Sehen Sie aufs Papier.',
-'Die Zeile ist auf dem Papier. Nun Ihr Name: schreiben Sie ihn hier, und stanzen Sie eine eigene Karte.',
-'Ihre Karte ist im Magazin. Dr\xfccken Sie LOAD, um sie zu lesen.',
-'Dr\xfccken Sie RUN, und sehen Sie aufs Papier.',
-],
+run:'Dr\xfccken Sie RUN: die Maschine f\xfchrt die anderen aus, druckt eine Zeile und h\xe4lt an. Sehen Sie aufs Papier.',
+name:'Die Zeile ist gedruckt. Nun Ihr Name: schreiben Sie ihn hier, und stanzen Sie eine eigene Karte.',
+loadName:'Ihre Karte ist im Magazin. Dr\xfccken Sie LOAD, um sie zu lesen.',
+runName:'Dr\xfccken Sie RUN, und sehen Sie aufs Papier.',
+done:'Ihr Name ist auf dem Papier. Speichern Sie es, drucken Sie die Karte, oder w\xe4hlen Sie ein anderes Programm.',
+other:'Jemand hat Karten oder ein Programm in der Maschine gelassen. "Von vorn" leert sie; oder machen Sie damit '
++ 'weiter.',
+program:'Das Programm {name} ist in der Maschine. Machen Sie damit weiter; oder dr\xfccken Sie "Von vorn", dann '
++ 'beginnt die F\xfchrung.',
+paper:'Der Drucker ist voll: er fasst 500 Zeilen. Dr\xfccken Sie "Abrei\xdfen".',
+},
 guide:{
 off:'Die F\xfchrung bringt Sie in etwa zwei Minuten zu einer gedruckten Zeile mit Ihrem Namen.',
-left:'Jemand hat Karten, Papier oder ein Programm in der Maschine gelassen. "Von vorn" leert sie; '
-+ 'oder machen Sie damit weiter.',
 prepared:'Das Museum hat diese Maschine vorbereitet: sie begann mit einem Programm oder mit Karten. Dr\xfccken Sie '
 + 'LOAD, wenn Karten da sind, dann RUN. "Von vorn" w\xfcrde sie leeren.',
 preparedAgain:'Das Museum hat diese Maschine vorbereitet: sie begann mit einem Programm oder mit Karten. Dr\xfccken '
 + 'Sie LOAD, wenn Karten da sind, dann RUN. "Von vorn" bringt eine neue, die genauso vorbereitet ist.',
 aside:'Die F\xfchrung ist zur Seite getreten. Sie beginnt wieder, wenn Sie wollen.',
-done:'Ihr Name ist auf dem Papier. Sichern Sie es, drucken Sie die Karte, oder w\xe4hlen Sie ein anderes Programm.',
 attract:'Niemand ist hier, darum l\xe4uft die Maschine allein. Ein Druck auf den Bildschirm oder eine Taste '
 + '\xfcbernimmt sie.',
-waits:'(Die F\xfchrung wartet hier.)',
+},
+turn:{
+busy:'Platz {seat} ist an der Maschine. Dr\xfccken Sie "Anstellen", dann kommen Sie an die Reihe.',
+next:'Platz {seat} ist an der Maschine; Sie sind der N\xe4chste.',
+later:{one:'Platz {seat} ist an der Maschine. H\xf6chstens 1 anderer Platz ist vor Ihnen dran.',
+many:'Platz {seat} ist an der Maschine. H\xf6chstens {n} andere Pl\xe4tze sind vor Ihnen dran.'},
+soon:'Die Maschine ist frei. Der N\xe4chste kommt an die Reihe.',
+wait:'Anstellen',leave:'Nicht mehr warten',give:'An den N\xe4chsten geben',
+},
+childWords:{
+feed:'Dr\xfccke KARTE. Eine Karte kommt in die Maschine.',
+load:'Dr\xfccke LOAD. Die Maschine liest die L\xf6cher der Karte.',
+step:'Dr\xfccke STEP. Die Maschine tut das Erste, was auf der Karte steht.',
+run:'Dr\xfccke RUN. Die Maschine tut alles andere, und druckt.',
+name:'Sie hat gedruckt! Nun schreibe deinen eigenen Namen.',loadName:'Das ist deine Karte. Dr\xfccke LOAD.',
+runName:'Dr\xfccke RUN, und sieh aufs Papier.',done:'Da ist dein Name! Dr\xfccke KARTE, um neu zu beginnen.',
+other:'Vor dir war jemand hier. Dr\xfccke LEEREN.',
+program:'Das Programm {name} ist in der Maschine. Dr\xfccke LEEREN.',
+paper:'Das Papier ist voll. Dr\xfccke LEEREN.',
+},
+childKeys:{feed:'KARTE',clear:'LEEREN'},
+stage:{
+name:'IBM 1401',more:'Mehr',back:'Zur\xfcck',stripLabel:'Kernspeicher ab {from}, und der Druckbereich',
+cardRead:'Die gelesene Karte',cardNext:'Die n\xe4chste Karte',cardNone:'Noch keine Karte',
+machines:{reader:'Kartenleser 1402',unit:'Computer 1401',printer:'Drucker 1403'},
+who:'Platz {seat} ist an der Maschine',nobody:'Niemand ist an der Maschine',touch:'BER\xdcHRE MICH',
+leaving:{one:'Ist noch jemand da? Bitte ber\xfchren. (1)',many:'Ist noch jemand da? Bitte ber\xfchren. ({n})'},
+},
+homeCode:'Nimm deine Karte mit: richte ein Telefon hierher.',homeTitle:'Deine Karte von einer IBM 1401',
+homeLine:'Sie hat diese Zeile gedruckt',
+machinesLabel:'der Kartenleser, der Computer und der Drucker',moreKey:'Mehr',whyKey:'Warum?',
+watchStop:'Lauf anhalten',watchHold:'F\xfcr alle halten',
+tourLabel:'was die Maschine tut',tourBack:'Zur\xfcck',tourNext:'Weiter',
+scenes:{
+and:' und ',at:'{n} von {all}',pause:'Pause',play:'Weiterlaufen',
+none:'Lege eine Karte ein und dr\xfccke LOAD. Dann wird hier jeder Schritt erkl\xe4rt.',
+load:'Die Karte ist in der Maschine: jede ihrer 80 Spalten ist nun ein Zeichen in einer der Stellen 001 bis 080.',
+SW:'Sie hat Wortmarken bei {places} gesetzt. Eine Wortmarke sagt, dass dort etwas beginnt; sie teilen die Karte.',
+MCW:'Sie hat Buchstaben von Stelle {from} an nach Stelle {to} gebracht: "{text}".',
+W:'Die Kette des Druckers hat die Stellen ab 201 gedruckt: "{line}".',
+H:'Das Programm ist zu Ende, und die Maschine h\xe4lt an.',A:'Sie hat die Zahl bei {a} zu der bei {b} addiert.',
+S:'Sie hat die Zahl bei {a} von der bei {b} subtrahiert.',
+other:'Die Maschine hat ausgef\xfchrt: {what}.',
 },
 nameLabel:'Ihr Name',nameKey:'Stanzen und einlegen',nameEmpty:'Schreiben Sie erst einen Namen.',
-nameWrong:'Keine Karte hat {letter}.',
+nameWrong:'Keine Karte hat {letter}. W\xe4hlen Sie einen Namen mit A bis Z.',nameSpelt:'Auf der Karte: {name}',
+nameKeys:'Tasten f\xfcr Ihren Namen',alphabet:'ABCDEFGHIJKLMNOPQRSTUVWXYZ\xc4\xd6\xdc\xdf',wipe:'l\xf6schen',
 afreshKey:'Von vorn',afreshTitle:'leert die Maschine: Karten, Papier, Schalter und Kernspeicher',
 afreshAsk:'Das leert die Maschine f\xfcr alle: Karten, Papier, Schalter und Kernspeicher. Was diese Seite abgerissen '
 + 'und genommen hat, ist auch fort. Von vorn beginnen?',
@@ -1139,13 +1431,13 @@ game:{name:'Gr\xf6\xdfer oder kleiner',about:'Die letzte Karte des Stapels hat e
 + 'Stanzen '
 + 'Sie Ihren Tipp, zwei Ziffern, dann RELEASE und RUN: die Maschine druckt, ob die Zahl gr\xf6\xdfer oder kleiner ist.',
 fed:'Dr\xfccken Sie LOAD, dann RUN. Stanzen Sie dann eine Karte mit zwei Ziffern, und wieder RUN.'},
-listing:{name:'Liste',about:'Druckt und kopiert die Karten nach ihm. Mit Schalter A h\xe4lt es nach der '
+listing:{name:'Liste',about:'Druckt und kopiert die Karten nach ihr. Mit Schalter A h\xe4lt es nach der '
 + 'letzten Karte an.',
 fed:'Schalter A an, LOAD, dann RUN. Bei 100 Schritten je Sekunde sehen Sie zu.'},
 },
 aboutFirst:'Das ist eine simulierte IBM 1401, ein Rechner von 1959, mit Kartenleser, Stanzer und Drucker. '
 + 'Alles, was '
-+ 'Sie sehen, ist eine Maschine, die alle in diesem Raum teilen.',
++ 'Sie sehen, ist eine Maschine, die sich alle in diesem Raum teilen.',
 aboutDrawing:'Karten gehen vom Leser zur Recheneinheit, Ergebnisse von dort zum Drucker und zum Stanzer.',
 aboutParts:{reader:['Kartenleser','und Stanzer'],unit:['Recheneinheit','mit Kernspeicher'],
 printer:['Drucker','132 Spalten'],
@@ -1157,7 +1449,10 @@ aboutWords:[
 ['Magazin','wo die Karten liegen, die als n\xe4chste gelesen werden'],
 ['LOAD','die Taste, die die erste Karte nach 001 bis 080 liest und dort beginnt'],
 ['Kernspeicher','der Speicher aus kleinen Magnetringen: jede Stelle hat ein Zeichen'],
-['Wortmarke','ein Bit neben einem Zeichen; es sagt, wo ein Feld oder ein Befehl beginnt'],
+['Wortmarke','ein Bit neben einem Zeichen; es sagt, wo ein Feld oder ein Befehl beginnt'],"##;
+
+/// The rest of the page.
+pub const REST: &[u8] = br##"
 ['Befehl','ein Buchstabe f\xfcr die Operation und Adressen, mit denen sie arbeitet'],
 ['I-Register','die Stelle des n\xe4chsten Befehls'],
 ['Schalter','nach ihm kann ein Programm fragen'],
@@ -1168,7 +1463,7 @@ numbersTitle:'Woher die Zahlen kommen',
 aboutNumbers:'Die Seite fragt die Maschine viermal in der Sekunde, und jedes Bild ist von einem Augenblick. Im '
 + 'Tempo von '
 + '1960 wartet sie so lange, wie Leser, Stanzer und Drucker brauchten. Jede Operation des Simulators wurde '
-+ 'bewiesen.',
++ 'als korrekt bewiesen.',
 shortcutsTitle:'Tasten',
 shortcuts:[
 ['Alt+F','legt das gew\xe4hlte Programm ein'],['Alt+L','LOAD'],['Alt+R','RUN'],['Escape','STOP'],
@@ -1272,8 +1567,8 @@ function filled(text,values={}){
 return text.replace(/\{(\w+)\}/g,(whole,name)=>name in values?String(values[name]):whole);
 }
 function counted(forms,n,values={}){
-const{one,many}=forms;
-return filled(n===1?one:many,{n:withCommas(n),...values});
+const form=forms[new Intl.PluralRules(TEXTS.language).select(n)]??forms.many;
+return filled(form,{n:withCommas(n),...values});
 }
 function withCommas(number){
 return String(number).replace(/\B(?=(\d{3})+$)/g,TEXTS.thousands);
@@ -1358,6 +1653,7 @@ const view={
 core:0,
 picture:null,
 paper:[],
+posting:false,
 made:null,
 link:'lost',
 status:0,
@@ -1369,6 +1665,9 @@ changed:0,
 ended:null,
 };
 const OTHERS_MS=8000;
+const LIMIT={requestMs:10000};
+const timeLimit=()=>AbortSignal.timeout(LIMIT.requestMs);
+const PROXY_STATUS=[502,504];
 const PAUSE_MS=800;
 const LONGEST_PART_MS=7000;
 const torn=[];
@@ -1392,7 +1691,7 @@ async function askForPicture(kept,after){
 const room=view.picture?view.picture.room:'';
 const part=`room=${room}&core=${pad(view.core, 4)}&paper=${Math.max(0, kept.length - 1)}`;
 const query=after===null?part:`${part}&after=${after}`;
-const response=await fetch(`/picture?${query}`,{cache:'no-store',signal:AbortSignal.timeout(10*RETRY_MS)});
+const response=await fetch(`/picture?${query}`,{cache:'no-store',signal:timeLimit()});
 const text=await response.text();
 if(response.status===204)return null;
 if(response.status !==200)throw new Refused(statusOf(response));
@@ -1425,8 +1724,8 @@ noteNewState(shown,isNewRoom);
 function noteNewState(shown,isNewRoom){
 if(!shown)return;
 const{newRoom,resumed,clear}=TEXTS.said,words=view.picture.after<shown.after?newRoom:resumed;
-if(isNewRoom)note('words',words);
 if(isClearing)return;
+if(isNewRoom)note('words',words);
 if(isNewRoom)beginAnew(words);
 else if(isClear(view.picture)&&!isClear(shown))beginAnew(clear);
 }
@@ -1472,7 +1771,20 @@ blame(why);
 return false;
 }
 }
-const LINK_OF_STATUS={410:'closed',503:'taken503',busy:'busy',507:'noMemory'};
+async function lookAside(){
+try{
+const picture=await askForPicture(view.paper,null),lines=joined(view.paper,picture);
+const isLater=picture.room===view.picture.room&&picture.after>=view.picture.after;
+if(!isLater||lines===null||lines.length !==picture.registers.PAPER)return;
+noteOthers(picture);
+Object.assign(view,{paper:lines,picture});
+draw();
+}catch(why){
+blame(why);
+}
+}
+const LINK_OF_STATUS={403:'foreign',410:'closed',429:'busy',502:'proxyAlone',503:'taken503',
+504:'proxyAlone',507:'noMemory',busy:'busy'};
 function blame(why){
 if(why instanceof Unreadable)setLink('unread');
 else if(!(why instanceof Refused))setLink('lost');
@@ -1499,14 +1811,18 @@ if(breaks !==view.breaks)return{failed:TEXTS.outcomes.broken};
 if(view.made===null&&!(await look()))return{failed:bannerText()};
 const count=view.made,{room}=view.picture;
 view.made=null;
+view.posting=true;
 let response,text;
 try{
 const headers={'Content-Type':'text/plain','X-1401-Line':String(count),'X-1401-Room':room};
-response=await fetch(path,{method:'POST',body,cache:'no-store',headers});
+response=await fetch(path,{method:'POST',body,cache:'no-store',headers,signal:timeLimit()});
 text=await response.text();
 }catch{
 return lostLine(count,room);
+}finally{
+view.posting=false;
 }
+if(PROXY_STATUS.includes(response.status))return lostLine(count,room);
 if(response.status===423)takeHold(text);
 return response.status===200?{text,count}:refusedLine(statusOf(response));
 }
@@ -1617,8 +1933,10 @@ if(!before||before.size !==now.size)return;
 const from=before.registers,to=now.registers;
 const isRead=to.HOPPER<from.HOPPER||now.read !==before.read&&now.read !=='';
 if(isRead)moveCard();
+if(isRead&&isStage)moveReader();
 const lines=to.LINE - from.LINE + FORM_LINES*(to.FORM - from.FORM);
 if(lines>0)movePaper(lines);
+if(lines>0&&isStage)movePrinter(lines);
 if(to.STACKER>from.STACKER)sound('punch');
 else if(to.PAPER>from.PAPER)sound('print');
 else if(to.HOPPER<from.HOPPER)sound('read');
@@ -1636,25 +1954,47 @@ if(TEXTS.operations[(picture.next||'').split(' ')[0]])return false;
 tell(TEXTS.said.afterEnd);
 return true;
 }
+function warnsOfNothing(){
+const{cells,next,registers}=view.picture;
+if(next !==null||!cells.every(cell=>cell.graphic===' '&&!cell.mark))return false;
+tell(registers.HOPPER>0?TEXTS.said.loadFirst:TEXTS.said.nothing);
+return true;
+}
 function noteStop(stop){
 view.ended=stop&&stop.name==='HALT'?stop.next:null;
 if(view.ended !==null)happened('halt');
 }
-async function pressLoad(){
+const ATTRACT_GROWN=10;
+const GUARD_MS=400;
+const guarded=new Set();
+async function once(key,action){
+if(guarded.has(key))return;
+guarded.add(key);
+drawKeys();
+await action();
+setTimeout(()=>{
+guarded.delete(key);
+drawKeys();
+},GUARD_MS);
+}
+const pressLoad=()=>once('load-key',loadCard);
+async function loadCard(){
 if(run||!mayCommand())return;
 view.ended=null;
-const outcome=await say('LOAD');
+const before=view.picture,outcome=await say('LOAD');
 tellOutcome(outcome,TEXTS.said.load);
 if(outcome.reply !=='OK')return;
 tellDeck('');
 sound('read');
+noteScene(before,view.picture,true);
 happened('load');
 }
 async function pressStep(){
-if(run||!mayCommand()||warnsOfEnd())return;
-const outcome=await say('RUN 1'),stop=stopOf(outcome.reply);
+if(run||!mayCommand()||warnsOfEnd()||warnsOfNothing())return;
+const before=view.picture,outcome=await say('RUN 1'),stop=stopOf(outcome.reply);
 tellOutcome(outcome,TEXTS.said.step);
 noteStop(stop);
+if(stop&&stop.steps===1)noteScene(before,view.picture,false);
 if(stop)happened('step');
 drawPanel();
 }
@@ -1673,7 +2013,7 @@ run.stop=true;
 run.wake();
 }
 async function pressRun(){
-if(run||!mayCommand()||warnsOfEnd())return;
+if(run||!mayCommand()||warnsOfEnd()||warnsOfNothing())return;
 run={stop:false,slices:0,steps:0,waits:'',began:performance.now(),grown:1,wake:()=>{}};
 view.ended=null;
 tell('');
@@ -1707,7 +2047,8 @@ if(stop.name !=='LIMIT'||view.picture.after>=JOURNAL_NEARLY||run.stop)return out
 }
 async function runPart(){
 const pace=PACES[byId('pace').selectedIndex];
-run.grown=grownBy(performance.now()- Math.max(run.began,attract.pressed));
+const idle=performance.now()- Math.max(run.began,attract.pressed);
+run.grown=Math.max(grownBy(idle),isExhibit&&attract.on?ATTRACT_GROWN:1);
 const steps=Math.min(MOST_STEPS,run.grown*(pace===OWN_PACE?OWN_STEPS:pace)),line=`RUN ${steps}`;
 if(run.slices===0)note('you',line);
 const began=performance.now(),before=view.picture,{breaks}=view;
@@ -1758,10 +2099,13 @@ const COMMAND_KEYS=['load-key','run-key','step-key','start-key','feed-key','pick
 'all-cards-key','tear-key','send-key','release-key','deck-key','name-key','afresh-key','feed-again-key'];
 function drawKeys(){
 const may=mayCommand(),{PAPER,STACKER}=view.picture?view.picture.registers:{PAPER:0,STACKER:0};
-for(const id of COMMAND_KEYS)setOff(byId(id),!may);
-for(const id of['load-key','run-key','step-key','start-key'])setOff(byId(id),!may||run !==null);
+for(const id of COMMAND_KEYS)setOff(byId(id),!may||guarded.has(id));
+for(const id of['load-key','run-key','step-key','start-key']){
+setOff(byId(id),!may||run !==null||guarded.has(id));
+}
 for(const button of byId('switches').children)setOff(button,!may);
 setOff(byId('stop-key'),run===null);
+if(isExhibit)setOff(byId('run-key'),run===null&&(!may||guarded.has('run-key')));
 setOff(byId('tear-key'),!may||taking !==null||PAPER===0);
 for(const id of['card-key','all-cards-key'])setOff(byId(id),!may||taking !==null||STACKER===0);
 drawRun();
@@ -1771,15 +2115,11 @@ if(!run)return othersRun()?othersWords('Running'):'';
 return run.waits?TEXTS.waits[run.waits]:filled(TEXTS.running,{steps:withCommas(run.steps)});
 }
 function drawRun(){
+if(isExhibit)setText(byId('run-key'),run?TEXTS.stopKey:TEXTS.runKey);
 setText(byId('running'),runWords());
 }
 let feed=null;
 let fedAt=null;
-function plain(text){
-const own={'\xe4':'AE','\xf6':'OE','\xfc':'UE','\xdf':'SS','\xe6':'AE','\xf8':'OE','\xe5':'AA','\u2019':'\'','\u2018':'\''};
-const spelt=[...text].map(letter=>own[letter.toLowerCase()]||letter).join('');
-return spelt.normalize('NFD').replace(/[\u0300-\u036f]/g,'').toUpperCase();
-}
 function deckOf(text){
 const lines=text.replace(/^\ufeff/,'').split('\n');
 if(lines[lines.length - 1]==='')lines.pop();
@@ -1795,9 +2135,9 @@ cards.push(card.trimEnd());
 return cards.length?{cards}:{fault:TEXTS.deckEmpty};
 }
 function noCard(letter){
-const spelt=plain(letter);
-const isSpelt=spelt !==letter&&[...spelt].every(each=>GRAPHICS.includes(each));
-return isSpelt?filled(TEXTS.noAccent,{letter,spelt}):TEXTS.noGraphic;
+const known=plain(letter);
+const isKnown=known !==letter&&known !==''&&[...known].every(each=>GRAPHICS.includes(each));
+return isKnown?filled(TEXTS.noAccent,{letter,spelt:known}):TEXTS.noGraphic;
 }
 function tellDeck(text,isWrong=false){
 byId('deck-words').classList.toggle('wrong',isWrong);
@@ -1881,10 +2221,12 @@ setText(byId('feed-count'),filled(feed.waits?TEXTS.feedWaits:TEXTS.feedingCount,
 function chosenProgram(){
 return PROGRAMS.find(program=>program.name===byId('program').value)||PROGRAMS[0];
 }
-function feedChosen(){
+const feedChosen=()=>once('feed-key',feedProgram);
+async function feedProgram(){
+if(feed||!mayCommand()||!(await takeTurn()))return;
 const program=chosenProgram(),words=TEXTS.programs[program.name];
 const cards=program.extra?[...program.cards,...program.extra()]:program.cards;
-return feedDeck(cards,words.fed);
+await feedDeck(cards,words.fed);
 }
 function drawProgram(){
 const program=chosenProgram(),words=TEXTS.programs[program.name];
@@ -1995,7 +2337,7 @@ const RENEWAL_MS=5000;
 const renewal={mode:'',seconds:null,asked:-Infinity};
 async function askRenewal(method){
 const headers=method==='POST'?{'X-1401-Room':view.picture.room}:{};
-const response=await fetch('/renewal',{method,headers,cache:'no-store'});
+const response=await fetch('/renewal',{method,headers,cache:'no-store',signal:timeLimit()});
 const found=/^RENEWAL (?:(OFF|ON)|IN (\d+))\n$/.exec(await response.text());
 if(response.status !==200||!found)return;
 const{mode}=renewal;
@@ -2033,7 +2375,7 @@ Object.assign(renewal,{seconds:null,asked:-Infinity});
 drawNotice();
 }
 const HOLD_MS=1000;
-const hold={asked:-Infinity,seat:0,left:0,until:0,isPrepared:false};
+const hold={asked:-Infinity,seat:0,left:0,until:0,last:0,taken:[],isPrepared:false};
 const HOLD_FORM=/^HOLD (?:FREE|(\d+) FOR (\d+))\nLAST (?:NONE|(\d+) (.+))\nTAKEN([ \d]*)\nBEGAN (PLAIN|PREPARED)\n$/;
 const isHeld=()=>hold.seat !==0&&performance.now()<hold.until;
 const isHolder=()=>isHeld()&&view.picture !==null&&view.picture.seat===hold.seat;
@@ -2042,11 +2384,13 @@ function takeHold(text){
 const found=HOLD_FORM.exec(text);
 if(!found)return;
 const[,seat,left,last,line,taken,began]=found;
-Object.assign(hold,{seat:Number(seat||0),left:Number(left||0),isPrepared:began==='PREPARED'});
+Object.assign(hold,{seat:Number(seat||0),left:Number(left||0),isPrepared:began==='PREPARED',
+last:Number(seat||hold.last),taken:taken.split(' ').map(Number)});
 hold.until=performance.now()+ 1000*hold.left;
 view.others.last=last?{seat:Number(last),line}:null;
 drawTakenSeats(taken.split(' '));
 drawHold();
+guide.draw();
 }
 function drawTakenSeats(taken){
 for(const link of byId('seats').querySelectorAll('a:not([aria-current])')){
@@ -2062,13 +2406,14 @@ drawHold();
 }
 async function askForHold(path,method){
 const headers=method==='POST'?{'X-1401-Room':view.picture.room}:{};
-const response=await fetch(path,{method,headers,cache:'no-store'});
+const response=await fetch(path,{method,headers,cache:'no-store',signal:timeLimit()});
 const text=await response.text();
 if(response.status===200||response.status===423)takeHold(text);
 }
 async function lookForHold(){
-const now=performance.now();
-if(view.link !=='fine'||now - hold.asked<(view.picture.seats===1?Infinity:HOLD_MS))return;
+const now=performance.now(),isEnding=turn.has&&hold.until - now<HOLD_MS;
+const pause=turn.wants||watching.holds||watching.stops||isEnding?TURN_LOOK_MS:HOLD_MS;
+if(view.link !=='fine'||now - hold.asked<(isShared()?pause:Infinity))return;
 hold.asked=now;
 try{
 await askForHold('/hold','GET');
@@ -2076,15 +2421,17 @@ await askForHold('/hold','GET');
 hold.seat=0;
 }
 }
-async function pressHold(){
+async function askToHold(path){
 try{
-await askForHold(isHolder()?'/release':'/hold','POST');
+await askForHold(path,'POST');
 }catch{
 setLink('lost');
 }
 }
+const pressHold=()=>turn.has?giveTurn():askToHold(isHolder()?'/release':'/hold');
 function holdWords(){
 if(!isHeld())return '';
+if(isHolder()&&turn.has)return '';
 return isHolder()?TEXTS.holder:filled(TEXTS.keptOff,{seat:hold.seat});
 }
 function drawHold(){
@@ -2100,6 +2447,279 @@ const{seconds}=renewal,words=seconds===null?holdWords():counted(TEXTS.renewal,se
 setText(byId('notice-words'),words);
 setText(byId('notice-left'),seconds===null&&words?` ${filled(TEXTS.secondsLeft, {n: hold.left})}`:'');
 byId('notice').hidden=words==='';
+}
+const FRAGMENT=new URLSearchParams(location.hash.slice(1));
+const isExhibit=FRAGMENT.has('exhibit'),isWatch=FRAGMENT.has('watch'),isStage=isExhibit||isWatch;
+const STRIP_PLACES=80;
+const PRINT_FROM=201,PRINT_PLACES=40;
+const BAND_LINES=12;
+const ON_STAGE={'stage-keys':['feed-key','load-key','step-key','run-key'],'stage-said':['guide-said'],
+'stage-more':['turn-key','language'],stage:['name-form','home-figure']};
+const strip={cells:[],shown:[],heads:[],from:1};
+function buildStage(){
+if(!isStage)return;
+document.body.classList.add(isExhibit?'exhibit':'watch');
+byId('stage').hidden=false;
+for(const[place,parts]of Object.entries(ON_STAGE))byId(place).append(...parts.map(byId));
+buildStrip();
+for(const id of['run-key','feed-key'])byId(id).addEventListener('click',pressStageKey);
+if(isExhibit)Object.assign(IDLE,{attractMs:10000,pauseMs:4000,seatMs:0});
+}
+function buildStrip(){
+for(let at=0;at<STRIP_PLACES + PRINT_PLACES;at++){
+if(at % 20===0)strip.heads.push(added(byId('strip'),'b'));
+strip.cells.push(added(byId('strip'),'span',{className:at<STRIP_PLACES?'':'print'}));
+}
+}
+function stripFrom({registers:{I},size}){
+return I<=STRIP_PLACES?1:Math.min(I -(I - 1)% STRIP_PLACES,size - STRIP_PLACES);
+}
+const cellAt=({cells,from},place)=>cells[place - from]||{graphic:' ',mark:false};
+function drawStage(picture,touched=[]){
+if(!isStage)return;
+const from=stripFrom(picture),moved=from !==strip.from;
+const begin=picture.registers.I,end=begin + instructionLength(picture.cells,begin - picture.from);
+strip.from=from;
+strip.heads.forEach((head,row)=>setText(head,pad(row<4?from + 20*row:PRINT_FROM + 20*(row - 4),3)));
+strip.cells.forEach((element,at)=>{
+const place=at<STRIP_PLACES?from + at:PRINT_FROM + at - STRIP_PLACES;
+const{graphic,mark}=cellAt(picture,place);
+const isOther=strip.shown[at]!==undefined&&strip.shown[at]!==graphic + mark;
+setText(element,graphic===' '?'\u00a0':graphic);
+element.classList.toggle('mark',mark);
+element.classList.toggle('next',place>=begin&&place<end);
+element.classList.toggle('touched',touched.includes(place));
+if(isOther&&!moved)glow(element);
+strip.shown[at]=graphic + mark;
+});
+setAttribute(byId('strip'),'aria-label',filled(TEXTS.stage.stripLabel,{from:pad(from,3)}));
+drawBand(view.paper);
+drawStageCard(picture);
+}
+function drawBand(lines){
+const shown=lines.slice(-BAND_LINES).map(line=>line.text),band=byId('band');
+byId('band').style.setProperty('--columns',Math.max(26,...shown.map(text=>text.trimEnd().length + 2)));
+while(band.childElementCount>shown.length)band.firstElementChild.remove();
+while(band.childElementCount<shown.length)added(band,'p');
+shown.forEach((text,at)=>setText(band.children[at],text||'\u00a0'));
+}
+function drawStageCard(picture){
+const{read,hopper}=picture,isThere=read !=='';
+cards.stage(isThere?read:hopper);
+setText(byId('stage-card-name'),isThere?TEXTS.stage.cardRead:hopper===null?TEXTS.stage.cardNone
+:TEXTS.stage.cardNext);
+let cuts='';
+for(let place=2;isThere&&place<=CARD_COLUMNS;place++){
+const x=CARD.left +(place - 1.5)*CARD.column;
+if(cellAt(picture,place).mark)cuts +=`M${x} 1V${CARD.height - 1}`;
+}
+setAttribute(stageCuts,'d',cuts);
+const{I}=picture.registers,length=instructionLength(picture.cells,I - picture.from);
+const isLit=isThere&&I>=1&&I + length<=CARD_COLUMNS + 1;
+setAttribute(stageLit,'x',CARD.left +(I - 1.5)*CARD.column);
+setAttribute(stageLit,'width',isLit?length*CARD.column:0);
+}
+function pressMore(){
+const isMore=document.body.classList.toggle('more');
+setText(byId('more-key'),isMore?TEXTS.stage.back:TEXTS.stage.more);
+byId('more-key').setAttribute('aria-expanded',String(isMore));
+if(view.picture&&isMore)resized();
+}
+function drawStageHead(){
+if(!isStage)return;
+const last=view.others.last,seat=isHeld()?hold.seat:last&&othersAtWork()?last.seat:0;
+setText(byId('stage-name'),FRAGMENT.get('name')||TEXTS.stage.name);
+setText(byId('stage-who'),!isWatch?'':seat?filled(TEXTS.stage.who,{seat}):TEXTS.stage.nobody);
+}
+function pressStageKey(event){
+if(!isExhibit)return;
+if(event.currentTarget.id==='run-key'&&run){
+event.stopImmediatePropagation();
+stopRun();
+}
+if(event.currentTarget.id==='feed-key'&&wantsClearing()&&mayCommand()){
+event.stopImmediatePropagation();
+once('feed-key',clearForGuide);
+}
+}
+const wantsClearing=()=>isExhibit&&['other','paper'].includes(guide.step());
+async function clearForGuide(){
+if(!(await takeTurn()))return;
+stopRun();
+while(run)await delay(SLICE_MS);
+await startAfresh(renewal.mode==='ON'?renewRoom:clearMachine);
+guide.begin();
+}
+const watching={holds:false,stops:false,until:Infinity};
+function watchStop(){
+Object.assign(watching,{stops:true,until:Infinity});
+return lookForWatch();
+}
+async function watchHold(){
+watching.holds=!watching.holds;
+if(!watching.holds&&!watching.stops&&isHolder())await askToHold('/release');
+return lookForWatch();
+}
+async function lookForWatch(){
+const{holds,stops}=watching;
+if((holds||stops)&&!isHeld())await askToHold('/hold');
+if(stops&&isHolder())watching.until=Math.min(watching.until,performance.now()+ LONGEST_PART_MS);
+if(performance.now()>watching.until){
+Object.assign(watching,{stops:false,until:Infinity});
+if(!holds&&isHolder())await askToHold('/release');
+}
+for(const key of['hold','stop'])byId(`watch-${key}`).setAttribute('aria-pressed',String(watching[`${key}s`]));
+}
+const DRAWING={reader:20,unit:330,printer:640,width:240};
+const machines={};
+function box(parent,x,y,width,height,name,rx=3){
+return drawn(parent,'rect',{x,y,width,height,rx,class:name});
+}
+function buildDrawings(){
+const picture=byId('machines');
+picture.replaceChildren();
+for(const[name,x]of[['reader',DRAWING.reader],['unit',DRAWING.unit],['printer',DRAWING.printer]]){
+const part=drawn(picture,'g',{transform:`translate(${x} 0)`});
+box(part,0,40,DRAWING.width,110,'cabinet',8);
+drawn(part,'text',{x:DRAWING.width / 2,y:172}).textContent=TEXTS.stage.machines[name];
+machines[name]=part;
+}
+buildReader(machines.reader);
+buildUnit(machines.unit);
+buildPrinter(machines.printer);
+}
+function buildReader(part){
+box(part,158,14,66,60,'tray');
+box(part,14,84,66,56,'tray');
+box(part,90,66,60,18,'slot');
+Object.assign(machines,{hopper:box(part,161,72,60,0,'pile'),stacker:box(part,17,138,60,0,'pile'),
+card:box(part,94,68,52,13,'pile none',1)});
+}
+function buildUnit(part){
+box(part,14,54,212,82,'slot',4);
+machines.lights=[];
+for(let row=0;row<3;row++){
+for(let at=0;at<7;at++){
+machines.lights.push(drawn(part,'circle',{cx:36 + at*28,cy:70 + row*25,r:9,class:'light'}));
+}
+}
+}
+function buildPrinter(part){
+machines.paper=drawn(part,'g',{});
+box(machines.paper,50,4,140,78,'paper',0);
+machines.rows=Array.from({length:6},(_,at)=>box(machines.paper,58,70 - at*12,0,5,'row',0));
+box(part,34,80,172,14,'slot');
+machines.chain=drawn(part,'path',{class:'chain',d:'M38 87H202'});
+}
+function drawPile(pile,n,foot){
+const height=n===0?0:Math.min(52,4 + 8*Math.log2(n));
+setAttribute(pile,'height',String(height));
+setAttribute(pile,'y',String(foot - height));
+}
+function drawMachines({registers,from,cells}){
+if(!isStage)return;
+drawPile(machines.hopper,registers.HOPPER,72);
+drawPile(machines.stacker,registers.STACKER,138);
+const at=place=>cells[place - from]?cells[place - from].graphic:' ';
+const bits=[registers.B,registers.A,registers.I].flatMap(place=>bitsWithCheck(at(place)));
+machines.lights.forEach((light,n)=>light.classList.toggle('on',bits[n]&&registers.I>0));
+const newest=view.paper.slice(-machines.rows.length).reverse();
+const widthOf=line=>line?Math.min(124,3.2*line.text.length):0;
+machines.rows.forEach((row,n)=>setAttribute(row,'width',String(widthOf(newest[n]))));
+}
+function moveReader(){
+machines.card.classList.remove('none');
+if(!still.matches)machines.card.animate([{transform:'translate(66px, -14px)'},{transform:'none'}],400);
+}
+function movePrinter(lines){
+if(still.matches)return;
+machines.paper.animate([{transform:`translateY(${Math.min(lines, 4) * 12}px)`},{transform:'none'}],300);
+machines.chain.animate([{strokeDashoffset:0},{strokeDashoffset:48}],500);
+}
+const SCENE_MS=8000;
+const MOST_SCENES=200;
+const tour={scenes:[],at:-1,isOn:false,plays:false,since:0};
+function noteScene(before,after,isLoad){
+if(!isStage)return;
+if(isLoad)Object.assign(tour,{scenes:[],at:-1});
+if(tour.scenes.length===MOST_SCENES)tour.scenes.shift();
+tour.scenes.push({before,after,isLoad,line:view.paper.at(-1)});
+tour.at=tour.scenes.length - 1;
+drawTour();
+}
+function instructionOf({next}){
+const[operation,operands='']=(next||'').trim().split(/\s+/);
+return{operation,places:operands.split(',').filter(place=>/^\d+$/.test(place)).map(Number)};
+}
+function fieldsOf({before,after}){
+const{places:[a,b]}=instructionOf(before),length=a - after.registers.A;
+if(b===undefined||!(length>0&&length<=STRIP_PLACES*2))return null;
+return{a:a - length + 1,b:b - length + 1,length};
+}
+function textAt(picture,place,length){
+return Array.from({length},(_,at)=>cellAt(picture,place + at).graphic).join('').trim();
+}
+function touchedBy(scene){
+if(scene.isLoad)return[];
+const{operation,places}=instructionOf(scene.before),fields=fieldsOf(scene);
+if(operation==='SW'||operation==='CW'||!fields)return places;
+return Array.from({length:fields.length},(_,at)=>[fields.a + at,fields.b + at]).flat();
+}
+function sceneWords(scene){
+const{scenes,operations}=TEXTS;
+if(scene.isLoad)return scenes.load;
+const{operation,places}=instructionOf(scene.before),fields=fieldsOf(scene);
+const values={places:places.join(TEXTS.scenes.and),what:operations[operation]||operation};
+if(operation==='W'&&scene.line)return filled(scenes.W,{line:scene.line.text.trim()});
+if(fields&&['MCW','LCA','MLC'].includes(operation)){
+return filled(scenes.MCW,{from:fields.a,to:fields.b,text:textAt(scene.after,fields.b,fields.length)});
+}
+if(fields&&scenes[operation])return filled(scenes[operation],{...values,a:places[0],b:places[1]});
+return filled(['SW','H'].includes(operation)?scenes[operation]:scenes.other,values);
+}
+function drawTour(){
+const scene=tour.scenes[tour.at];
+byId('tour').hidden=!tour.isOn;
+byId('why-key').setAttribute('aria-pressed',String(tour.isOn));
+setText(byId('why-key'),tour.isOn?TEXTS.closeKey:TEXTS.whyKey);
+guide.draw();
+if(!tour.isOn)return view.picture&&drawStage(view.picture);
+setText(byId('tour-words'),scene?sceneWords(scene):TEXTS.scenes.none);
+setText(byId('tour-at'),scene?filled(TEXTS.scenes.at,{n:tour.at + 1,all:tour.scenes.length}):'');
+setText(byId('tour-pause'),tour.plays?TEXTS.scenes.pause:TEXTS.scenes.play);
+setOff(byId('tour-back'),tour.at<=0);
+if(scene)drawStage(scene.after,touchedBy(scene));
+}
+function pressWhy(){
+Object.assign(tour,{isOn:!tour.isOn,plays:!tour.isOn,at:tour.isOn?tour.at:Math.min(tour.at,0)});
+tour.since=performance.now();
+drawTour();
+}
+function tourBack(){
+Object.assign(tour,{plays:false,at:Math.max(0,tour.at - 1)});
+drawTour();
+}
+async function tourNext(){
+tour.since=performance.now();
+if(tour.at<tour.scenes.length - 1)tour.at++;
+else if(canGoOn())return pressStep();
+else tour.plays=false;
+drawTour();
+}
+function canGoOn(){
+const{next,registers}=view.picture;
+return tour.scenes.length>0&&next !==null&&registers.I !==view.ended&&!run&&mayCommand();
+}
+function pauseTour(){
+Object.assign(tour,{plays:!tour.plays,since:performance.now()});
+drawTour();
+}
+function lookForTour(){
+if(tour.isOn&&tour.plays&&performance.now()- tour.since>SCENE_MS)tourNext();
+}
+function endTour(){
+Object.assign(tour,{scenes:[],at:-1,isOn:false,plays:false});
+drawTour();
 }
 const CLEARED_AT_ONCE=4000;
 let isClearing=false;
@@ -2124,7 +2744,7 @@ return I + HOPPER + STACKER + PAPER===0&&!/[A-G]/.test(SWITCHES)&&next===null
 async function pressAfresh(){
 if(!mayCommand()||taking||feed)return;
 const question=othersAtWork()?TEXTS.afreshOthers:TEXTS.afreshAsk;
-if(!(await confirmed(question)))return;
+if(!(await confirmed(question))||!(await takeTurn()))return;
 stopRun();
 while(run)await delay(SLICE_MS);
 await startAfresh(renewal.mode==='ON'?renewRoom:clearMachine);
@@ -2158,7 +2778,7 @@ if(byId('said-words').textContent===TEXTS.said.clear)tell(words);
 function beginAnew(words){
 forgetWords();
 tell(words);
-if(guide.state !=='off'&&guide.state !=='attract')guide.begin();
+if(!['off','attract'].includes(guide.state))guide.begin();
 }
 async function sendInTurn(lines,wanted){
 const{breaks}=view;
@@ -2181,95 +2801,152 @@ view.core=0;
 await inTurn(look);
 return true;
 }
-const GUIDE_STEPS=[
-{until:'fed',key:'feed-key',shown:0},{until:'load',key:'load-key',shown:1},
-{until:'step',key:'step-key',shown:2},{until:'halt',key:'run-key',shown:3},
-{until:'named',key:'name-key',shown:4},{until:'load',key:'load-key',shown:4},
-{until:'halt',key:'run-key',shown:4},
-];
-const GUIDE_WAITS_MS=120000;
-const MOST_DETOURS=3;
-const guide={
-at:0,state:'off',detours:0,since:0,
-begin(){
-const isLeft=view.picture !==null&&!isClear(view.picture),left=hold.isPrepared?'prepared':'left';
-Object.assign(this,{at:0,detours:0,since:performance.now(),state:isLeft?left:'on'});
-byId('program').value='hello';
-drawProgram();
-this.draw();
-},
-on(event){
-if(this.state==='done'&&event==='fed'){
-this.state='aside';
-this.draw();
+const TURN_IDLE_MS=60000;
+const TURN_SLOT_MS=1500;
+const TURN_LOOK_MS=200;
+const turn={has:false,wants:false,freeSince:null};
+const isShared=()=>view.picture !==null&&view.picture.seats>1;
+function placeInLine(){
+const{seat,seats}=view.picture,last=hold.seat||hold.last;
+let place=0;
+for(let by=1;by<=seats;by++){
+const at=(last + by - 1)% seats + 1;
+if(at===seat)return place + 1;
+if(hold.taken.includes(at))place++;
 }
-if(this.state !=='on'&&this.state !=='left')return;
-const next=GUIDE_STEPS.slice(this.at,this.at +(this.step()?.until==='named'?1:2));
-const ahead=next.findIndex(step=>step.until===event);
-this.since=performance.now();
-if(event==='fed'&&this.state==='left')this.state='on';
-if(ahead>=0&&this.state==='on'){
-this.at +=ahead + 1;
-this.detours=0;
-if(this.at===GUIDE_STEPS.length)this.state='done';
-}else if(event !=='run'&&++this.detours>MOST_DETOURS)this.state='aside';
-this.draw();
-},
-look(){
-const isLeft=run !==null&&!attract.on&&performance.now()- attract.touched>IDLE.attractMs;
-if(isLeft&&this.state !=='left'&&this.state !=='prepared')this.begin();
-const isLate=performance.now()- this.since>GUIDE_WAITS_MS;
-if((this.state==='on'&&this.at>0||this.state==='left')&&isLate&&!run){
-this.state='aside';
-this.draw();
+return place + 1;
 }
-},
-press(){
-if(this.state==='on'||this.state==='left'){
-this.state='off';
-this.draw();
-}else this.begin();
-},
-step(){
-return this.state==='on'?GUIDE_STEPS[this.at]:null;
-},
-draw(){
-const step=this.step(),lit=this.state==='left'?'afresh-key':step?step.key:'';
-for(const element of document.querySelectorAll('.lit'))element.classList.remove('lit');
-if(lit)byId(lit).classList.add('lit');
-[...byId('guide-steps').children].forEach((element,at)=>{
-const isDone=this.state==='done'||step !==null&&at<step.shown;
-element.classList.toggle('done',isDone);
-element.toggleAttribute('aria-current',step !==null&&at===step.shown);
-if(step !==null&&at===step.shown)element.setAttribute('aria-current','step');
-setAttribute(element,'aria-label',filled(isDone?TEXTS.stepDone:TEXTS.stepOpen,
-{n:at + 1,name:TEXTS.guideSteps[at]}));
-});
-byId('name-form').hidden=!step||step.until !=='named';
-byId('guide-end').hidden=this.state !=='done';
-setText(byId('guide-now'),this.words());
-setText(byId('guide-key'),this.state==='on'||this.state==='left'?TEXTS.guideOff:TEXTS.guideOn);
-},
-words(){
-if(this.state==='prepared'&&renewal.mode==='ON')return TEXTS.guide.preparedAgain;
-if(this.state !=='on')return TEXTS.guide[this.state];
-return TEXTS.guideWords[this.at]+(this.detours>1?` ${TEXTS.guide.waits}`:'');
-},
+async function takeTurn(){
+if(!isShared()||guide.state !=='on')return true;
+if(!isHolder())await askToHold('/hold');
+turn.has=isHolder();
+turn.wants=isKeptOff();
+turn.freeSince=null;
+guide.draw();
+return !isKeptOff();
+}
+async function giveTurn(){
+turn.has=false;
+if(isHolder())await askToHold('/release');
+guide.draw();
+}
+async function pressTurn(){
+if(turn.has){
+await giveTurn();
+return guide.stepAside();
+}
+turn.wants=!turn.wants;
+turn.freeSince=null;
+guide.draw();
+}
+function isTurnOver(){
+return performance.now()- attract.touched>TURN_IDLE_MS||[null,'done'].includes(guide.step());
+}
+async function lookForTurn(){
+if(!isShared()||view.link !=='fine')return;
+if(turn.has&&isKeptOff())Object.assign(turn,{has:false,wants:true});
+if(turn.has&&isTurnOver())await giveTurn();
+else if(turn.has&&!isHeld()&&run===null)await takeTurn();
+if(guide.state !=='on')turn.wants=false;
+if(turn.wants)await waitInLine();
+}
+async function waitInLine(){
+if(isHeld()){
+turn.freeSince=null;
+return guide.draw();
+}
+turn.freeSince??=performance.now();
+if(performance.now()- turn.freeSince<placeInLine()*TURN_SLOT_MS||!(await takeTurn()))return;
+noteHand();
+tell(TEXTS.said.yourTurn);
+}
+function turnWords(){
+if(!isHeld())return TEXTS.turn.soon;
+const n=placeInLine()- 1,values={seat:hold.seat,n};
+if(!turn.wants)return filled(TEXTS.turn.busy,values);
+return n===0?filled(TEXTS.turn.next,values):counted(TEXTS.turn.later,n,values);
+}
+function drawTurn(){
+const isHidden=!turn.has&&guide.step()!=='wait';
+byId('turn-key').hidden=isHidden;
+byId('guide-key').hidden=!isHidden;
+setText(byId('turn-key'),turn.has?TEXTS.turn.give:turn.wants?TEXTS.turn.leave:TEXTS.turn.wait);
+}
+const NAME_MOST=CARD_COLUMNS - NAME_COLUMN;
+const SPELLINGS=new Map((
+'\u00e4AE \u00f6OE \u00fcUE \u00dfSS \u00e6AE \u0153OE \u00f8OE \u00e5AA \u0142L \u0111D \u00f0D \u00feTH '
++ '\u0127H \u0131I \u014bNG \u0167T \u0133IJ \u0138K \u017fS \u0259E \u0192F \u03b1A \u03b2V \u03b3G '
++ '\u03b4D \u03b5E \u03b6Z \u03b7I \u03b8TH \u03b9I \u03baK \u03bbL \u03bcM \u03bdN \u03beX \u03bfO \u03c0P '
++ '\u03c1R \u03c3S \u03c2S \u03c4T \u03c5Y \u03c6F \u03c7CH \u03c8PS \u03c9O \u0430A \u0431B \u0432V '
++ '\u0433G \u0434D \u0435E \u0436ZH \u0437Z \u0438I \u043aK \u043bL \u043cM \u043dN \u043eO \u043fP \u0440R '
++ '\u0441S \u0442T \u0443U \u0444F \u0445KH \u0446TS \u0447CH \u0448SH \u0449SHCH \u044a \u044bY \u044c '
++ '\u044dE \u044eYU \u044fYA \u0454YE \u0456I \u0457YI \u0491G \u0451YO \u0439Y \u045eU \u0452DJ \u0458J '
++ '\u0459LJ \u045aNJ \u045bC \u045fDZ \u0455DZ \u05d0A \u05d1B \u05d2G \u05d3D \u05d4H \u05d5V \u05d6Z '
++ '\u05d7H \u05d8T \u05d9Y \u05dbK \u05daK \u05dcL \u05deM \u05ddM \u05e0N \u05dfN \u05e1S \u05e2A \u05e4P '
++ '\u05e3F \u05e6TS \u05e5TS \u05e7K \u05e8R \u05e9SH \u05eaT \u0627A \u0628B \u062aT \u062bTH \u062cJ '
++ '\u062dH \u062eKH \u062fD \u0630DH \u0631R \u0632Z \u0633S \u0634SH \u0635S \u0636D \u0637T \u0638Z '
++ '\u0639A \u063aGH \u0641F \u0642Q \u0643K \u0644L \u0645M \u0646N \u0647H \u0648U \u064aI \u0629A \u0649A '
++ '\u0621 \u067eP \u0686CH \u06a9K \u06afG \u06ccI'
+).split(' ').map(each=>[each[0],each.slice(1)]));
+function spelt(letter){
+const small=letter.toLowerCase();
+if(SPELLINGS.has(small))return SPELLINGS.get(small);
+const bare=small.normalize('NFD').replace(/[\u0300-\u036f\u064b-\u065f]/g,'');
+return SPELLINGS.get(bare)??bare.toUpperCase();
+}
+function plain(text){
+const quotes={'\u2019':'\'','\u2018':'\'','\u2013':'-','\u00a0':' '};
+return[...text.normalize('NFC')].map(letter=>quotes[letter]||spelt(letter)).join('');
+}
+function nameOnCard(){
+const name=plain(byId('name').value).trim().slice(0,NAME_MOST).trim();
+return{name,wrong:[...name].find(letter=>!GRAPHICS.includes(letter))};
+}
+function drawName(){
+const{name,wrong}=nameOnCard(),isSame=name===byId('name').value.trim().toUpperCase();
+byId('name-words').classList.toggle('wrong',wrong !==undefined);
+setText(byId('name-words'),wrong?filled(TEXTS.nameWrong,{letter:wrong})
+:name===''||isSame?'':filled(TEXTS.nameSpelt,{name}));
+}
+function writeLetter(letter){
+const field=byId('name');
+if(field.value.length<NAME_MOST)field.setRangeText(letter,field.selectionStart,field.selectionEnd,'end');
+drawName();
+}
+function wipeLetter(){
+const field=byId('name'),{selectionStart:at,selectionEnd:end}=field;
+if(end>at)field.setRangeText('',at,end,'end');
+else if(at>0)field.setRangeText('',at - 1,at,'end');
+drawName();
+}
+function buildNameKeys(){
+const target=byId('name-keys');
+target.replaceChildren();
+const key=(textContent,onclick,label)=>{
+const button=added(target,'button',{type:'button',textContent,onclick});
+button.setAttribute('aria-label',label||filled(TEXTS.keyTitle,{graphic:textContent}));
+return button;
 };
-onHappened.push(event=>guide.on(event));
+for(const letter of `${TEXTS.alphabet}0123456789-`)key(letter,()=>writeLetter(letter));
+key(TEXTS.keys.space,()=>writeLetter(' '),TEXTS.keys.space).className='wide';
+key('\u232b',wipeLetter,TEXTS.wipe).className='wide';
+}
 let nameCard=HELLO;
 async function punchName(event){
 event.preventDefault();
-const name=plain(byId('name').value).trim().slice(0,CARD_COLUMNS - NAME_COLUMN);
-const wrong=[...name].find(letter=>!GRAPHICS.includes(letter));
-setText(byId('name-words'),name===''?TEXTS.nameEmpty:wrong?filled(TEXTS.nameWrong,{letter:wrong}):'');
-if(name===''||wrong||!mayCommand()||feed)return;
+return once('name-key',feedName);
+}
+async function feedName(){
+const{name,wrong}=nameOnCard();
+drawName();
+if(name==='')setText(byId('name-words'),TEXTS.nameEmpty);
+if(name===''||wrong||!mayCommand()||feed||!(await takeTurn()))return;
 byId('name').value=name;
+drawName();
 nameCard=released=HELLO.slice(0,NAME_COLUMN)+ name;
-await feedDeck([nameCard],filled(TEXTS.fedName,{name}));
+Object.assign(guide,{card:nameCard,from:torn.length + view.paper.length});
 sound('punch');
-happened('named');
-byId('load-key').focus();
+await feedDeck([nameCard],filled(TEXTS.fedName,{name}));
 }
 function printCard(){
 cards.toPrint(nameCard);
@@ -2277,14 +2954,324 @@ document.body.classList.add('prints-card');
 print();
 document.body.classList.remove('prints-card');
 }
+const QR_BLOCKS=[[7,1],[10,1],[15,1],[20,1],[26,1],[18,2],[20,2],[24,2],[30,2],[18,4]];
+const QR_BYTES=[26,44,70,100,134,172,196,242,292,346];
+const QR_MARKS=[[],[6,18],[6,22],[6,26],[6,30],[6,34],[6,22,38],[6,24,42],[6,26,46],[6,28,50]];
+const QR_MASKS=[
+(x,y)=>(x + y)% 2,(x,y)=>y % 2,x=>x % 3,(x,y)=>(x + y)% 3,
+(x,y)=>(Math.floor(x / 3)+ Math.floor(y / 2))% 2,(x,y)=>x*y % 2 + x*y % 3,
+(x,y)=>(x*y % 2 + x*y % 3)% 2,(x,y)=>((x + y)% 2 + x*y % 3)% 2,
+];
+function timesInField(one,other){
+let product=0;
+for(let bit=7;bit>=0;bit--){
+product=product<<1 ^(product>>7)*0x11d;
+product ^=(other>>bit&1)*one;
+}
+return product;
+}
+function correctionOf(bytes,length){
+const divisor=[...Array(length - 1).fill(0),1],rest=Array(length).fill(0);
+for(let at=0,root=1;at<length;at++,root=timesInField(root,2)){
+for(let to=0;to<length;to++)divisor[to]=timesInField(divisor[to],root)^(divisor[to + 1]??0);
+}
+for(const byte of bytes){
+const factor=byte ^ rest.shift();
+rest.push(0);
+divisor.forEach((each,at)=>{rest[at]^=timesInField(each,factor);});
+}
+return rest;
+}
+function dataOf(bytes,version){
+const[each,blocks]=QR_BLOCKS[version - 1],most=QR_BYTES[version - 1]- each*blocks;
+const bits=[];
+const put=(value,length)=>{for(let bit=length - 1;bit>=0;bit--)bits.push(value>>bit&1);};
+put(4,4);
+put(bytes.length,version<10?8:16);
+for(const byte of bytes)put(byte,8);
+if(bits.length>most*8)return null;
+put(0,Math.min(4,most*8 - bits.length));
+while(bits.length % 8)bits.push(0);
+const data=[];
+for(let at=0;at<bits.length;at +=8)data.push(parseInt(bits.slice(at,at + 8).join(''),2));
+for(let pad=0xec;data.length<most;pad ^=0xec ^ 0x11)data.push(pad);
+return data;
+}
+function woven(data,version){
+const[length,count]=QR_BLOCKS[version - 1],short=Math.floor(data.length / count);
+const blocks=[],longer=data.length % count;
+for(let block=0,at=0;block<count;block++){
+const end=at + short +(block>=count - longer?1:0);
+blocks.push(data.slice(at,end));
+at=end;
+}
+const corrections=blocks.map(block=>correctionOf(block,length)),found=[];
+for(let at=0;at<=short;at++)for(const block of blocks)if(at<block.length)found.push(block[at]);
+for(let at=0;at<length;at++)for(const block of corrections)found.push(block[at]);
+return found;
+}
+function patternsOf(version){
+const size=17 + 4*version,modules=Array.from({length:size},()=>Array(size));
+const ring=(x,y,reach,dark)=>{
+for(let dy=-reach;dy<=reach;dy++){
+for(let dx=-reach;dx<=reach;dx++){
+if(modules[y + dy]&&x + dx>=0&&x + dx<size){
+modules[y + dy][x + dx]=dark(Math.max(Math.abs(dx),Math.abs(dy)));
+}
+}
+}
+};
+for(let at=0;at<size;at++)modules[6][at]=modules[at][6]=at % 2===0;
+const marks=QR_MARKS[version - 1],last=marks.length - 1;
+marks.forEach((y,row)=>marks.forEach((x,column)=>{
+const isCorner=row===0&&(column===0||column===last)||column===0&&row===last;
+if(!isCorner)ring(x,y,2,far=>far !==1);
+}));
+for(const[x,y]of[[3,3],[size - 4,3],[3,size - 4]])ring(x,y,4,far=>far !==2&&far !==4);
+putVersion(modules,version);
+putFormat(modules,0);
+return modules;
+}
+function remainder(value,divisor,bits){
+let rest=value;
+for(let at=0;at<bits;at++)rest=rest<<1 ^(rest>>bits - 1)*divisor;
+return rest;
+}
+function putFormat(modules,mask){
+const size=modules.length,value=8|mask,bits=(value<<10|remainder(value,0x537,10))^ 0x5412;
+const bit=at=>(bits>>at&1)===1;
+for(let at=0;at<6;at++)modules[at][8]=bit(at);
+modules[7][8]=bit(6);
+modules[8][8]=bit(7);
+modules[8][7]=bit(8);
+for(let at=9;at<15;at++)modules[8][14 - at]=bit(at);
+for(let at=0;at<8;at++)modules[8][size - 1 - at]=bit(at);
+for(let at=8;at<15;at++)modules[size - 15 + at][8]=bit(at);
+modules[size - 8][8]=true;
+}
+function putVersion(modules,version){
+if(version<7)return;
+const size=modules.length,bits=version<<12|remainder(version,0x1f25,12);
+for(let at=0;at<18;at++){
+const near=Math.floor(at / 3),far=size - 11 + at % 3;
+modules[near][far]=modules[far][near]=(bits>>at&1)===1;
+}
+}
+function filledWith(patterns,bytes,mask){
+const size=patterns.length,modules=patterns.map(row=>[...row]);
+let at=0;
+for(let right=size - 1;right>=1;right -=2){
+if(right===6)right=5;
+const isUp=(right + 1&2)===0;
+for(let step=0;step<size;step++){
+const y=isUp?size - 1 - step:step;
+for(const x of[right,right - 1]){
+if(patterns[y][x]!==undefined)continue;
+const bit=(bytes[at>>3]>>7 -(at&7)&1)===1;
+modules[y][x]=bit !==(QR_MASKS[mask](x,y)===0);
+at++;
+}
+}
+}
+putFormat(modules,mask);
+return modules;
+}
+function penaltyOf(modules){
+const size=modules.length;
+let penalty=0,dark=0;
+for(let one=0;one<size;one++){
+for(const at of[other=>modules[one][other],other=>modules[other][one]]){
+for(let other=1,run=1;other<=size;other++){
+if(other<size&&at(other)===at(other - 1))run++;
+else{
+penalty +=run>=5?run - 2:0;
+run=1;
+}
+}
+}
+for(let x=0;x<size;x++){
+dark +=modules[one][x];
+const isBlock=one>0&&x>0&&modules[one][x]===modules[one - 1][x]
+&&modules[one][x]===modules[one][x - 1]&&modules[one][x]===modules[one - 1][x - 1];
+penalty +=isBlock?3:0;
+}
+}
+return penalty + 10*Math.floor(Math.abs(20*dark / size**2 - 10));
+}
+function qrOf(text){
+const bytes=new TextEncoder().encode(text);
+for(let version=1;version<=QR_BYTES.length;version++){
+const data=dataOf(bytes,version);
+if(data===null)continue;
+const patterns=patternsOf(version),all=woven(data,version);
+const codes=QR_MASKS.map((_,mask)=>filledWith(patterns,all,mask));
+const penalties=codes.map(penaltyOf);
+return codes[penalties.indexOf(Math.min(...penalties))];
+}
+return null;
+}
+const isHome=FRAGMENT.has('card');
+function homeAddress(card){
+const isAlone=/^(127\.|localhost$|\[::1\]$)/.test(location.hostname)||location.protocol==='file:';
+const page=FRAGMENT.get('home')||(isAlone?'':`${location.origin}/`);
+return page&&`${page}#${new URLSearchParams({card, line: card.slice(NAME_COLUMN)})}`;
+}
+function drawHomeCode(isDone){
+const address=isDone?homeAddress(nameCard):'',code=address&&qrOf(address),picture=byId('home-code');
+byId('home-figure').hidden=!code;
+if(!code||picture.dataset.address===address)return;
+picture.dataset.address=address;
+picture.setAttribute('viewBox',`-4 -4 ${code.length + 8} ${code.length + 8}`);
+picture.replaceChildren();
+const path=code.map((row,y)=>row.map((dark,x)=>dark?`M${x} ${y}h1v1h-1z`:'').join('')).join('');
+drawn(picture,'rect',{x:-4,y:-4,width:code.length + 8,height:code.length + 8,class:'ground'});
+drawn(picture,'path',{d:path});
+}
+function showHome(){
+const text=name=>[...(FRAGMENT.get(name)||'').toUpperCase()].filter(each=>GRAPHICS.includes(each)).join('');
+document.body.classList.add('home');
+byId('home').hidden=false;
+cardIn(byId('home-card'))(text('card').slice(0,CARD_COLUMNS));
+setText(byId('home-line'),text('line').slice(0,132));
+}
+const GUIDE_WAITS_MS=120000;
+const HELLO_AT=[1,8,15,22,29,36,37];
+const HELLO_END=38;
+const GUIDE_STEPS={
+feed:{key:'feed-key',shown:0},load:{key:'load-key',shown:1},step:{key:'step-key',shown:2},
+run:{key:'run-key',shown:3},name:{key:'name-key',shown:4},
+loadName:{key:'load-key',shown:4},runName:{key:'run-key',shown:4},done:{key:'',shown:5},
+other:{key:'afresh-key',shown:-1},paper:{key:'tear-key',shown:-1},wait:{key:'turn-key',shown:-1},
+};
+const isHello=text=>text !==null&&text.startsWith(HELLO.slice(0,NAME_COLUMN));
+function isPrinted(card,from){
+return[...torn,...view.paper].slice(from).some(line=>line.text===card.slice(NAME_COLUMN));
+}
+function isFree({cells,from,read,next,registers}){
+if(isHello(read)&&registers.I===HELLO_END)return from>0||cells.slice(201,333).every(cell=>!cell.mark);
+return next===null&&cells.every(cell=>cell.graphic===' '&&!cell.mark);
+}
+function stepOf(picture,{hasFed,card,from}){
+const{registers:{I,HOPPER,PAPER},read,hopper}=picture,isOurs=text=>text===HELLO||text===card;
+if(card !==null&&isPrinted(card,from))return 'done';
+if(PAPER>=MOST_CARDS)return 'paper';
+if(isOurs(read)&&HELLO_AT.includes(I))return card !==null?'runName':I===1?'step':'run';
+if(HOPPER>0)return !isOurs(hopper)?'other':card !==null?'loadName':'load';
+if(!isFree(picture))return 'other';
+return hasFed&&isOurs(read)?'name':'feed';
+}
+function programThere({read,hopper}){
+const has=({cards},card)=>cards.some(each=>each.trimEnd()===card);
+const found=PROGRAMS.filter(each=>(hopper===null||has(each,hopper))&&(read===''||has(each,read)));
+return(hopper !==null||read !=='')&&found.length===1?found[0].name:null;
+}
+const guide={
+state:'off',hasFed:false,card:null,from:0,since:0,lit:'',
+begin(){
+const isPrepared=hold.isPrepared&&view.picture !==null&&!isClear(view.picture);
+Object.assign(this,{hasFed:false,card:null,since:performance.now(),state:isPrepared?'prepared':'on'});
+byId('program').value='hello';
+drawProgram();
+this.draw();
+},
+on(event){
+this.since=performance.now();
+if(event==='fed'){
+if(this.step()==='done')this.card=null;
+this.hasFed=true;
+}
+this.draw();
+},
+look(){
+const now=performance.now(),isLeft=run !==null&&!attract.on&&now - attract.touched>IDLE.attractMs;
+if(isLeft&&this.state==='aside')this.begin();
+const isLate=now - Math.max(this.since,attract.touched)>GUIDE_WAITS_MS;
+if(this.state==='on'&&!['feed','wait'].includes(this.step())&&isLate&&!run)this.stepAside();
+},
+stepAside(){
+if(isStage)return this.begin();
+this.state='aside';
+this.draw();
+},
+press(){
+if(this.state !=='on')return this.begin();
+this.state='off';
+this.draw();
+},
+step(){
+if(this.state !=='on'||view.picture===null)return null;
+return turn.wants||isKeptOff()?'wait':stepOf(view.picture,this);
+},
+draw(){
+const name=this.step(),step=name&&GUIDE_STEPS[name],shown=step?step.shown:-1;
+this.light(this.keyFor(name),name==='name'&&!tour.isOn&&'name');
+if(isExhibit)setText(byId('feed-key'),TEXTS.childKeys[wantsClearing()?'clear':'feed']);
+[...byId('guide-steps').children].forEach((element,at)=>{
+element.classList.toggle('done',at<shown);
+element.toggleAttribute('aria-current',at===shown);
+if(at===shown)element.setAttribute('aria-current','step');
+setAttribute(element,'aria-label',filled(at<shown?TEXTS.stepDone:TEXTS.stepOpen,
+{n:at + 1,name:TEXTS.guideSteps[at]}));
+});
+byId('name-form').hidden=name !=='name'||tour.isOn;
+byId('guide-end').hidden=name !=='done';
+setText(byId('guide-now'),this.words(name));
+setText(byId('guide-key'),this.state==='on'?TEXTS.guideOff:TEXTS.guideOn);
+drawHomeCode(name==='done');
+drawTurn();
+},
+keyFor(name){
+if(name===null)return '';
+return wantsClearing()?'feed-key':name==='name'&&tour.isOn?'why-key':GUIDE_STEPS[name].key;
+},
+light(lit,focus){
+if(lit===this.lit)return;
+const before=this.lit&&byId(this.lit);
+this.lit=lit;
+if(before)before.classList.remove('lit');
+if(!lit)return;
+byId(lit).classList.add('lit');
+if(before&&before===document.activeElement)setTimeout(()=>byId(focus||lit).focus());
+},
+words(name){
+if(name===null)return TEXTS.guide[this.state==='on'?'off':this.preparedWords()];
+if(name==='wait')return turnWords();
+const words=isExhibit?TEXTS.childWords:TEXTS.guideWords;
+const there=name==='other'?programThere(view.picture):null;
+return there?filled(words.program,{name:TEXTS.programs[there].name}):words[name];
+},
+preparedWords(){
+return this.state==='prepared'&&renewal.mode==='ON'?'preparedAgain':this.state;
+},
+};
+onHappened.push(event=>guide.on(event));
+function reserveGuide(){
+if(isStage)return;
+const probe=byId('guide-said').cloneNode(true),[words,end]=probe.children;
+probe.id=words.id='';
+probe.className='probe';
+words.removeAttribute('aria-live');
+byId('guide').append(probe);
+const heights=Object.entries(TEXTS.guideWords).map(([name,text])=>{
+words.textContent=text;
+end.hidden=name !=='done';
+return probe.offsetHeight + 1;
+});
+probe.remove();
+byId('guide-said').style.minHeight=`${Math.max(...heights)}px`;
+}
 const IDLE={attractMs:180000,pauseMs:90000,seatMs:20000,mostAfter:JOURNAL_ENTRIES / 2};
 const attract={on:false,stop:false,yields:false,press:false,touched:performance.now(),
 pressed:performance.now(),ended:-Infinity};
+const isHeldDown=({repeat,key,target})=>repeat&&['Enter',' '].includes(key)&&target.tagName==='BUTTON';
 function touch(event){
 attract.touched=attract.pressed=performance.now();
 if(run)run.wake();
 if(event.isTrusted===false)return;
-const isClick=event.type==='click',ends=guide.state==='attract',goesOn=isClick&&attract.press;
+const waited=VISIT.isFresh;
+if(waited)greet();
+if(isHeldDown(event))return event.preventDefault();
+const isClick=event.type==='click',ends=guide.state==='attract'||waited,goesOn=isClick&&attract.press;
 attract.press=ends&&!isClick;
 if(ends){
 if(attract.on)attract.stop=true;
@@ -2301,7 +3288,8 @@ attract.touched=performance.now();
 function isIdle(){
 const now=performance.now(),{picture}=view;
 if(!picture||hold.isPrepared||!mayCommand()||run||feed||taking||document.hidden)return false;
-if(document.querySelector('dialog[open]')||picture.after>IDLE.mostAfter)return false;
+if(isStage&&!VISIT.isFresh)return false;
+if(picture.after>IDLE.mostAfter)return false;
 const wanted=IDLE.attractMs + picture.seat*IDLE.seatMs;
 return now - attract.touched>wanted&&now - view.changed>wanted - IDLE.attractMs + IDLE.pauseMs
 &&now - attract.ended>IDLE.pauseMs&&now - view.others.at>wanted;
@@ -2310,6 +3298,7 @@ async function attractIfIdle(){
 if(attract.on||!isIdle())return;
 Object.assign(attract,{on:true,stop:false,yields:false});
 document.body.classList.add('attracts');
+if(!isStage)asNew();
 guide.state='attract';
 guide.draw();
 await playDeck();
@@ -2319,7 +3308,8 @@ if(attract.yields)stepAside();
 }
 async function takeOver(){
 Object.assign(attract,{on:true,stop:true});
-if(!attract.yields)await startAfresh();
+const isOurs=!attract.yields&&mayCommand()&&!othersAtWork();
+if(isOurs&&!isClear(view.picture))await startAfresh();
 Object.assign(attract,{on:false,ended:performance.now()});
 document.body.classList.remove('attracts');
 guide.begin();
@@ -2331,14 +3321,13 @@ else if(guide.state==='attract')stepAside();
 }
 function stepAside(){
 document.body.classList.remove('attracts');
-guide.state='aside';
-guide.draw();
+guide.stepAside();
 }
 async function playDeck(){
-const ends=()=>attract.stop||attract.yields;
+const ends=()=>attract.stop||attract.yields||!mayCommand();
 await startAfresh();
 if(ends())return;
-const shown=PROGRAMS.filter(program=>program.alone);
+const shown=PROGRAMS.filter(program=>program.alone&&!(isExhibit&&program.name==='hello'));
 const program=shown[Math.floor(Math.random()*shown.length)],pace=byId('pace').selectedIndex;
 byId('program').value=program.name;
 drawProgram();
@@ -2347,9 +3336,68 @@ if(ends())return;
 if(program.switches)await say(`SWITCH ${program.switches} ON`);
 await pressLoad();
 if(ends())return;
-byId('pace').selectedIndex=PACES.indexOf(OWN_PACE);
+byId('pace').selectedIndex=isExhibit?0:PACES.indexOf(OWN_PACE);
 await pressRun();
 byId('pace').selectedIndex=pace;
+}
+const VISIT={idleMs:60000,leaveMs:10000,wordsMs:4000,isFresh:false,at:0};
+function lookForVisitor(){
+if(!isExhibit)return;
+const idle=performance.now()- attract.touched,left=VISIT.idleMs + VISIT.leaveMs - idle;
+byId('leaving').hidden=VISIT.isFresh||idle<VISIT.idleMs;
+setText(byId('leaving-words'),counted(TEXTS.stage.leaving,Math.max(0,Math.ceil(left / 1000))));
+if(!VISIT.isFresh&&left<=0)welcomeNext();
+drawTouchMe();
+}
+function drawTouchMe(){
+byId('touch-me').hidden=!VISIT.isFresh;
+const all=Object.values(LANGUAGES),texts=all[Math.floor(performance.now()/ VISIT.wordsMs)% all.length];
+setText(byId('touch-words'),texts.stage.touch);
+byId('touch-words').lang=texts.language;
+}
+function greet(){
+VISIT.isFresh=false;
+byId('touch-me').hidden=true;
+}
+async function welcomeNext(){
+VISIT.isFresh=true;
+stopRun();
+turn.wants=false;
+if(turn.has||isHolder())await giveTurn();
+asNew();
+guide.state='attract';
+guide.draw();
+const isOurs=mayCommand()&&!othersAtWork()&&!hold.isPrepared;
+if(isOurs&&view.picture&&!isClear(view.picture))await startAfresh();
+byId('log').replaceChildren();
+}
+function asNew(){
+for(const dialog of document.querySelectorAll('dialog[open]'))dialog.close();
+for(const field of document.querySelectorAll('input:not([type=file]), textarea')){
+field.value=field.defaultValue;
+field.checked=field.defaultChecked;
+}
+for(const part of document.querySelectorAll('details'))part.open=part.id==='source-details';
+if(byId('fold').classList.contains('large'))enlargePaper();
+if(byId('view-key').getAttribute('aria-pressed')==='true')pressView();
+if(speaker)pressSound();
+if(document.body.classList.contains('more'))pressMore();
+byId('pace').selectedIndex=isExhibit?0:FASTEST;
+byId('log').replaceChildren();
+Object.assign(typed,{lines:[],at:0});
+released='';
+nameCard=HELLO;
+Object.assign(guide,{card:null,hasFed:false});
+torn.length=taken.length=0;
+followsPaper=true;
+view.ended=null;
+forgetWords();
+endTour();
+chooseLanguage(languageWanted());
+drawKeyed();
+drawName();
+document.activeElement.blur();
+scrollTo(0,0);
 }
 const SOUNDS={read:{ms:90,hertz:700},print:{ms:130,hertz:1900},punch:{ms:160,hertz:350}};
 let speaker=null;
@@ -2377,6 +3425,9 @@ drawCore();
 drawCards();
 drawPaper();
 drawKeys();
+guide.draw();
+drawMachines(view.picture);
+if(!tour.isOn)drawStage(view.picture);
 followI();
 showChanges(drawnLast,view.picture);
 drawnLast=view.picture;
@@ -2473,7 +3524,7 @@ function bulbRows(){
 const{registers,from,cells}=view.picture;
 const at=place=>cells[place - from]?cells[place - from].graphic:' ';
 const rows=[['B',at(registers.B)],['A',at(registers.A)],['OP',at(registers.I)]];
-const address=[...pad(registers.I,5)].map(digit=>[TEXTS.bulbAddress,digit]);
+const address=[...pad(registers.I,5)].map((digit,at)=>[`${TEXTS.bulbAddress}${at + 1}`,digit]);
 return[...rows,...address];
 }
 function drawBulbs(){
@@ -2799,6 +3850,9 @@ drawSheet(sheet,texts.get(form)||[],form===registers.FORM?registers.LINE:0,!isFi
 const place={form:pad(registers.FORM,4),line:registers.LINE};
 setText(byId('paper-at'),counted(TEXTS.paperAt,view.paper.length,place));
 drawTape(registers.LINE);
+byId('fold').style.setProperty('--lines',view.paper.length);
+byId('newest').hidden=view.paper.length===0;
+setText(byId('newest'),view.paper.length===0?'':view.paper.at(-1).text);
 followPaper();
 }
 function textsByForm(lines){
@@ -2926,12 +3980,14 @@ function pressKey(event){
 if(document.querySelector('dialog[open]'))return;
 if(event.key==='Escape')return pressStop();
 const action=SHORTCUTS[event.code];
-if(!action||!event.altKey||event.ctrlKey||event.metaKey||event.getModifierState('AltGraph'))return;
+if(isStage||!action||!event.altKey)return;
+if(event.ctrlKey||event.metaKey||event.getModifierState('AltGraph'))return;
 event.preventDefault();
 if(!event.repeat)action();
 }
 function putTexts(){
 document.documentElement.lang=TEXTS.language;
+document.documentElement.dir=TEXTS.dir;
 for(const element of document.querySelectorAll('[data-text], [data-label], [data-title], [data-hint]')){
 const{text,label,title,hint}=element.dataset;
 if(text)element.textContent=TEXTS[text];
@@ -2951,7 +4007,10 @@ for(const text of row)added(line,'td',{textContent:text});
 byId('guide-steps').replaceChildren();
 for(const step of TEXTS.guideSteps)added(byId('guide-steps'),'li',{textContent:step});
 buildAbout();
+if(isStage)buildDrawings();
 buildKeyboard();
+buildNameKeys();
+reserveGuide();
 namePanel();
 }
 function putChoices(){
@@ -3002,7 +4061,9 @@ const clicks={
 'load-key':pressLoad,'run-key':pressRun,'stop-key':pressStop,'step-key':pressStep,
 'pick-key':()=>byId('file').click(),'card-key':takeCard,'deck-key':()=>feedText(byId('deck').value),
 'feed-key':feedChosen,'all-cards-key':takeAllCards,'afresh-key':pressAfresh,'guide-key':()=>guide.press(),
-'view-key':pressView,'hold-key':pressHold,'sound-key':pressSound,'card-print-key':printCard,
+'view-key':pressView,'hold-key':pressHold,'turn-key':pressTurn,'more-key':pressMore,
+'why-key':pressWhy,'tour-back':tourBack,'tour-pause':pauseTour,'tour-next':tourNext,
+'watch-stop':watchStop,'watch-hold':watchHold,'sound-key':pressSound,'card-print-key':printCard,
 'about-key':showAbout,'about-close':()=>byId('about').close(),
 'feed-again-key':()=>feedDeck([...taken]),
 'save-cards-key':()=>saveFile('taken.cards',`${taken.join('\n')}\n`),
@@ -3027,6 +4088,7 @@ if(file)feedFile(file);
 byId('program').addEventListener('change',drawProgram);
 byId('language').addEventListener('change',()=>chooseLanguage(byId('language').value));
 byId('name-form').addEventListener('submit',punchName);
+byId('name').addEventListener('input',drawName);
 byId('keyboard').addEventListener('keydown',moveOnKeyboard);
 byId('start-form').addEventListener('submit',pressStart);
 byId('find').addEventListener('submit',findPlace);
@@ -3063,7 +4125,7 @@ places.addEventListener('click',event=>{if(event.target.tagName==='TD')event.tar
 function listenForFiles(){
 document.addEventListener('dragover',event=>{
 event.preventDefault();
-byId('feeder').classList.add('over');
+if(!isStage)byId('feeder').classList.add('over');
 });
 for(const name of['dragleave','drop']){
 document.addEventListener(name,()=>byId('feeder').classList.remove('over'));
@@ -3071,25 +4133,32 @@ document.addEventListener(name,()=>byId('feeder').classList.remove('over'));
 document.addEventListener('drop',event=>{
 event.preventDefault();
 const[file]=event.dataTransfer.files;
-if(file)feedFile(file);
+if(file&&!isStage)feedFile(file);
 });
 }
 function resized(){
+reserveGuide();
 if(columnsWanted()!==core.columns)buildCore();
 if(view.picture)draw();
 }
 async function poll(){
 for(;;){
-if(!taking&&!(feed&&!feed.waits))await inTurn(look);
+if(!taking&&!(feed&&!feed.waits))await(view.posting?lookAside():inTurn(look));
 if(view.picture)drawOthers();
 guide.look();
 lookForRenewal();
 lookForHold();
+lookForTurn();
+lookForVisitor();
+lookForTour();
+lookForWatch();
+drawStageHead();
 attractIfIdle();
 await delay(view.link !=='fine'?RETRY_MS:document.hidden?HIDDEN_POLL_MS:POLL_MS);
 }
 }
 async function begin(){
+if(isHome)return showHome();
 tell(TEXTS.said.welcome);
 note('words',TEXTS.said.firstNote);
 while(!(await inTurn(look)))await delay(RETRY_MS);
@@ -3102,8 +4171,12 @@ TEXTS=LANGUAGES[languageWanted()];
 const lamps=buildPanel();
 const tapePointer=buildTape();
 const cards={read:cardIn(byId('card-read')),next:cardIn(byId('card-next')),punched:cardIn(byId('card-punched')),
-keyed:cardIn(byId('card-keyed')),toPrint:cardIn(byId('card-to-print'))};
-for(const card of[cards.read,cards.next,cards.punched])card(null);
+keyed:cardIn(byId('card-keyed')),toPrint:cardIn(byId('card-to-print')),stage:cardIn(byId('stage-card'))};
+const stageSvg=byId('stage-card').querySelector('svg');
+const stageCuts=drawn(stageSvg,'path',{class:'cuts'});
+const stageLit=drawn(stageSvg,'rect',{class:'lit-part',y:1,height:CARD.height - 2});
+for(const card of[cards.read,cards.next,cards.punched,cards.stage])card(null);
+buildStage();
 putTexts();
 buildCore();
 drawKeyed();
@@ -3123,8 +4196,8 @@ begin();
 /// The `content-security-policy` of the page: its own script and style by their SHA-256, exchanges with its own server,
 /// and nothing else.
 pub const POLICY: &str = "default-src 'none'; \
-    script-src 'sha256-/7U3uqPrGSwMTXJiiSx0xFT0+jPETULr2QzVoyXk5ug='; \
-    style-src 'sha256-59aFZCQciM0a7kK5TsM8yNoux63Ji81fTk2rUPrgvQE='; \
+    script-src 'sha256-TqiI7ztTBY1mzr8N5x6OKHaXNjKFe276NHrQbzQ8MZ0='; \
+    style-src 'sha256-3pxumKpLvXJJqGlU2AXpmGR8zKM5yjvQb7LS2w6QDXI='; \
     img-src data:; \
     connect-src 'self'; \
     form-action 'none'; \
