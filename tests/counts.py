@@ -24,12 +24,13 @@ KINDS = {
 # How many there may be at the end of the way that COSTS describes.
 TARGETS = {"crates": 46, "functions": 3000}
 ALL = "all"
-QUOTED = re.compile(r"""b?"(?:[^"\\]|\\.)*"|b?'(?:[^'\\]|\\.)'|//.*""")
+# A text in quotation marks may have several lines.
+QUOTED = re.compile(r"""//[^\n]*|\bb?r(#*)".*?"\1|b?"(?:[^"\\]|\\.)*"|b?'(?:[^'\\]|\\.)'""", re.DOTALL)
 
 
 def count_in(text):
     """How many of each kind a source has."""
-    lines = [QUOTED.sub('""', line) for line in text.splitlines()]
+    lines = QUOTED.sub('""', text).splitlines()
     return {kind: sum(len(form.findall(line)) for line in lines) for kind, form in KINDS.items()}
 
 
