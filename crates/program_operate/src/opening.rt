@@ -77,7 +77,7 @@ struct ReadSource {
     program: Program,
 }
 
-/// The image and the program of a source of this name. What is wrong with it is reported.
+/// Assembles the source of this name into an image and a program, and reports its faults.
 ///
 /// # Errors
 ///

@@ -52,7 +52,7 @@ pub record InputNames : Type 0 where
 abbrev pub input_names : List ℕ → Option (List ℕ) → InputNames
 input_names program deck = record { program = program; deck = deck }
 
--- a file that can't be read is that of the program or the deck
+-- only the program's or the deck's file is reported unreadable
 abbrev pub IsInput : InputNames → List ℕ → Type 0
 IsInput names name = (name ≡ names.program) ⊎ (names.deck ≡ Some name)
 

@@ -238,7 +238,7 @@ fn source_machine(
     }
 }
 
-/// A machine with the program of a job's source, and no cards. What is wrong with it is reported.
+/// Assembles a job's source into a machine without cards, and reports its faults.
 fn source_inputs(
     rt: &(impl Eprint + AllocGlobal),
     job: &Job,
