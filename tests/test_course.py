@@ -269,7 +269,8 @@ class Script(CourseTest):
         place = self.folder / "repository"
         shutil.copytree(COURSE, place / "examples/course")
         launcher = place / "ibm1401"
-        launcher.write_text(f'#!/bin/sh\n[ "$1" = --build ] && echo building >&2 || exec {PROGRAM} "$@"\n')
+        begun = f'[ -e {place}/built ] || {{ echo building >&2 && touch {place}/built; }}'
+        launcher.write_text(f'#!/bin/sh\n{begun}\nexec {PROGRAM} "$@"\n')
         launcher.chmod(0o755)
         words = [place / "examples/course/lesson", "2"]
         self.same("its copy", run(words, cwd=self.desk).stderr, b"")
