@@ -1,11 +1,12 @@
 """The course: what its lessons show, what their checks find, and the script that hands them out."""
+import json
 import os
 import re
 import shutil
 import unittest
 
 from tests.peer import peer, with_peer
-from tests.support import EXAMPLES, LAUNCHER, PROGRAM, TOP, ProgramTest, program, run, status
+from tests.support import EXAMPLES, LAUNCHER, PAGE, PROGRAM, TOP, ProgramTest, program, run, status
 from tests.tape_reels import MARK, MARK_RECORD, records_of
 from tests.test_holds import HELD
 from tests.test_operate import typed_in
@@ -269,7 +270,8 @@ class Script(CourseTest):
         place = self.folder / "repository"
         shutil.copytree(COURSE, place / "examples/course")
         launcher = place / "ibm1401"
-        launcher.write_text(f'#!/bin/sh\n[ "$1" = --build ] && echo building >&2 || exec {PROGRAM} "$@"\n')
+        begun = f'[ -e {place}/built ] || {{ echo building >&2 && touch {place}/built; }}'
+        launcher.write_text(f'#!/bin/sh\n{begun}\nexec {PROGRAM} "$@"\n')
         launcher.chmod(0o755)
         words = [place / "examples/course/lesson", "2"]
         self.same("its copy", run(words, cwd=self.desk).stderr, b"")
@@ -352,6 +354,21 @@ class Teaching(CourseTest):
             self.same(f"{name}: repaired", replies[at + 1:at + 1 + len(repairs)], ["OK"] * len(repairs))
             printed = [line[13:] for line in replies if line.startswith("LINE ") and line[13:]]
             self.same(f"{name}: printed", printed, wanted)
+
+    def test_the_lessons_of_the_page(self):
+        """It has the decks and the sources, the lines that load them, and their steps in each language."""
+        script = (TOP / "page/script/lessons.js").read_text()
+        loaded = re.findall(r"^\| \d \| `RUN (\d+)` \|", self.page, re.MULTILINE)
+        self.same("the lines", re.search(r"LESSON_STEPS = \[(.*)\]", script)[1].split(", "), loaded)
+        for language in re.split(r"^  \w\w: \{$", script, flags=re.MULTILINE)[1:]:
+            parts = [len(re.findall(rf"\b{part}: '", language)) for part in ("title", "look", "mend", "right")]
+            self.same(f"{language[:20]!r}: the lessons", parts, [len(loaded)] * 4)
+        programs = json.loads(re.search(rb"const PROGRAM_FILES = (\{.*\});\n", PAGE)[1])
+        for number, lesson in enumerate(LESSONS[:len(loaded)], 1):
+            found = [[re.sub(r"~([D-Z])", lambda blanks: " " * (ord(blanks[1]) - 65), text) for text in texts]
+                     for texts in ([programs[f"lesson{number}"]["source"]], programs[f"lesson{number}"]["cards"])]
+            cards = [card.rstrip() for card in (lesson / "broken.deck").read_text().splitlines()]
+            self.same(lesson.name, found, [[(lesson / "broken.source").read_text()], cards])
 
     def test_a_class_takes_turns(self):
         """Each seat holds the machine for its deck, and takes the paper; the journal says who did what."""
