@@ -386,7 +386,7 @@ class Languages(Browser):
         """Chosen on the page, it is all of the page."""
         self.page.value("byId('language').value = 'de', byId('language').dispatchEvent(new Event('change'))")
         self.shows("the key of a program", "byId('feed-key').textContent", "Programm einlegen")
-        self.shows("the guide", "byId('guide-now').textContent === LANGUAGES.de.guideWords[0]")
+        self.shows("the guide", "byId('guide-now').textContent === LANGUAGES.de.guideWords.feed")
         self.shows("the head says its language", "document.documentElement.lang", "de")
         self.page.click("feed-key")
         self.shows("what is said", "byId('deck-words').textContent === LANGUAGES.de.programs.hello.fed")
@@ -527,7 +527,7 @@ class LongRuns(Browser):
         """The guide says so to whoever comes, and lights the key that clears the machine."""
         self.begin(0)
         self.page.value("attract.touched -= IDLE.attractMs, 0")
-        self.shows("the guide says what is left", "byId('guide-now').textContent === TEXTS.guide.left")
+        self.shows("the guide says what is left", "byId('guide-now').textContent === TEXTS.guideWords.other")
         self.shows("the key is lit", "document.querySelector('.lit').id", "afresh-key")
 
 
@@ -588,14 +588,16 @@ class Words(Browser):
 
     def test_a_name_is_not_left_out(self):
         """The last step of the guide is done by a card with a name, and that card is the one to print."""
-        self.page.value("['fed', 'load', 'step', 'halt', 'fed', 'load', 'halt'].forEach(event => guide.on(event)), 0")
-        self.shows("the guide waits", "guide.step().until", "named")
+        self.page.value("feedChosen().then(pressLoad).then(pressRun).then(() => feedText(HELLO))"
+                        ".then(() => delay(500)).then(pressLoad).then(pressRun)")
+        self.shows("the guide waits", "guide.step()", "name")
         self.page.value("byId('name').value = 'O\u2019NEILL', punchName(new Event('submit'))")
         self.shows("the name is fed", "view.picture.hopper.slice(40)", "O'NEILL")
+        self.page.value("pressLoad().then(pressRun)")
+        self.shows("it is printed", "guide.step()", "done")
         self.page.value("byId('keyed').value = 'ANOTHER', releaseCard()")
         self.shows("its card is the one to print", "nameCard.slice(40)", "O'NEILL")
-        self.page.value("guide.state = 'done', guide.draw(), guide.on('fed')")
-        self.shows("it is over with the next deck", "guide.state", "aside")
+        self.shows("it is over with the next deck", "guide.step()", "other")
 
     def test_what_one_is_looking_at(self):
         self.page.click("about-key")
@@ -605,15 +607,15 @@ class Words(Browser):
         """Whoever is at this one begins with a clear machine too."""
         self.page.value("say('FEED ONE')")
         second = self.open_page(2)
-        self.shows("the guide says what is left", "guide.state", "left", second)
+        self.shows("the guide says what is left", "guide.step()", "other", second)
         self.page.value("startAfresh()")
-        self.shows("it begins", "guide.state", "on", second)
+        self.shows("it begins", "guide.step()", "feed", second)
         self.shows("with these words", "byId('said-words').textContent === TEXTS.said.clear", page=second)
         second.value("guide.on('fed'), 0")
         self.page.value("say('FEED ONE')")
         self.shows("a card is there", "view.picture.registers.HOPPER", 1, second)
         self.page.value("startAfresh()")
-        self.shows("and once more", "guide.at", 0, second)
+        self.shows("and once more", "guide.step() + guide.hasFed", "feedfalse", second)
 
     def test_a_room_that_is_prepared_anew(self):
         room = self.room("serve", "--renew-after", 5, "--cards", EXAMPLES / "listing.deck", seats=1, pages=True,

@@ -263,8 +263,10 @@ class Guide(Browser):
         for name, card in [
             ("Zo\u00eb M\u00fcller-Stra\u00df", "ZOE MUELLER-STRASS"), ("Bj\u00f8rn \u00c5se", "BJOERN AASE"),
             ("\u0141ukasz \u0110or\u0111e", "LUKASZ DORDE"), ("\u0130zmir \u0131\u015f\u0131k", "IZMIR ISIK"),
-            ("\u0393\u03b9\u03ce\u03c1\u03b3\u03bf\u03c2", "GIORGOS"), ("\u042e\u043b\u0438\u044f \u0429\u0443\u043a", "YULIYA SHCHUK"),
-            ("\u0414\u0438\u043c\u0438\u0442\u0440\u0438\u0439", "DIMITRIY"), ("\u0641\u0627\u0637\u0645\u0629", "FATMA"),
+            ("\u0393\u03b9\u03ce\u03c1\u03b3\u03bf\u03c2", "GIORGOS"),
+            ("\u042e\u043b\u0438\u044f \u0429\u0443\u043a", "YULIYA SHCHUK"),
+            ("\u0414\u0438\u043c\u0438\u0442\u0440\u0438\u0439", "DIMITRIY"),
+            ("\u0641\u0627\u0637\u0645\u0629", "FATMA"),
             ("\u05d3\u05d5\u05d3", "DVD"),
         ]:
             self.shows(card, f"plain('{name}')", card)

@@ -54,10 +54,11 @@ class Home(Browser):
     def test_codes_are_read_by_another_program(self):
         """Of each version."""
         # A picture in black and white, with eight pixels a module and four modules around it.
-        drawn = """(code => code && (bits => [`P1 ${bits.length} ${bits.length}`, ...bits.map(row => row.join(' '))].join('\\n'))(
-            (rows => rows.flatMap(row => Array(8).fill(row.flatMap(bit => Array(8).fill(bit)))))(
-                Array.from({length: code.length + 8}, (_, y) => Array.from({length: code.length + 8},
-                    (_, x) => code[y - 4]?.[x - 4] ? 1 : 0)))))"""
+        drawn = """(code => {
+            const side = Array.from({length: code.length + 8}, (_, at) => at - 4), eight = Array(8).fill(0);
+            const rows = side.map(y => side.flatMap(x => eight.map(() => code[y]?.[x] ? 1 : 0)).join(' '));
+            return `P1 ${8 * side.length} ${8 * side.length}\\n` + rows.flatMap(row => eight.map(() => row)).join('\\n');
+        })"""
         for length in 10, 30, 50, 75, 100, 130, 150, 190, 225, 270:
             text = (f"{HOME}{CARD}" * 4)[:length]
             file = self.folder / f"{length}.pbm"

@@ -41,7 +41,8 @@ class Stage(Browser):
 
     def visit(self, name, press):
         """Subtests: a child of ten comes to a printed name."""
-        for step in "feed", "load", "step", "run":
+        press("feed-key" if self.page.value("guide.step()") == "done" else self.step("feed"))
+        for step in "load", "step", "run":
             press(self.step(step))
         self.step("name")
         self.write(name)
@@ -70,7 +71,6 @@ class Visits(Stage):
         for number, (place, size) in enumerate(SIZES.items()):
             with self.subTest(place):
                 self.page.resize(size)
-                self.page.value("guide.begin()")
                 self.visit(f"VISITOR {'ABCDEF'[number]}", self.mouse)
 
     def test_by_keyboard(self):
@@ -98,6 +98,7 @@ class Visits(Stage):
             self.page.call("Input.dispatchTouchEvent", type="touchEnd", touchPoints=[])
 
         def write(name):
+            self.page.value("byId('name').value = ''")
             for number, letter in enumerate(name):
                 key = f"{name}{number}"
                 found = f"[...byId('name-keys').children].find(key => key.textContent === '{letter}')"
@@ -108,8 +109,24 @@ class Visits(Stage):
         self.page.call("Emulation.setTouchEmulationEnabled", enabled=True)
         for place in "the smallest screen", "a telephone":
             self.page.resize(SIZES[place])
-            self.page.value("guide.begin(), byId('name').value = ''")
             self.visit("GRACE" if place == "a telephone" else "ADA", tap)
+
+
+    def test_while_another_screen_plays(self):
+        """A deck runs by itself there; the visitor here clears the machine, holds it, and comes to the name."""
+        first = self.page
+        self.page = self.open_stage(2)
+        first.value("VISIT.idleMs = 60000, attract.touched -= 80000, IDLE.attractMs = 0, 0")
+        self.shows("a deck runs there", "run !== null", page=first)
+        self.shows("the first key clears it", f"byId('feed-key').textContent + {LIT}", "CLEARfeed-key")
+        self.mouse("feed-key")
+        self.visit("ADA", self.mouse)
+        self.shows("the other screen waits for a touch", "!byId('touch-me').hidden", page=first)
+        self.mouse = lambda key: first.mouse(key)
+        self.mouse("touch-me")
+        self.shows("a visitor there begins", "guide.step()", "feed", first)
+        # Its run was refused, which is a complaint of the browser.
+        self.pages.remove(first)
 
 
 class Screen(Stage):

@@ -88,8 +88,8 @@ details>summary:hover{color:var(--ink);}
 .guide h2{letter-spacing:.05em;}
 .guide .title .small-key:first-of-type{margin-left:auto;}
 .steps{list-style:none;display:flex;margin:0;padding:7px 12px 0;gap:4px;counter-reset:step;}
-.steps li{flex:1 1 0;font-size:12.5px;line-height:1.2;text-align:center;color:var(--soft);
-border-top:4px solid #8d8878;padding-top:4px;counter-increment:step;}
+.steps li{flex:1 1 auto;white-space:nowrap;font-size:12px;line-height:1.2;text-align:center;
+color:var(--soft);border-top:4px solid #8d8878;padding-top:4px;counter-increment:step;}
 .steps li::before{content:counter(step) " ";}
 .steps li.done{border-top-color:var(--green);}
 .steps li.done::before{content:"\2713\a0";}
@@ -239,6 +239,7 @@ align-items:center;}
 .how{flex:1 1 100%;font-size:13.5px;color:var(--soft);margin:0;padding:0 12px 6px;min-height:1.7em;}
 .feed select{height:31px;max-width:100%;border:1px solid #8d8878;border-radius:4px;background:#fff;}
 .feeder .row{padding:0 12px;margin:0;}
+.feeder .how{min-height:3.3em;}
 progress{flex:1 1 120px;height:16px;accent-color:var(--blue);}
 .over{outline:3px dashed #b35f00;outline-offset:-4px;}
 .wrong,.how.wrong{color:var(--red);font-weight:700;}
@@ -4197,7 +4198,7 @@ begin();
 /// and nothing else.
 pub const POLICY: &str = "default-src 'none'; \
     script-src 'sha256-TqiI7ztTBY1mzr8N5x6OKHaXNjKFe276NHrQbzQ8MZ0='; \
-    style-src 'sha256-3pxumKpLvXJJqGlU2AXpmGR8zKM5yjvQb7LS2w6QDXI='; \
+    style-src 'sha256-nZ4I2LcKZkPzTt+Bxql2iFlArah66xV8adyV9bL7u/E='; \
     img-src data:; \
     connect-src 'self'; \
     form-action 'none'; \
