@@ -3,9 +3,9 @@
 //!
 //! ```text
 //! let cells = field_cells(alloc, core, 496)?;         // the field with its units at 496, units first
-//! put_number(&mut text, &cells)?                      // of 0000050!: -500
+//! put_number(&mut text, &cells);                      // of 0000050!: -500
 //! cells_with_number(alloc, &cells, None, b"495")?      // the cells that `set` deposits
-//! put_core(alloc, &mut text, core, 201, 241)?         // these places under a ruler
+//! put_core(alloc, &mut text, core, 201, 241);         // these places under a ruler
 //! ```
 #![tactic(auto)]
 

@@ -71,13 +71,6 @@ fn are_blank(cells: &[Cell]) -> bool
     cells.iter().all(|cell| cell.char == Char::BLANK)
 }
 
-/// Whether no cell has a word mark.
-fn are_unmarked(cells: &[Cell]) -> bool
-    ensures { result ≡ list_all is_unmarked cells.now }
-{
-    cells.iter().all(|cell| !cell.mark)
-}
-
 /// How many cells follow the last with a word mark.
 fn unmarked_at_end(cells: &[Cell]) -> usize
     ensures value { result ≡ suffix_len is_unmarked cells.now }
@@ -114,11 +107,12 @@ fn put_marks(text: &mut Text, cells: &[Cell])
 fn put_marks_row(text: &mut Text, cells: &[Cell])
     ensures { Adds text.old text.new (marks_row cells.now) }
 {
-    if are_unmarked(cells) {
+    let count = cells.len() - unmarked_at_end(cells);
+    if count == 0 {
         return;
     }
     text.put(b"       ");
-    put_marks(text, &cells[..cells.len() - unmarked_at_end(cells)]);
+    put_marks(text, &cells[..count]);
     text.put_byte(b'\n');
 }
 
