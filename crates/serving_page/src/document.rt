@@ -1972,11 +1972,14 @@ async function once(key,action){
 if(guarded.has(key))return;
 guarded.add(key);
 drawKeys();
+try{
 await action();
+}finally{
 setTimeout(()=>{
 guarded.delete(key);
 drawKeys();
 },GUARD_MS);
+}
 }
 const pressLoad=()=>once('load-key',loadCard);
 async function loadCard(){
@@ -3195,9 +3198,12 @@ this.state='aside';
 this.draw();
 },
 press(){
-if(this.state !=='on')return this.begin();
+if(this.isOver())return this.begin();
 this.state='off';
 this.draw();
+},
+isOver(){
+return this.state !=='on'||this.step()==='done';
 },
 step(){
 if(this.state !=='on'||view.picture===null)return null;
@@ -3217,7 +3223,7 @@ setAttribute(element,'aria-label',filled(at<shown?TEXTS.stepDone:TEXTS.stepOpen,
 byId('name-form').hidden=name !=='name'||tour.isOn;
 byId('guide-end').hidden=name !=='done';
 setText(byId('guide-now'),this.words(name));
-setText(byId('guide-key'),this.state==='on'?TEXTS.guideOff:TEXTS.guideOn);
+setText(byId('guide-key'),this.isOver()?TEXTS.guideOn:TEXTS.guideOff);
 drawHomeCode(name==='done');
 drawTurn();
 },
@@ -4197,7 +4203,7 @@ begin();
 /// The `content-security-policy` of the page: its own script and style by their SHA-256, exchanges with its own server,
 /// and nothing else.
 pub const POLICY: &str = "default-src 'none'; \
-    script-src 'sha256-TqiI7ztTBY1mzr8N5x6OKHaXNjKFe276NHrQbzQ8MZ0='; \
+    script-src 'sha256-92VOVgU99g8e8V0Pq/NGbvgmWyMAXUvAnZvhsLlX4cQ='; \
     style-src 'sha256-nZ4I2LcKZkPzTt+Bxql2iFlArah66xV8adyV9bL7u/E='; \
     img-src data:; \
     connect-src 'self'; \
