@@ -718,8 +718,10 @@ class Renewal(Browser):
         }, Object.assign(renewal, {mode: '', asked: -Infinity}), 0"""
 
     def answer(self, more=""):
-        """Puts the made-up answers in place of the server's, once the server's own first answer has come."""
+        """Puts the made-up answers in place of the server's, once the server's own first answer has come. The guide is
+        off, and doesn't ask to hold a machine of a made-up name."""
         self.shows("the server's own answer has come", "renewal.mode", "OFF")
+        self.page.value("guide.press()")
         self.page.value(self.ANSWERS + more)
 
     def test_a_notice(self):
@@ -753,7 +755,7 @@ class Renewal(Browser):
         self.shows("it goes on in a new room", "view.picture.room !== old && view.picture.after", 0, page)
         self.shows("which is clear", "byId('said-words').textContent === TEXTS.said.clear", page=page)
         words = "[...document.querySelectorAll('#log .words')].some(each => each.textContent === TEXTS.said.newRoom)"
-        self.shows("the page says so", words, page=page)
+        self.shows("the staff hasn't started it", words, False, page)
         self.shows("a line is carried out there", "say('FEED TWO').then(outcome => outcome.reply)", "OK", page)
 
     def test_no_new_room_is_asked_for_where_none_follows(self):

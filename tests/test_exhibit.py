@@ -41,6 +41,7 @@ class Visitors(Browser):
 
     def come(self):
         """A visitor finds the machine as somebody has left it, and clears it."""
+        self.by("guide-key")
         self.page.value("send('FEED LEFT')")
         self.guided("other")
         self.press("afresh-key")

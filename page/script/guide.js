@@ -72,11 +72,14 @@ const guide = {
     this.draw();
   },
   press() {
-    if (this.state !== 'on') return this.begin();
+    if (this.isOver()) return this.begin();
     this.state = 'off';
     this.draw();
   },
 
+  isOver() {
+    return this.state !== 'on' || this.step() === 'done';
+  },
   /* The step that the machine is at now; null if there is nothing to guide. */
   step() {
     if (this.state !== 'on' || view.picture === null) return null;
@@ -96,7 +99,7 @@ const guide = {
     byId('name-form').hidden = name !== 'name' || tour.isOn;
     byId('guide-end').hidden = name !== 'done';
     setText(byId('guide-now'), this.words(name));
-    setText(byId('guide-key'), this.state === 'on' ? TEXTS.guideOff : TEXTS.guideOn);
+    setText(byId('guide-key'), this.isOver() ? TEXTS.guideOn : TEXTS.guideOff);
     drawHomeCode(name === 'done');
     drawTurn();
   },

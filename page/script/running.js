@@ -36,11 +36,14 @@ async function once(key, action) {
   if (guarded.has(key)) return;
   guarded.add(key);
   drawKeys();
-  await action();
-  setTimeout(() => {
-    guarded.delete(key);
-    drawKeys();
-  }, GUARD_MS);
+  try {
+    await action();
+  } finally {
+    setTimeout(() => {
+      guarded.delete(key);
+      drawKeys();
+    }, GUARD_MS);
+  }
 }
 
 const pressLoad = () => once('load-key', loadCard);

@@ -2100,11 +2100,14 @@ async function once(key,action){
 if(guarded.has(key))return;
 guarded.add(key);
 drawKeys();
+try{
 await action();
+}finally{
 setTimeout(()=>{
 guarded.delete(key);
 drawKeys();
 },GUARD_MS);
+}
 }
 const pressLoad=()=>once('load-key',loadCard);
 async function loadCard(){
@@ -3323,9 +3326,12 @@ this.state='aside';
 this.draw();
 },
 press(){
-if(this.state !=='on')return this.begin();
+if(this.isOver())return this.begin();
 this.state='off';
 this.draw();
+},
+isOver(){
+return this.state !=='on'||this.step()==='done';
 },
 step(){
 if(this.state !=='on'||view.picture===null)return null;
@@ -3345,7 +3351,7 @@ setAttribute(element,'aria-label',filled(at<shown?TEXTS.stepDone:TEXTS.stepOpen,
 byId('name-form').hidden=name !=='name'||tour.isOn;
 byId('guide-end').hidden=name !=='done';
 setText(byId('guide-now'),this.words(name));
-setText(byId('guide-key'),this.state==='on'?TEXTS.guideOff:TEXTS.guideOn);
+setText(byId('guide-key'),this.isOver()?TEXTS.guideOn:TEXTS.guideOff);
 drawHomeCode(name==='done');
 drawTurn();
 },
@@ -4325,7 +4331,7 @@ begin();
 /// The `content-security-policy` of the page: its own script and style by their SHA-256, exchanges with its own server,
 /// and nothing else.
 pub const POLICY: &str = "default-src 'none'; \
-    script-src 'sha256-hCT6oW6/oBtRGmW7ObjRTpzHiz6MsFolJWHtSziv2Fo='; \
+    script-src 'sha256-QjTQEm6R7F3U+ylTw6Y/7n2gwjCtP8ewMEqLLhQ/40Q='; \
     style-src 'sha256-KOAcK7UwUiDrD7GU94qiiqDeqj180i/82nwGEMoHb5M='; \
     img-src data:; \
     connect-src 'self'; \
