@@ -1,6 +1,6 @@
 -- How numbers and texts compare, digit by digit and character by character.
 use Rattle.std.proofs.Common.{◌≡◌, ℕ, zero, suc, ◌+◌, ◌-◌, ◌*◌, ◌<◌, ◌≤◌, ◌==◌, ◌&&◌, Bool, true, false, List, [], ◌∷◌}
-use Rattle.std.proofs.Common.{length, drop, take, get_or, map, reverse, refl, sym, ◌∙◌, ap, arith, fold}
+use Rattle.std.proofs.Common.{length, drop, get_or, map, reverse, refl, sym, ◌∙◌, ap, arith, fold}
 use Rattle.std.specs.Prelude.{if◌then◌else◌}
 use Rattle.std.specs.List.{list_all}
 use Rattle.std.proofs.Common.{Ordering, Less, Equal, Greater, inl, inr}

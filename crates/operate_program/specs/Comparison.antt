@@ -1,6 +1,6 @@
 -- Conditions on fields (own; A24-1403, "High-Low-Equal Compare Device": the collating order).
 use Rattle.std.specs.Prelude.{ℕ, ◌+◌, ◌==◌, Bool, true, false, ◌&&◌, if◌then◌else◌, List, [], ◌∷◌, map, reverse}
-use Rattle.std.specs.Prelude.{unwrap_or, Option, None, Some, Result, Ok, Err}
+use Rattle.std.specs.Prelude.{unwrap_or, Option, None, Some, Result, Ok}
 use Rattle.std.specs.List.{list_all}
 use Rattle.std.specs.Ordering.{nat_cmp, ordering_then, ordering_reverse}
 use Rattle.std.specs.declared.cmp.Ordering.{Ordering}

@@ -1,6 +1,6 @@
 -- What the assembler makes of a statement at an address (own): of a source that gives the labels their values, places
 -- the statement and ends there.
-use Rattle.std.specs.Prelude.{ℕ, ◌==◌, Bool, true, false, ◌||◌, if◌then◌else◌, List, [], ◌∷◌, ◌++◌, length, map, drop}
+use Rattle.std.specs.Prelude.{ℕ, Bool, true, false, ◌||◌, if◌then◌else◌, List, [], ◌∷◌, ◌++◌, length, map, drop}
 use Rattle.std.specs.Prelude.{codes, Option, None, Some, Result, Ok, Err}
 use Rattle.std.specs.Char.{is_ascii_whitespace}
 use Rattle.std.specs.List.{concat, flat_map, prefix_len}

@@ -1,6 +1,6 @@
 -- The addresses that places mean now (own; A24-1403, "Indexing").
-use Rattle.std.specs.Prelude.{ℕ, ◌+◌, ◌-◌, ◌*◌, ◌==◌, nat_lt, ℤ, pos, nat_abs, int_le, int_lt, Bool, ◌&&◌, if◌then◌else◌}
-use Rattle.std.specs.Prelude.{List, [], ◌∷◌, length, slice_index_or, Option, None, Some, is_none, Result, Ok, Err, codes}
+use Rattle.std.specs.Prelude.{ℕ, ◌+◌, ◌-◌, ◌==◌, nat_lt, ℤ, pos, nat_abs, int_le, int_lt, Bool, ◌&&◌, if◌then◌else◌}
+use Rattle.std.specs.Prelude.{List, length, slice_index_or, Option, None, Some, is_none, Result, Ok, Err, codes}
 use Rattle.std.specs.List.{find}
 use Rattle.std.specs.Option.{ok_or, option_and_then}
 use Rattle.autocoder_listing.specs.declared.rows.Row.{Row}

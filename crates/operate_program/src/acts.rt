@@ -1,20 +1,17 @@
 //! The commands that acts stand for.
 ghost use Rattle.std.specs.Prelude.{◌≡◌, ◌+◌, ◌<◌, ◌≤◌, ◌∷◌, [], length, IfOk};
 ghost use Rattle.core_1401.specs.Storage.{cell_at};
-ghost use Rattle.operate_program.specs.Act.{Gives, cells_commands, commands_of, deposit_commands, if_place, mark_commands};
+ghost use Rattle.operate_program.specs.Act.{Gives, commands_of, deposit_commands, if_place, mark_commands};
 ghost use Rattle.operate_program.specs.Act.{start_commands, value_commands};
-ghost use Rattle.operate_program.specs.Field.{field_of, units_of};
 ghost use Rattle.operate_program.specs.Value.{address_of};
 
 use crate::commands::{held, one};
 use crate::fault::ActFault;
-use crate::field::Field;
 use crate::fields::set_commands;
 use crate::program::Program;
 use crate::ranges::places_in_core;
 use crate::statements::statement_commands;
 use bcd_1401::Cell;
-use core_1401::{Cells, Core};
 use cpu_1401::Machine;
 use machine_commands::Command;
 use operate_orders::{Act, Deposited, Place, Value};
@@ -31,24 +28,8 @@ fn address(program: &Program, machine: &Machine, place: &Place) -> Result<u16, A
     }
 }
 
-/// The command that deposits cells, if all of their places are in core.
-#[tactic(auto, unfolding(crate::specs::Act::cells_commands))]
-fn cells_commands(
-    alloc: Global,
-    core: &Core,
-    at: u16,
-    cells: Cells,
-) -> Result<Vec<Command>, ActFault>
-    ensures { Gives (λ commands. commands.items) result (cells_commands core.now at cells) }
-{
-    match places_in_core(core, at, cells.as_slice().len() as u32) {
-        Ok(_) => Ok(one(alloc, &Command::Deposit { address: at, cells })?),
-        Err(fault) => Err(ActFault::Place(fault)),
-    }
-}
-
 /// The commands of a deposit.
-#[tactic(auto, unfolding(crate::specs::Act::deposit_commands))]
+#[tactic(auto, unfolding(crate::specs::Act::deposit_commands, crate::specs::Act::cells_commands))]
 fn deposit_commands(
     alloc: Global,
     program: &Program,
@@ -62,7 +43,16 @@ fn deposit_commands(
     let at = address(program, machine, place)?;
     let core = machine.core();
     match what {
-        Deposited::Cells(cells) => cells_commands(alloc, core, at, *cells),
+        Deposited::Cells(cells) => match places_in_core(core, at, cells.as_slice().len() as u32) {
+            Ok(_) => Ok(one(
+                alloc,
+                &Command::Deposit {
+                    address: at,
+                    cells: *cells,
+                },
+            )?),
+            Err(fault) => Err(ActFault::Place(fault)),
+        },
         Deposited::Statement(statement) => {
             statement_commands(alloc, program, core.size(), at, statement)
         }
@@ -103,17 +93,6 @@ fn start_commands(
     Ok(one(alloc, &Command::SetI { address })?)
 }
 
-/// The field that a place names.
-fn field_named(program: &Program, machine: &Machine, place: &Place) -> Result<Field, ActFault>
-    ensures value { result ≡ if_place (field_of program.now machine.now place.now) }
-    ensures inside { IfOk result (λ field. units_of field < length machine.now.storage) }
-{
-    match program.field(machine, place) {
-        Ok(field) => Ok(field),
-        Err(fault) => Err(ActFault::Place(fault)),
-    }
-}
-
 /// The commands that put a value into a field.
 #[tactic(auto, unfolding(crate::specs::Act::value_commands))]
 fn value_commands(
@@ -125,8 +104,10 @@ fn value_commands(
 ) -> Result<Vec<Command>, ActFault>
     ensures { Gives (λ commands. commands.items) result (value_commands program.now machine.now place.now value.now) }
 {
-    let field = field_named(program, machine, place)?;
-    set_commands(alloc, machine.core(), field, value)
+    match program.field(machine, place) {
+        Ok(field) => set_commands(alloc, machine.core(), field, value),
+        Err(fault) => Err(ActFault::Place(fault)),
+    }
 }
 
 /// The commands that an act stands for, at this machine; none is carried out here. A run stands for none of its own:

@@ -79,47 +79,33 @@ pub(crate) fn one(alloc: Global, command: &Command) -> Result<Vec<Command>, Allo
     Ok(commands)
 }
 
-/// The command that deposits a segment.
-fn deposit_of(segment: &Segment) -> Command
-    ensures { result ≡ deposit_of segment.now }
-{
-    Command::Deposit {
-        address: segment.address,
-        cells: segment.cells,
-    }
-}
-
 /// The commands that deposit the segments of an image.
 pub(crate) fn deposits(alloc: Global, image: &Image) -> Result<Vec<Command>, AllocError>
     ensures { IfOk result (λ commands. commands.items ≡ map deposit_of image.now.segments) }
 {
     let mut commands = Vec::new(alloc);
     for segment in image.segments.as_slice() {
-        put(&mut commands, &deposit_of(segment))?;
+        let deposit = Command::Deposit {
+            address: segment.address,
+            cells: segment.cells,
+        };
+        put(&mut commands, &deposit)?;
     }
     Ok(commands)
 }
 
-/// The cells of the piece of this number, counted from 0: 40, but of the last as many as are left.
+/// The command that deposits the piece of this number, counted from 0: 40 cells, but the last has what is left.
 #[tactic(auto, using(crate::proofs::ActLemmas::forty))]
-fn piece_of(cells: &[Cell], number: usize) -> Cells
-    requires { most_cells * number < length cells.now }
-    ensures { result ≡ take most_cells (drop (most_cells * number) cells.now) }
-{
-    let (_, beyond) = cells.split_at(MOST_CELLS * number);
-    let (piece, _) = beyond.split_at(MOST_CELLS.min(beyond.len()));
-    held(piece)
-}
-
-/// The command that deposits a piece.
 fn piece(low: u16, cells: &[Cell], number: usize) -> Command
     requires within { most_cells * number < length cells.now }
     requires places { low + length cells.now ≤ addresses }
     ensures { result ≡ piece low cells.now number }
 {
+    let (_, beyond) = cells.split_at(MOST_CELLS * number);
+    let (piece, _) = beyond.split_at(MOST_CELLS.min(beyond.len()));
     Command::Deposit {
         address: low + (MOST_CELLS * number) as u16,
-        cells: piece_of(cells, number),
+        cells: held(piece),
     }
 }
 

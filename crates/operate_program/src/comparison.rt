@@ -7,7 +7,7 @@ ghost use Rattle.bcd_1401.specs.Digits.{is_digit, value_of};
 ghost use Rattle.core_1401.specs.Field.{cells_down};
 ghost use Rattle.core_1401.specs.Storage.{blank, cell_at};
 ghost use Rattle.fields_1401.specs.Number.{magnitude_of, places_down, sign_of};
-ghost use Rattle.operate_program.specs.Comparison.{by_signs, compared_at, condition_of, holds, is_so, is_so_number, is_so_text};
+ghost use Rattle.operate_program.specs.Comparison.{by_signs, compared_at, condition_of, holds, is_so};
 ghost use Rattle.operate_program.specs.Comparison.{number_order, order_of_byte, orders_of, orders_of_text, text_order};
 ghost use Rattle.operate_program.specs.Comparison.{sign_meant, unless_zero};
 ghost use Rattle.operate_program.specs.Field.{cells_of, units_of};
@@ -167,14 +167,6 @@ fn are_both_zero(order: Ordering, digits: &[u8]) -> bool
     order.is_eq() && are_zeros(digits)
 }
 
-/// Whether the zone of a place is that of a number below zero.
-fn is_minus_at(core: &Core, at: u16) -> bool
-    requires { at < length core.now }
-    ensures { result ≡ (zone_of (cell_at core.now at).char == 2) }
-{
-    core.get(at).char.zone() == MINUS_ZONE
-}
-
 /// How the number of a field compares with another.
 #[tactic(auto, using(crate::proofs::ComparisonLemmas::signed_at))]
 fn number_order(core: &Core, at: u16, len: u16, minus: bool, digits: &[u8]) -> Ordering
@@ -187,7 +179,8 @@ fn number_order(core: &Core, at: u16, len: u16, minus: bool, digits: &[u8]) -> O
 {
     let order = magnitude_order(core, at, len, digits);
     let is_zero = are_both_zero(order, digits);
-    by_signs(is_minus_at(core, at), minus, order, is_zero)
+    let is_minus = core.get(at).char.zone() == MINUS_ZONE;
+    by_signs(is_minus, minus, order, is_zero)
 }
 
 /// The place in the collating order of the character with a graphic; that of the blank if it is none.
@@ -265,40 +258,11 @@ fn is_number_at(core: &Core, at: u16, len: u16) -> bool
     is_digit_char(core.get(at).char) && are_plain_at(core, at, len)
 }
 
-/// Whether a field is a number, and in a relation to another.
-fn is_so_number(
-    core: &Core,
-    at: u16,
-    len: u16,
-    relation: Relation,
-    minus: bool,
-    digits: &[u8],
-) -> bool
-    requires at { at < length core.now }
-    requires some { 0 < len }
-    requires len { len ≤ at + 1 }
-    ensures { result ≡ is_so_number relation minus digits.now (places_down core.now at len) }
-{
-    if !is_number_at(core, at, len) || !are_digits(digits) {
-        return false;
-    }
-    holds(relation, number_order(core, at, len, minus, digits))
-}
-
 /// Whether each byte is a digit.
 pub(crate) fn are_digits(digits: &[u8]) -> bool
     ensures { result ≡ list_all is_digit digits.now }
 {
     digits.iter().all(|digit| *digit >= b'0' && *digit <= b'9')
-}
-
-/// Whether the characters of a field are in a relation to a text.
-fn is_so_text(core: &Core, at: u16, len: u16, relation: Relation, text: &[u8]) -> bool
-    requires at { at < length core.now }
-    requires len { len ≤ at + 1 }
-    ensures { result ≡ is_so_text relation text.now (places_down core.now at len) }
-{
-    holds(relation, field_order(core, at, len, text))
 }
 
 /// Whether a field of this many places is in a relation to a value.
@@ -310,9 +274,13 @@ fn is_so(core: &Core, at: u16, len: u16, relation: Relation, value: &Value) -> b
 {
     match value {
         Value::Number { minus, digits } => {
-            is_so_number(core, at, len, relation, *minus, digits.as_slice())
+            let digits = digits.as_slice();
+            if !is_number_at(core, at, len) || !are_digits(digits) {
+                return false;
+            }
+            holds(relation, number_order(core, at, len, *minus, digits))
         }
-        Value::Text(text) => is_so_text(core, at, len, relation, text.as_slice()),
+        Value::Text(text) => holds(relation, field_order(core, at, len, text.as_slice())),
     }
 }
 

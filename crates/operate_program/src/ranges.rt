@@ -2,7 +2,7 @@
 ghost use Rattle.std.specs.Prelude.{◌≡◌, ◌+◌, ◌<◌, ◌≤◌, ◌^◌, length, IfOk, IfSome};
 ghost use Rattle.core_1401.specs.Address.{addresses};
 ghost use Rattle.operate_program.specs.Range.{area_of, between, count_named, counted, first_named, is_first_of};
-ghost use Rattle.operate_program.specs.Range.{index_places, label_places, lone, one_place, places_in_core, places_named};
+ghost use Rattle.operate_program.specs.Range.{index_places, lone, one_place, places_in_core, places_named};
 ghost use Rattle.operate_program.specs.Range.{range_of, unadjusted};
 
 use crate::fault::PlaceFault;
@@ -97,18 +97,6 @@ fn places_named(
 }
 
 impl Program {
-    /// The places that a label names.
-    #[tactic(auto, unfolding(crate::specs::Range::label_places))]
-    fn label_places(&self, core: &Core, label: &Text) -> Result<(u16, u16), PlaceFault>
-        ensures value { result ≡ label_places self.now core.now label.now }
-        ensures inside { IfOk result (λ places. places.0 + places.1 ≤ length core.now) }
-    {
-        match self.symbol(label.as_slice()) {
-            Some(symbol) => places_named(core, self.rows.as_slice(), label, &symbol),
-            None => Err(PlaceFault::Label(*label)),
-        }
-    }
-
     /// The three places of an index register, or those of a label with its name.
     #[tactic(auto, unfolding(crate::specs::Range::index_places))]
     fn index_places(&self, core: &Core, register: IndexRegister) -> Result<(u16, u16), PlaceFault>
@@ -178,12 +166,18 @@ impl Program {
     }
 
     /// A place without an adjustment: all places of a label, or of an index register.
+    #[tactic(auto, unfolding(crate::specs::Range::label_places))]
     fn unadjusted(&self, machine: &Machine, place: &Place) -> Result<(u16, u16), PlaceFault>
         ensures value { result ≡ unadjusted self.now machine.now place.now place.now.base }
         ensures inside { IfOk result (λ places. places.0 + places.1 ≤ length machine.now.storage) }
     {
         match &place.base {
-            Base::Label(label) => self.label_places(machine.core(), label),
+            Base::Label(label) => match self.symbol(label.as_slice()) {
+                Some(symbol) => {
+                    places_named(machine.core(), self.rows.as_slice(), label, &symbol)
+                }
+                None => Err(PlaceFault::Label(*label)),
+            },
             Base::Index(register) => self.index_places(machine.core(), *register),
             Base::Number(_) | Base::Line(_) | Base::Held(_) => self.one_place(machine, place),
         }

@@ -7,7 +7,7 @@ ghost use Rattle.autocoder_statements.specs.SourceLine.{lines_of};
 ghost use Rattle.autocoder_symbols.specs.Reading.{lines_in};
 ghost use Rattle.operate_program.specs.Source.{IsDataOf, IsStatementOf, columns, data_at, has_cell, is_data_at};
 ghost use Rattle.operate_program.specs.Source.{is_data_operation, label_in, line_at, line_numbered, listed_at};
-ghost use Rattle.operate_program.specs.Source.{operands_in, operands_len, operation_in};
+ghost use Rattle.operate_program.specs.Source.{operands_in, operands_len};
 ghost use Rattle.operate_views.specs.Lines.{cells_to_mark};
 
 use crate::program::Program;
@@ -77,13 +77,6 @@ fn label_in(line: &[u8]) -> &[u8]
     word_in(columns(line, 6, 15))
 }
 
-/// The operation of a line.
-fn operation_in(line: &[u8]) -> &[u8]
-    ensures { result.now ≡ operation_in line.now }
-{
-    word_in(columns(line, 16, 20))
-}
-
 /// What the line of this number says, in its columns.
 fn statement_of(number: u64, line: &[u8]) -> Statement<'_>
     ensures number { result.line ≡ number }
@@ -92,7 +85,7 @@ fn statement_of(number: u64, line: &[u8]) -> Statement<'_>
     Statement {
         line: number,
         label: label_in(line),
-        operation: operation_in(line),
+        operation: word_in(columns(line, 16, 20)),
         operands: operands_in(line),
     }
 }
@@ -125,19 +118,6 @@ fn data_at(source: &[u8], rows: &[Row], at: u16) -> Option<Row>
         .rev()
         .copied()
         .find(|row| is_data_at(source, at, row))
-}
-
-/// A line as data.
-fn data_of(number: u64, line: &[u8]) -> Statement<'_>
-    ensures number { result.line ≡ number }
-    ensures fields { IsDataOf line.now result }
-{
-    Statement {
-        line: number,
-        label: label_in(line),
-        operation: DATA,
-        operands: &[],
-    }
 }
 
 /// What follows so many lines of a source.
@@ -250,7 +230,12 @@ impl Program {
             IsDataOf (line_numbered self.now.text statement.line) statement) }
     {
         match data_at(self.text.as_slice(), self.rows.as_slice(), at) {
-            Some(row) => Some(data_of(row.number, self.source_line(row.number))),
+            Some(row) => Some(Statement {
+                line: row.number,
+                label: label_in(self.source_line(row.number)),
+                operation: DATA,
+                operands: &[],
+            }),
             None => None,
         }
     }

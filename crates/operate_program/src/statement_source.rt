@@ -3,7 +3,8 @@ ghost use Rattle.std.specs.Prelude.{◌≡◌, IfOk};
 ghost use Rattle.std.specs.List.{flat_map};
 ghost use Rattle.autocoder_statements.specs.Language.{line_in};
 ghost use Rattle.bytes_text.specs.Written.{Adds};
-ghost use Rattle.operate_program.specs.Statement.{declares, equate, statement_line, statement_source, without_front};
+ghost use Rattle.operate_program.specs.Statement.{declares, equate, equate_line, statement_line, statement_source};
+ghost use Rattle.operate_program.specs.Statement.{without_front};
 
 use crate::program::Program;
 use crate::values::place_of;
@@ -28,14 +29,11 @@ fn declares(language: Language, line: &[u8], symbol: &Symbol) -> bool
     }
 }
 
-/// Adds the line that gives a label its value, if it is a place and the language can declare the label so.
+/// The line that gives a label a value.
 #[tactic(auto, unfolding(crate::specs::Statement::equate_line))]
-fn put_equate(alloc: Global, text: &mut Text, language: Language, symbol: &Symbol)
-    ensures { Adds text.old text.new (equate language symbol.now) }
+fn equate_line(alloc: Global, symbol: &Symbol, value: u32) -> Result<Vec<u8>, AllocError>
+    ensures { IfOk result (λ line. line.items ≡ equate_line symbol.now value) }
 {
-    let Some(value) = place_of(symbol.value) else {
-        return;
-    };
     let mut line = Text::new(alloc);
     line.put_pieces(&[
         Piece::Text(b"     "),
@@ -43,10 +41,24 @@ fn put_equate(alloc: Global, text: &mut Text, language: Language, symbol: &Symbo
         Piece::Text(b"    EQU  "),
         Piece::Count(value as u64),
     ]);
-    text.rests_on(&line);
-    if declares(language, line.as_slice(), symbol) {
-        text.put(line.as_slice());
-        text.put_byte(b'\n');
+    line.into_bytes()
+}
+
+/// Adds the line that gives a label its value, if it is a place and the language can declare the label so.
+fn put_equate(alloc: Global, text: &mut Text, language: Language, symbol: &Symbol)
+    ensures { Adds text.old text.new (equate language symbol.now) }
+{
+    let Some(value) = place_of(symbol.value) else {
+        return;
+    };
+    match equate_line(alloc, symbol, value) {
+        Ok(line) => {
+            if declares(language, line.as_slice(), symbol) {
+                text.put(line.as_slice());
+                text.put_byte(b'\n');
+            }
+        }
+        Err(_) => text.fail(),
     }
 }
 

@@ -6,7 +6,7 @@ ghost use Rattle.operate_program.specs.Act.{Gives};
 ghost use Rattle.operate_program.specs.declared.fault.ActFault.TheVariants as ActFault;
 ghost use Rattle.operate_program.specs.Statement.{assembled_commands, image_commands, is_literal, placed_commands};
 ghost use Rattle.operate_program.specs.Statement.{statement_commands, statement_line};
-ghost use Rattle.operate_program.specs.Statement.{uses_literal, uses_literal_in};
+ghost use Rattle.operate_program.specs.Statement.{uses_literal};
 
 use crate::commands::deposits;
 use crate::fault::ActFault;
@@ -30,26 +30,19 @@ fn is_literal(field: OperandField) -> bool
     }
 }
 
-/// Whether operands of an instruction use a literal.
-fn uses_literal_in(addressing: Addressing) -> bool
-    ensures { result ≡ uses_literal_in addressing }
-{
-    match addressing {
-        Addressing::Addresses(Operands { a, b, .. }) => is_literal(a) || is_literal(b),
-        Addressing::Nothing
-        | Addressing::EarlierValue(_)
-        | Addressing::Equal(_)
-        | Addressing::Value(_)
-        | Addressing::Entry(_) => false,
-    }
-}
-
 /// Whether a line uses a literal, which would need a place of its own.
 fn uses_literal(language: Language, line: &[u8]) -> bool
     ensures { result ≡ uses_literal language line.now }
 {
     match Line::in_language(language, line).statement {
-        Some(statement) => uses_literal_in(statement.body.describe().addressing),
+        Some(statement) => match statement.body.describe().addressing {
+            Addressing::Addresses(Operands { a, b, .. }) => is_literal(a) || is_literal(b),
+            Addressing::Nothing
+            | Addressing::EarlierValue(_)
+            | Addressing::Equal(_)
+            | Addressing::Value(_)
+            | Addressing::Entry(_) => false,
+        },
         None => false,
     }
 }

@@ -1,8 +1,8 @@
 //! The addresses that places mean.
 ghost use Rattle.std.specs.Prelude.{◌≡◌, ◌+◌, ◌*◌, ◌<◌, ◌≤◌, ◌^◌, length, slice_index_or, None, IfOk, IfSome};
 ghost use Rattle.core_1401.specs.Address.{addresses};
-ghost use Rattle.operate_program.specs.Value.{address_of, adjusted, base_value, held_by, in_core, index_name, lessened};
-ghost use Rattle.operate_program.specs.Value.{index_number, index_value, indexed_value, is_unadjusted, label_value, line_value};
+ghost use Rattle.operate_program.specs.Value.{address_of, adjusted, base_value, held_by, in_core, index_name};
+ghost use Rattle.operate_program.specs.Value.{index_number, index_value, is_unadjusted, label_value, line_value};
 ghost use Rattle.operate_program.specs.Value.{place_of, row_of_line, units_place, value_of};
 
 use crate::fault::PlaceFault;
@@ -102,34 +102,8 @@ fn line_value(rows: &[Row], number: u32) -> Result<u32, PlaceFault>
     }
 }
 
-/// A value and what an index register holds, as the machine adds them.
-#[tactic(auto, unfolding(crate::specs::Value::indexed_value))]
-fn indexed_value(core: &Core, register: IndexRegister, value: u64) -> Result<u64, PlaceFault>
-    ensures value { result ≡ indexed_value core.now register value }
-    ensures range { IfOk result (λ indexed. indexed < addresses) }
-{
-    if value >= u64::from(ADDRESSES) {
-        return Err(PlaceFault::NotInCore {
-            at: value,
-            size: core.size(),
-        });
-    }
-    Ok(u64::from(core.indexed(value as u16, index_number(register))))
-}
-
-/// A value less a number.
-fn lessened(value: u64, number: u32) -> Result<u64, PlaceFault>
-    ensures value { result ≡ lessened value number }
-    ensures range { IfOk result (λ less. less ≤ value) }
-{
-    match value.checked_sub(u64::from(number)) {
-        Some(less) => Ok(less),
-        None => Err(PlaceFault::BelowZero),
-    }
-}
-
 /// A value with an adjustment, if there is one.
-#[tactic(auto, unfolding(crate::specs::Value::adjusted))]
+#[tactic(auto, unfolding(crate::specs::Value::adjusted, crate::specs::Value::indexed_value))]
 fn adjusted(core: &Core, adjustment: Option<Adjustment>, value: u64) -> Result<u64, PlaceFault>
     requires { value < 2 ^ 40 }
     ensures value { result ≡ adjusted core.now adjustment value }
@@ -138,8 +112,20 @@ fn adjusted(core: &Core, adjustment: Option<Adjustment>, value: u64) -> Result<u
     match adjustment {
         None => Ok(value),
         Some(Adjustment::Plus(number)) => Ok(value + u64::from(number)),
-        Some(Adjustment::Minus(number)) => lessened(value, number),
-        Some(Adjustment::Indexed(register)) => indexed_value(core, register, value),
+        Some(Adjustment::Minus(number)) => match value.checked_sub(u64::from(number)) {
+            Some(less) => Ok(less),
+            None => Err(PlaceFault::BelowZero),
+        },
+        Some(Adjustment::Indexed(register)) => {
+            if value >= u64::from(ADDRESSES) {
+                return Err(PlaceFault::NotInCore {
+                    at: value,
+                    size: core.size(),
+                });
+            }
+            // The machine adds them.
+            Ok(u64::from(core.indexed(value as u16, index_number(register))))
+        }
     }
 }
 

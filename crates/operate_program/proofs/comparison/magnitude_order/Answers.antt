@@ -1,5 +1,5 @@
 -- Beyond the highest digits both are zero; at the end all digits are compared.
-use Rattle.std.proofs.Common.{◌≡◌, ℕ, List, drop, length, reverse, refl, ap, arith, ◌∙◌}
+use Rattle.std.proofs.Common.{◌≡◌, ℕ, List, drop, reverse, refl, ap, arith, ◌∙◌}
 use Rattle.std.specs.Ordering.{nat_cmp}
 use Rattle.std.proofs.lemmas.List.{drop_all, length-reverse}
 use Rattle.bcd_1401.specs.declared.cell.Cell.{Cell}
