@@ -1,5 +1,5 @@
 -- Breaks and watches in words (own).
-use Rattle.std.specs.Prelude.{ℕ, ◌==◌, ◌&&◌, not, if◌then◌else◌, Bool, List, [], ◌∷◌, ◌++◌, codes, Option, None, Some}
+use Rattle.std.specs.Prelude.{ℕ, ◌==◌, ◌&&◌, not, if◌then◌else◌, List, [], ◌∷◌, ◌++◌, codes, Option, None, Some}
 use Rattle.core_1401.specs.Storage.{Storage, cell_at, is_in_core}
 use Rattle.machine_notation.specs.Digits.{digits_in}
 use Rattle.operate_orders.specs.declared.orders.Watched.{Watched}

@@ -1,5 +1,5 @@
 -- Breaks and watches together (own): what they remember in a run, how they are counted, set and taken away.
-use Rattle.std.specs.Prelude.{◌≡◌, ◌⊎◌, ℕ, ◌+◌, ◌-◌, ◌^◌, ◌==◌, min, Bool, true, false, not, ◌||◌, if◌then◌else◌, List, [], ◌∷◌, ◌++◌}
+use Rattle.std.specs.Prelude.{ℕ, ◌+◌, ◌-◌, ◌^◌, ◌==◌, min, Bool, false, not, if◌then◌else◌, List, [], ◌∷◌, ◌++◌}
 use Rattle.std.specs.Prelude.{length, map, filter, slice_index_or, Option, None, Some, is_none, Result, Ok, Err}
 use Rattle.std.specs.List.{list_any}
 use Rattle.bcd_1401.specs.declared.cell.Cell.{Cell}
