@@ -76,12 +76,11 @@ pub fn attend_seats<J: RoomId, R: Wait>(
 /// Bytes that are read ahead, and bytes that are taken.
 pub fn show_streams(trial: &mut Trial) {
     let mut reader = FromReader::new(ahead_of(trial.alloc, b"Q".as_slice()));
-    let read = (
-        reader.next_byte(),
-        reader.next_byte(),
-        Source::has_failed(&reader),
-    );
-    trial.show("next_byte, next_byte, has_failed", &read);
+    if let Ok(first) = reader.next_byte() {
+        let second = reader.next_byte();
+        let read = (first, second, Source::has_failed(&reader));
+        trial.show("next_byte, next_byte, has_failed", &read);
+    }
     let mut writer = ToWriter::new(Vec::new(trial.alloc));
     let taken = (writer.put(b"BYE"), Sink::has_failed(&writer));
     trial.show("put, has_failed", &taken);

@@ -6,10 +6,10 @@ use crate::images::{show_image, show_packed, show_segments};
 use crate::trial::Trial;
 use autocoder_1401::messages::warning_column;
 use autocoder_1401::{
-    AsmFault, AsmKind, Assembly, AssemblyProgram, AssemblyTables, Image, Language, WarningKind,
-    assemble, assemble_image, assemble_in, assemble_listing, assemble_packed, assemble_program,
-    assemble_with_tables, explained_faults, fault_lines, faults, warning_lines, warnings,
-    write_listing,
+    AsmFault, AsmKind, Assembly, AssemblyProgram, AssemblyTables, Image, Language, Rows,
+    WarningKind, assemble, assemble_image, assemble_in, assemble_listing, assemble_packed,
+    assemble_program, assemble_with_tables, explained_faults, fault_lines, faults, warning_lines,
+    warnings, write_listing,
 };
 use console_1401::{Line, ToWriter, parse_line};
 use cpu_1401::Features;
@@ -104,7 +104,19 @@ fn show_assembly(trial: &mut Trial, assembled: Result<Assembly, AsmFault>)
     }
 }
 
-/// Shows the image, a row and the symbols of a source, and which line placed the instruction at 407.
+/// Shows which line placed the instruction at 407.
+fn show_line(trial: &mut Trial, rows: &Rows) {
+    if let Ok(Line::Command(command)) = parse_line(b"DEPOSIT 0407 ~A423420") {
+        if let Command::Deposit { address, cells } = &command {
+            match rows.line_of(trial.alloc, *address, cells.as_slice()) {
+                Ok(number) => trial.show("the line that placed 407", &number),
+                Err(fault) => show_fault(trial, fault),
+            }
+        }
+    }
+}
+
+/// Shows the image, a row and the symbols of a source, and which line placed an instruction.
 fn show_program(trial: &mut Trial, source: &[u8]) {
     match assemble_program(trial.alloc, Language::Plain, source, 4_000) {
         Ok(
@@ -116,14 +128,7 @@ fn show_program(trial: &mut Trial, source: &[u8]) {
         ) => {
             trial.show("symbols and rows", &(symbols.len(), rows.as_slice().len()));
             trial.show("row 2", &rows.as_slice().get(1));
-            if let Ok(Line::Command(Command::Deposit { address, cells })) = parse_line(
-                b"DEPOSIT 0407 ~A423420",
-            ) {
-                match rows.line_of(trial.alloc, address, cells.as_slice()) {
-                    Ok(number) => trial.show("the line that placed 407", &number),
-                    Err(fault) => show_fault(trial, fault),
-                }
-            }
+            show_line(trial, &rows);
             show_packed(trial, image);
         }
         Err(fault) => show_fault(trial, fault),

@@ -91,14 +91,16 @@ fn walk(trial: &mut Trial, core: &mut Core, mark: u16) {
 
 /// Puts the cells of a `DEPOSIT` into core storage.
 pub fn deposit(core: &mut Core, line: &str) {
-    if let Ok(Line::Command(Command::Deposit { address, cells })) = parse_line(line.as_bytes()) {
-        let mut at = address;
-        for cell in cells.as_slice() {
-            if core.in_core(at) {
-                core.put_char(at, cell.char);
-                core.put_mark(at, cell.mark);
+    if let Ok(Line::Command(command)) = parse_line(line.as_bytes()) {
+        if let Command::Deposit { address, cells } = &command {
+            let mut at = *address;
+            for cell in cells.as_slice() {
+                if core.in_core(at) {
+                    core.put_char(at, cell.char);
+                    core.put_mark(at, cell.mark);
+                }
+                at = at.saturating_add(1);
             }
-            at = at.saturating_add(1);
         }
     }
 }
@@ -156,7 +158,8 @@ fn use_blocks(trial: &mut Trial, core: &mut Core) {
     }
     show_cells(trial, core, 600, 604);
     core.chars_mut().fill(Char::of_digit(5, 2));
-    trial.show("lent", &core.chars().get(601).copied().map(Char::graphic));
+    let is_lent = core.chars().get(601) == Some(&Char::of_digit(5, 2));
+    trial.show("lent", &is_lent);
 }
 
 /// Shows the sizes, and addresses as they are spelled.
