@@ -48,7 +48,8 @@ pub struct SeatPage<'a, J: RoomId, R: Wait + Drop, P: Keeper + Drop, W: Wait, G:
     gate: &'a G,
 }
 
-impl<'a, J: RoomId, R: Wait + Drop, P: Keeper + Drop, W: Wait, G: Gate> Model for SeatPage<'a, J, R, P, W, G> {
+impl<'a, J: RoomId, R: Wait + Drop, P: Keeper + Drop, W: Wait, G: Gate> Model
+    for SeatPage<'a, J, R, P, W, G> {
     ghost use Rattle.std.specs.Prelude.{◌++◌, IsTrue};
     ghost use Rattle.http_header.specs.FieldValue.{is_visible_text};
     ghost use Rattle.serving_page.specs.SeatPage.{PageView};
@@ -68,7 +69,14 @@ impl<'a, J: RoomId, R: Wait + Drop, P: Keeper + Drop, W: Wait, G: Gate> Model fo
     ghost invariant = { λ s. IsTrue (is_visible_text s.document.policy.now) };
 }
 
-impl<'a, J: RoomId, R: Wait + Drop, P: Keeper + Drop, W: Wait, G: Gate> SeatPage<'a, J, R, P, W, G> {
+impl<'a, J: RoomId, R: Wait + Drop, P: Keeper + Drop, W: Wait, G: Gate> SeatPage<
+    'a,
+    J,
+    R,
+    P,
+    W,
+    G,
+> {
     /// The page of a seat of the room that is shown so, which is served where this site is, and nowhere else. The gate
     /// says of each line whether it is carried out.
     pub fn new(
@@ -180,7 +188,8 @@ impl<'a, J: RoomId, R: Wait + Drop, P: Keeper + Drop, W: Wait, G: Gate> SeatPage
     }
 }
 
-impl<J: RoomId, R: Wait + Drop, P: Keeper + Drop, W: Wait, G: Gate> Service for SeatPage<'_, J, R, P, W, G> {
+impl<J: RoomId, R: Wait + Drop, P: Keeper + Drop, W: Wait, G: Gate> Service
+    for SeatPage<'_, J, R, P, W, G> {
     ghost use Rattle.serving_page.specs.SeatPage.{Answers};
     ghost use Rattle.serving_page.specs.Taking.{HasLost};
 

@@ -130,9 +130,7 @@ pub(crate) fn errand_of(
         about_hold(request, site, name)
     } else if path == "/release" {
         posted(request, site, name, Errand::EndHold)
-    } else if is_kept_off(hold, seat)
-        && brings_lines(route_of(request.method().as_str(), path))
-    {
+    } else if is_kept_off(hold, seat) && brings_lines(route_of(request.method().as_str(), path)) {
         posted(request, site, name, Errand::KeptOff)
     } else {
         return Errand::AtSeat;

@@ -11,5 +11,5 @@ loop-digit-preserved c =
     let at = c.loop-digit.digit-index in
     let picked = λ (n : ℕ). set items at (get_or (codes "0123456789ABCDEF") n 0) in
     let step = map_over_more character_of c.args.bytes items at (get_or items at 0) (omega arith) c.loop-digit.invariant
-        (get_or_default items at 0 (get_or items at 0) (omega arith)) in
+    (get_or_default items at 0 (get_or items at 0) (omega arith)) in
     ap picked c.from.ensures ∙ step

@@ -10,7 +10,7 @@ use Rattle.serving_page.proofs.many_lines.answer_lines.Goals as goal
 pub loop-rest-init : goal.loop-rest-init
 loop-rest-init g c =
     let Text : List ℕ → Type 0 = λ text. LinesDone g.J.RoomId.size g.G.Gate.says c.args.seat.now
-        (lines_of c.args.body.now) text c.args.seat.now (lines_of c.args.body.now) in
+    (lines_of c.args.body.now) text c.args.seat.now (lines_of c.args.body.now) in
     record {
       done = subst Text (search rules) (done_first g.J.RoomId.size g.G.Gate.says c.args.seat.now
           (lines_of c.args.body.now));

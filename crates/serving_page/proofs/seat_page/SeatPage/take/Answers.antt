@@ -25,8 +25,7 @@ returns-clause-ok g c =
     let same : body ≡ body_of c.args.request.now = search rules in
     let own : is_from_site (head_of c.args.request.now) (site_of c.args.self.now) ≡ true = search rules in
     let here : is_for_room (head_of c.args.request.now) c.args.self.now.name ≡ true = search rules in
-    let next : is_next (count_in (head_of c.args.request.now)) before.made ≡ true = search rules in
-    (
+    let next : is_next (count_in (head_of c.args.request.now)) before.made ≡ true = search rules in (
       taken _ _ _ _ _ _ _ own here next (subst Told same told, c.answer-outcome.ensures.seat),
       c.answer-outcome.ensures.page,
     )
