@@ -1,4 +1,5 @@
 """A page that holds the machine for a minute: meanwhile no other page gives it lines."""
+import re
 import threading
 import time
 import unittest
@@ -18,6 +19,14 @@ LOOK = 0.25
 # How many windows of a page look: on a host with much to do the looks of one may come late.
 LOOKERS = 8
 PICTURE = "/picture?core=0&paper=0"
+# A loop that moves 3,400 characters again and again, how many of its instructions are timed, and how many a run may
+# have; and how long a run is to take for whose end lines wait.
+LONG_LOOP = "DEPOSIT 0600 ~A\nDEPOSIT 0001 ~MI99I99~B001\nSTART 1"
+TIMED, MOST_STEPS = 2000, 1_000_000
+LONG = 2
+# How many lines a request brings, and how long it takes at most until a request that was sent waits for its turn.
+MANY = 1000
+SENT = 0.1
 
 
 class Holds(PageTest):
@@ -70,6 +79,56 @@ class Holds(PageTest):
         """In what an answer differs, but for up to ten seconds that have passed."""
         texts = [wanted.replace(b"FOR 60", b"FOR %d" % left) for left in range(HELD - 10, HELD + 1)]
         return "" if found in texts else f"it is {found!r}"
+
+    def test_lines_that_came_before_it_are_kept_off(self):
+        """At most one line of a page is carried out once the hold is answered: one that has its turn, or waits for
+        it."""
+        for _ in range(MOST_TRIALS):
+            wrong, is_certain = self.hold_during_lines()
+            if is_certain:
+                break
+        self.check("lines waited when the hold began", "" if is_certain else "they never did")
+        self.check("what came of them", wrong)
+
+    def hold_during_lines(self):
+        """Has seat 1 of a new room hold the machine while a run goes on, and lines of two seats wait for its end: what
+        is wrong with their answers, and whether they waited for certain."""
+        room, answers = self.pages(4), {}
+        self.same("the loop is there", body(room.post(4, LONG_LOOP, 0, "/lines")), b"OK\nOK\nOK\n")
+        timed = time.monotonic()
+        self.same("it is timed", status(room.post(4, f"RUN {TIMED}", 3)), 200)
+        steps = min(MOST_STEPS, int(TIMED * LONG / (time.monotonic() - timed)))
+
+        def send(name, seat, text, made, path="/line"):
+            answers[name] = room.post(seat, text, made, path), time.monotonic()
+
+        senders = [threading.Thread(target=send, args=args) for args in [
+            ("run", 4, f"RUN {steps}", 4), ("lines", 2, "\n".join(["START 1"] * MANY), 0, "/lines"),
+            ("first", 3, "START 1", 0), ("second", 3, "START 1", 1),
+        ]]
+        for sender in senders:
+            sender.start()
+            time.sleep(SENT)
+        asked = time.monotonic()
+        held, _ = self.ask(room, 1)
+        begun = looked = time.monotonic()
+        longest = begun - asked
+        while any(sender.is_alive() for sender in senders):
+            self.look(room, 1)
+            looked, before = time.monotonic(), looked
+            longest = max(longest, looked - before)
+            time.sleep(LOOK)
+        found = {name: (status(answer), body(answer)) for name, (answer, _) in answers.items()}
+        made = [room.made(seat) for seat in (2, 3)]
+        said = rb"HOLD 1 FOR \d+\nLAST \d .+\nTAKEN[ 1-4]+\nBEGAN PLAIN\n"
+        wrong = [f"{name}: {found[name]}" for name, wanted, text in [
+            ("run", 200, rb"STOP 01 LIMIT STEPS %d I 0000\d\n" % steps), ("lines", 423, rb"(OK\n){%d}" % made[0] + said),
+            ("first", 200 if made[1] else 423, rb"OK\n" if made[1] else said), ("second", 423 if made[1] else 409, said if made[1] else rb""),
+        ] if found[name][0] != wanted or not re.fullmatch(text, found[name][1])]
+        wrong += [f"lines that were carried out: {made}"] if max(made) > 1 else []
+        self.ended(room, "the room", 5 + sum(made))
+        is_late = held == 200 and answers["run"][1] - begun > SENT and answers["first"][1] > begun
+        return wrong, is_late and longest < GONE - EXACT and time.monotonic() - begun < HELD - EXACT
 
     def test_who_may_hold_it(self):
         self.trial(self.ask_to_hold, QUICK)

@@ -6,7 +6,6 @@ use Rattle.http.specs.declared.request.Parts.{Parts}
 use Rattle.http_header.specs.FieldValue.{plain_value}
 use Rattle.http_uri.specs.Uri.{uri_authority}
 use Rattle.serving_http.specs.declared.origins.Scheme.TheVariants.{Https}
-use Rattle.serving_http.specs.Fields.{host_of, origin_of}
 use Rattle.serving_http.specs.Origins.{host_text, origin_text}
 use Rattle.serving_http.specs.Sites.{is_from_either, is_within}
 

@@ -1,6 +1,7 @@
 pub mod Exchange
 pub mod Fields
 pub mod Limits
+pub mod Names
 pub mod Numbers
 pub mod Origins
 pub mod Responses

@@ -1,90 +1,86 @@
--- Lines that are carried out one after the other: a line more, and the last one.
-use Rattle.std.proofs.Common.{◌≡◌, ℕ, ◌+◌, true, false, List, [], ◌∷◌, ◌++◌, length}
-use Rattle.std.proofs.Common.{subst, sym, refl, inl, inr, append_assoc}
+-- Lines that are carried out one after the other: one more of them, and the last one.
+use Rattle.std.proofs.Common.{◌≡◌, ℕ, ◌+◌, ◌⊎◌, Bool, true, false, List, [], ◌∷◌, ◌++◌, length}
+use Rattle.std.proofs.Common.{subst, sym, refl, inl, inr, append_assoc, ap, ◌∙◌}
 use Rattle.std.proofs.lemmas.List.{append-nil}
-use Rattle.std.specs.Prelude.{Option, None, Some}
-use Rattle.room_alone.specs.declared.entry.SeatedCommand.{SeatedCommand}
+use Rattle.std.specs.Prelude.{Option, None, Some, if◌then◌else◌}
 use Rattle.room_1401.specs.Seen.{SeatView}
 use Rattle.console_text.specs.ConsoleLine.{said_by}
-use Rattle.console_1401.specs.declared.attending.Unanswered.{Unanswered}
-use Rattle.console_1401.specs.declared.attending.Unanswered.TheVariants.{Memory}
-use Rattle.console_1401.specs.SeatTurns.{AnswersAtSeat, IsUnanswered}
-use Rattle.serving_page.specs.ManyLines.{IsReason, LinesAnswered, LinesUnanswered, goes_on}
+use Rattle.console_1401.specs.SeatTurns.{AnswersAtSeat}
+use Rattle.serving_page.specs.ManyLines.{EndsKeptOff, EndsTold, LinesAnswered, LinesDone, LinesKeptOff}
+use Rattle.serving_page.specs.ManyLines.{Saying, goes_on}
 
 -- how much is left of a text: with the end of its last piece, if there is one
 abbrev pub left_of : Option (List ℕ) → ℕ
 left_of None = 0
 left_of (Some text) = length text + 1
 
--- whatever these lines come to from here on, with this text before it it is what all come to
-abbrev pub MakesWhole : ℕ → SeatView → List (List ℕ) → List ℕ → SeatView → List (List ℕ) → Type 0
-MakesWhole size first all text before left =
-    (more : List ℕ) (after : SeatView) → LinesAnswered size before left more after
-    → LinesAnswered size first all (text ++ more) after
-
--- the same if they fail
-abbrev pub FailsWhole : ℕ → (List SeatedCommand → Type 0) → SeatView → List (List ℕ) → SeatView → List (List ℕ)
-    → Type 0
-FailsWhole size lost first all before left =
-    (why : Unanswered) (after : SeatView) → LinesUnanswered size lost before left why after
-    → LinesUnanswered size lost first all why after
-
 -- at the beginning
-pub whole_first : (size : ℕ) (first : SeatView) (all : List (List ℕ)) → MakesWhole size first all [] first all
-whole_first size first all more after answered = answered
+pub done_first : (size : ℕ) (says : Saying) (first : SeatView) (all : List (List ℕ))
+    → LinesDone size says first all [] first all
+done_first size says first [] = (refl, refl, refl)
+done_first size says first (line ∷ lines) = inr (refl, refl, refl)
 
 -- a line whose reply goes on
-pub whole_on : (size : ℕ) (first before middle : SeatView) (all left lines : List (List ℕ))
-    (line text reply new : List ℕ) → MakesWhole size first all text before left → left ≡ line ∷ lines
-    → AnswersAtSeat size before (said_by line) reply middle → goes_on reply ≡ true → new ≡ text ++ reply
-    → MakesWhole size first all new middle lines
-whole_on size first before middle all left lines line text reply new so_far is answers goes news more after rest =
-    let Here : List (List ℕ) → Type 0 = λ these. LinesAnswered size before these (reply ++ more) after in
-    let Whole : List ℕ → Type 0 = λ these. LinesAnswered size first all these after in
-    let With : List ℕ → Type 0 = λ these. Whole (these ++ more) in
-    let here : Here left = subst Here (sym is) (inl (reply, middle, more, answers, goes, refl, rest)) in
-    subst With (sym news) (subst Whole (sym (append_assoc text reply more)) (so_far (reply ++ more) after here))
+done_on : (size : ℕ) (says : Saying) (first before after : SeatView) (all lines : List (List ℕ))
+    (line text reply : List ℕ) → LinesDone size says first all text before (line ∷ lines) → says (line ∷ lines) None
+    → AnswersAtSeat size before (said_by line) reply after → goes_on reply ≡ true
+    → LinesDone size says first all (text ++ reply) after lines
+done_on size says first before after [] lines line text reply done lets answers goes =
+    let none : (line ∷ lines) ≡ [] = done.2 in absurd cc
+done_on size says first before after (each ∷ all) lines line text reply (inl done) lets answers goes =
+    inl (
+      done.0,
+      done.1,
+      done.2 ++ reply,
+      done.3,
+      done.4,
+      done.5,
+      ap (λ (these : List ℕ). these ++ reply) done.6 ∙ append_assoc done.0 done.2 reply,
+      done_on size says done.1 before after all lines line done.2 reply done.7 lets answers goes,
+    )
+done_on size says first before after (each ∷ all) lines line text reply (inr none) lets answers goes =
+    let All : List (List ℕ) → Type 0 = λ these. LinesDone size says first these (text ++ reply) after lines in
+    let At : SeatView → Type 0 = λ seat. AnswersAtSeat size seat (said_by line) reply after in
+    subst All none.2 (inl (
+      reply,
+      after,
+      [],
+      lets,
+      subst At none.1 answers,
+      goes,
+      ap (λ (these : List ℕ). these ++ reply) none.0 ∙ sym (append-nil reply),
+      done_first size says after lines,
+    ))
 
--- a line whose reply doesn't
-pub whole_last : (size : ℕ) (first before after : SeatView) (all left lines : List (List ℕ))
-    (line text reply new : List ℕ) → MakesWhole size first all text before left → left ≡ line ∷ lines
-    → AnswersAtSeat size before (said_by line) reply after → goes_on reply ≡ false → new ≡ text ++ reply
-    → LinesAnswered size first all new after
-whole_last size first before after all left lines line text reply new so_far is answers goes news =
-    let Here : List (List ℕ) → Type 0 = λ these. LinesAnswered size before these reply after in
-    let Whole : List ℕ → Type 0 = λ these. LinesAnswered size first all these after in
-    subst Whole (sym news) (so_far reply after (subst Here (sym is) (inr (answers, goes))))
+-- the same of what is left of a text
+pub done_next : (size : ℕ) (says : Saying) (first before after : SeatView) (all left lines : List (List ℕ))
+    (line text reply new : List ℕ) → LinesDone size says first all text before left → left ≡ line ∷ lines
+    → says left None → AnswersAtSeat size before (said_by line) reply after → goes_on reply ≡ true
+    → new ≡ text ++ reply → LinesDone size says first all new after lines
+done_next size says first before after all left lines line text reply new done is lets answers goes news =
+    let Left : List (List ℕ) → Type 0 = λ these. LinesDone size says first all text before these × says these None in
+    let New : List ℕ → Type 0 = λ these. LinesDone size says first all these after lines in
+    let both : Left (line ∷ lines) = subst Left is (done, lets) in
+    subst New (sym news) (done_on size says first before after all lines line text reply both.0 both.1 answers goes)
 
--- no line is left
-pub whole_end : (size : ℕ) (first before : SeatView) (all left : List (List ℕ)) (text : List ℕ)
-    → MakesWhole size first all text before left → left ≡ [] → LinesAnswered size first all text before
-whole_end size first before all left text so_far is =
-    let Here : List (List ℕ) → Type 0 = λ these. LinesAnswered size before these [] before in
-    let Whole : List ℕ → Type 0 = λ these. LinesAnswered size first all these before in
-    subst Whole (append-nil text) (so_far [] before (subst Here (sym is) (refl, refl)))
+-- nothing is left, or the next line is the last one
+pub ends_told : (size : ℕ) (says : Saying) (first before after : SeatView) (all left these : List (List ℕ))
+    (told text : List ℕ) → LinesDone size says first all told before left → left ≡ these
+    → EndsTold size says told before these text after → LinesAnswered size says first all text after
+ends_told size says first before after all left these told text done is ends =
+    let Left : List (List ℕ) → Type 0 = λ lines. LinesDone size says first all told before lines in
+    (told, before, these, subst Left is done, ends)
 
-pub fails_on : (size : ℕ) (lost : List SeatedCommand → Type 0) (first before middle : SeatView)
-    (all left lines : List (List ℕ)) (line reply : List ℕ) → FailsWhole size lost first all before left
-    → left ≡ line ∷ lines → AnswersAtSeat size before (said_by line) reply middle → goes_on reply ≡ true
-    → FailsWhole size lost first all middle lines
-fails_on size lost first before middle all left lines line reply so_far is answers goes why after fails =
-    let Here : List (List ℕ) → Type 0 = λ these. LinesUnanswered size lost before these why after in
-    so_far why after (subst Here (sym is) (inl (reply, middle, answers, goes, fails)))
+-- the next line is kept off
+pub ends_kept_off : (size : ℕ) (says : Saying) (first before after : SeatView) (all left these : List (List ℕ))
+    (told text : List ℕ) → LinesDone size says first all told before left → left ≡ these
+    → EndsKeptOff says told before these text after → LinesKeptOff size says first all text after
+ends_kept_off size says first before after all left these told text done is ends =
+    let Left : List (List ℕ) → Type 0 = λ lines. LinesDone size says first all told before lines in
+    (told, before, these, subst Left is done, ends)
 
--- a line without a reply
-pub fails_here : (size : ℕ) (lost : List SeatedCommand → Type 0) (first before after : SeatView)
-    (all left lines : List (List ℕ)) (line : List ℕ) (why : Unanswered) → FailsWhole size lost first all before left
-    → left ≡ line ∷ lines → IsUnanswered size before (said_by line) after → IsReason (lost after.list) why
-    → LinesUnanswered size lost first all why after
-fails_here size lost first before after all left lines line why so_far is unanswered reason =
-    let Here : List (List ℕ) → Type 0 = λ these. LinesUnanswered size lost before these why after in
-    so_far why after (subst Here (sym is) (inr (inl (reason, unanswered))))
-
--- a reply for which there is no more memory
-pub fails_memory : (size : ℕ) (lost : List SeatedCommand → Type 0) (first before after : SeatView)
-    (all left lines : List (List ℕ)) (line reply : List ℕ) → FailsWhole size lost first all before left
-    → left ≡ line ∷ lines → AnswersAtSeat size before (said_by line) reply after
-    → LinesUnanswered size lost first all Memory after
-fails_memory size lost first before after all left lines line reply so_far is answers =
-    let Here : List (List ℕ) → Type 0 = λ these. LinesUnanswered size lost before these Memory after in
-    so_far Memory after (subst Here (sym is) (inr (inr (reply, answers, refl))))
+-- it is said why, unless memory was refused
+pub said_or_not : (is_said : Bool) (new told these why : List ℕ) → new ≡ (if is_said then told ++ these else told)
+    → these ≡ why → (new ≡ told ++ why) ⊎ (new ≡ told)
+said_or_not true new told these why is same = inl (is ∙ ap (λ (text : List ℕ). told ++ text) same)
+said_or_not false new told these why is same = inr is

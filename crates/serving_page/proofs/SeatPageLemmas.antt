@@ -24,11 +24,12 @@ use Rattle.serving_http.specs.Route.{route_of}
 use Rattle.serving_http.specs.Sites.{is_from_site, SiteView}
 use Rattle.serving_page.specs.Asked.{ampersand, asked_in, room_in}
 use Rattle.serving_page.specs.Elsewhere.{TellsAddress}
+use Rattle.serving_page.specs.ManyLines.{Saying}
 use Rattle.serving_page.specs.Pieces.{pieces_in}
 use Rattle.serving_page.specs.SeatPage.{Answers, AnswersRoute, PageView, site_of, with_seat}
 use Rattle.room_1401.proofs.PrefixLemmas.{prefix_trans}
 use Rattle.serving_page.specs.Showing.{HasLooked, Sees, ShowsAsked, ShowsPicture, asked_here, heading}
-use Rattle.serving_page.specs.Taking.{GoesOn, IsReplied, Takes}
+use Rattle.serving_page.specs.Taking.{GoesOn, IsOutcome, Takes}
 use Rattle.serving_page.specs.declared.taking.Brought.{Brought}
 use Rattle.serving_page.specs.declared.taking.Brought.TheVariants as brought
 
@@ -77,45 +78,45 @@ taken_if true false next Taken before after response t goes_on = stays before af
 taken_if true true false Taken before after response t goes_on = stays before after t.1
 taken_if true true true Taken before after response t goes_on = goes_on t
 
-takes : (brought : Brought) (size : ℕ) (lost : List SeatedCommand → Type 0) (site : SiteView) (name : List ℕ) (head : Parts)
+takes : (brought : Brought) (size : ℕ) (says : Saying) (lost : List SeatedCommand → Type 0) (site : SiteView) (name : List ℕ) (head : Parts)
     (body : List ℕ) (before : SeatView) (response : Response) (after : SeatView)
-    → Takes brought size lost site name head body before response after → GoesOn before after
-takes brought size lost site name head body before response after t =
+    → Takes brought size says lost site name head body before response after → GoesOn before after
+takes brought size says lost site name head body before response after t =
     taken_if (is_from_site head site) (is_for_room head name) (is_next (count_in head) before.made)
-    (IsReplied brought size lost before body response after × GoesOn before after) before after response t
+    (IsOutcome brought size says lost before body response after × GoesOn before after) before after response t
     (λ taken. taken.1)
 
-route : (size : ℕ) (lost : List SeatedCommand → Type 0) (to : Route) (old : PageView) (request : Request (List ℕ))
-    (response : Response) (new : PageView) → AnswersRoute size lost to old request response new
+route : (size : ℕ) (says : Saying) (lost : List SeatedCommand → Type 0) (to : Route) (old : PageView) (request : Request (List ℕ))
+    (response : Response) (new : PageView) → AnswersRoute size says lost to old request response new
     → GoesOn old.seat new.seat
-route size lost Page old request response new a = stays old.seat new.seat (ap (λ (page : PageView). page.seat) a.1)
-route size lost Picture old request response new a = shows size old.seats old.name (pieces_in ampersand (uri_query (head_of request).uri)) old.seat response new.seat a.0
-route size lost Line old request response new a =
+route size says lost Page old request response new a = stays old.seat new.seat (ap (λ (page : PageView). page.seat) a.1)
+route size says lost Picture old request response new a = shows size old.seats old.name (pieces_in ampersand (uri_query (head_of request).uri)) old.seat response new.seat a.0
+route size says lost Line old request response new a =
     let bytes : List ℕ = body_of request in
     let Taken : Type 0 =
-    Takes brought.Line size lost (site_of old) old.name (head_of request) bytes old.seat response new.seat
+    Takes brought.Line size says lost (site_of old) old.name (head_of request) bytes old.seat response new.seat
     × (new ≡ with_seat old new.seat) in
     either (nat_le (length bytes) most_line_bytes) Taken (IsRefused 413 response × (new ≡ old))
     (GoesOn old.seat new.seat) a
-    (λ taken. takes brought.Line size lost _ old.name (head_of request) bytes old.seat response new.seat taken.0)
+    (λ taken. takes brought.Line size says lost _ old.name (head_of request) bytes old.seat response new.seat taken.0)
     (λ refused. stays old.seat new.seat (ap (λ (page : PageView). page.seat) refused.1))
-route size lost Lines old request response new a =
-    takes brought.Lines size lost _ old.name (head_of request) (body_of request) old.seat response new.seat a.0
-route size lost WrongMethod old request response new a = stays old.seat new.seat (ap (λ (page : PageView). page.seat) a.1)
-route size lost Unknown old request response new a = stays old.seat new.seat (ap (λ (page : PageView). page.seat) a.1)
+route size says lost Lines old request response new a =
+    takes brought.Lines size says lost _ old.name (head_of request) (body_of request) old.seat response new.seat a.0
+route size says lost WrongMethod old request response new a = stays old.seat new.seat (ap (λ (page : PageView). page.seat) a.1)
+route size says lost Unknown old request response new a = stays old.seat new.seat (ap (λ (page : PageView). page.seat) a.1)
 
-answers : (size : ℕ) (lost : List SeatedCommand → Type 0) (old : PageView) (request : Request (List ℕ))
-    (response : Response) (new : PageView) → Answers size lost old request response new → GoesOn old.seat new.seat
-answers size lost old request response new a =
+answers : (size : ℕ) (says : Saying) (lost : List SeatedCommand → Type 0) (old : PageView) (request : Request (List ℕ))
+    (response : Response) (new : PageView) → Answers size says lost old request response new → GoesOn old.seat new.seat
+answers size says lost old request response new a =
     let head : Parts = head_of request in
     let to : Route = route_of head.method (uri_path head.uri) in
     let Refused : Type 0 = IsRefused 400 response × (new ≡ old) in
     let Elsewhere : Type 0 = TellsAddress (site_of old) response × (new ≡ old) in
-    let Asked : Type 0 = AnswersRoute size lost to old request response new in
+    let Asked : Type 0 = AnswersRoute size says lost to old request response new in
     either _ (MatchBool (is_ambiguous head) Refused Asked) Elsewhere (GoesOn old.seat new.seat) a
     (λ own. either _ Refused Asked (GoesOn old.seat new.seat) own
     (λ refused. stays old.seat new.seat (ap (λ (page : PageView). page.seat) refused.1))
-    (λ asked. route size lost to old request response new asked))
+    (λ asked. route size says lost to old request response new asked))
     (λ refused. stays old.seat new.seat (ap (λ (page : PageView). page.seat) refused.1))
 
 goes_then : (before middle after : SeatView) → GoesOn before middle → GoesOn middle after → GoesOn before after
@@ -124,14 +125,14 @@ goes_then before middle after first second = record {
   grows = prefix_trans before.list middle.list after.list first.grows second.grows;
 }
 
-chain : (size : ℕ) (lost : List SeatedCommand → Type 0) (old : PageView) (calls : List Call) (new : PageView)
-    → Chain (Answers size lost) old calls new → GoesOn old.seat new.seat
-chain size lost old [] new c = stays old.seat new.seat (ap (λ (page : PageView). page.seat) c)
-chain size lost old (call ∷ calls) new c =
-    goes_then old.seat c.0.seat new.seat (answers size lost old call.0 call.1 c.0 c.1)
-    (chain size lost c.0 calls new c.2)
+chain : (size : ℕ) (says : Saying) (lost : List SeatedCommand → Type 0) (old : PageView) (calls : List Call) (new : PageView)
+    → Chain (Answers size says lost) old calls new → GoesOn old.seat new.seat
+chain size says lost old [] new c = stays old.seat new.seat (ap (λ (page : PageView). page.seat) c)
+chain size says lost old (call ∷ calls) new c =
+    goes_then old.seat c.0.seat new.seat (answers size says lost old call.0 call.1 c.0 c.1)
+    (chain size says lost c.0 calls new c.2)
 
 -- whatever requests came
-pub goes_on : (size : ℕ) (lost : List SeatedCommand → Type 0) (old new : PageView)
-    → Follows (Answers size lost) old new → GoesOn old.seat new.seat
-goes_on size lost old new f = chain size lost old f.0 new f.1
+pub goes_on : (size : ℕ) (says : Saying) (lost : List SeatedCommand → Type 0) (old new : PageView)
+    → Follows (Answers size says lost) old new → GoesOn old.seat new.seat
+goes_on size says lost old new f = chain size says lost old f.0 new f.1

@@ -17,6 +17,7 @@ use Rattle.serving_http.specs.Responses.{IsRefused, page_fields}
 use Rattle.serving_http.specs.Route.{route_of}
 use Rattle.serving_http.specs.Sites.{is_for_site, SiteView}
 use Rattle.serving_page.specs.Elsewhere.{TellsAddress}
+use Rattle.serving_page.specs.ManyLines.{Saying}
 use Rattle.serving_page.specs.Pieces.{pieces_in}
 use Rattle.serving_page.specs.Showing.{ShowsPicture}
 use Rattle.serving_page.specs.Taking.{Takes}
@@ -43,32 +44,33 @@ with_seat page seat = record page { seat = seat }
 
 -- by what a request asks for: a picture or lines go to the seat, unless the one line is too long; any other leaves all
 -- as it was
-abbrev pub AnswersRoute : ℕ → (List SeatedCommand → Type 0) → Route → PageView → Request (List ℕ) → Response → PageView
-    → Type 0
-AnswersRoute size lost Page old request response new =
+abbrev pub AnswersRoute : ℕ → Saying → (List SeatedCommand → Type 0) → Route → PageView → Request (List ℕ)
+    → Response → PageView → Type 0
+AnswersRoute size says lost Page old request response new =
     IsResponse 200 (page_fields old.policy) old.page response × (new ≡ old)
-AnswersRoute size lost Picture old request response new =
+AnswersRoute size says lost Picture old request response new =
     ShowsPicture size old.seats old.name (pieces_in ampersand (uri_query (head_of request).uri)) old.seat response
     new.seat
     × (new ≡ with_seat old new.seat)
-AnswersRoute size lost Line old request response new =
+AnswersRoute size says lost Line old request response new =
     MatchBool (nat_le (length (body_of request)) most_line_bytes)
-    (Takes brought.Line size lost (site_of old) old.name (head_of request) (body_of request) old.seat response new.seat
+    (Takes brought.Line size says lost (site_of old) old.name (head_of request) (body_of request) old.seat response new.seat
     × (new ≡ with_seat old new.seat))
     (IsRefused 413 response × (new ≡ old))
-AnswersRoute size lost Lines old request response new =
-    Takes brought.Lines size lost (site_of old) old.name (head_of request) (body_of request) old.seat response new.seat
+AnswersRoute size says lost Lines old request response new =
+    Takes brought.Lines size says lost (site_of old) old.name (head_of request) (body_of request) old.seat response new.seat
     × (new ≡ with_seat old new.seat)
-AnswersRoute size lost WrongMethod old request response new = IsRefused 405 response × (new ≡ old)
-AnswersRoute size lost Unknown old request response new = IsRefused 404 response × (new ≡ old)
+AnswersRoute size says lost WrongMethod old request response new = IsRefused 405 response × (new ≡ old)
+AnswersRoute size says lost Unknown old request response new = IsRefused 404 response × (new ≡ old)
 
 -- a request that isn't for the page's own host and port, here or outside, is refused and hears where the page is; a
 -- request that says twice where it comes from or what it goes on from is refused; both leave all as it was
-abbrev pub Answers : ℕ → (List SeatedCommand → Type 0) → PageView → Request (List ℕ) → Response → PageView → Type 0
-Answers size lost old request response new =
+abbrev pub Answers : ℕ → Saying → (List SeatedCommand → Type 0) → PageView → Request (List ℕ) → Response
+    → PageView → Type 0
+Answers size says lost old request response new =
     let head = head_of request in
     MatchBool (is_for_site head (site_of old))
     (MatchBool (is_ambiguous head)
     (IsRefused 400 response × (new ≡ old))
-    (AnswersRoute size lost (route_of head.method (uri_path head.uri)) old request response new))
+    (AnswersRoute size says lost (route_of head.method (uri_path head.uri)) old request response new))
     (TellsAddress (site_of old) response × (new ≡ old))

@@ -1,5 +1,5 @@
 -- Console lines, as a request brings one or several (own).
-use Rattle.std.specs.Prelude.{◌≡◌, ℕ, ◌⊎◌, Bool, List, [], Option, MatchBool}
+use Rattle.std.specs.Prelude.{◌≡◌, ℕ, ◌⊎◌, Bool, List, [], Option, None, Some, MatchBool}
 use mathlib.Core.List.{IsPrefix}
 use Rattle.http.specs.declared.request.Parts.{Parts}
 use Rattle.http_server.specs.declared.response.Response.{Response}
@@ -17,7 +17,9 @@ use Rattle.serving_http.specs.Responses.{IsRefused, IsText, text_fields}
 use Rattle.serving_http.specs.Sites.{is_from_site, SiteView}
 use Rattle.serving_page.specs.declared.taking.Brought.{Brought}
 use Rattle.serving_page.specs.declared.taking.Brought.TheVariants.{Line, Lines}
-use Rattle.serving_page.specs.ManyLines.{IsReason, LinesAnswered, LinesUnanswered, lines_of}
+use Rattle.serving_page.specs.declared.taking.Replied.{Replied}
+use Rattle.serving_page.specs.declared.taking.Replied.TheVariants.{Whole, KeptOff}
+use Rattle.serving_page.specs.ManyLines.{IsReason, LinesAnswered, LinesKeptOff, LinesUnanswered, Saying, lines_of}
 
 -- a line was carried out and isn't answered: 507 if memory was refused for its reply, 500 if its entry wasn't kept
 abbrev pub IsUnansweredBy : Unanswered → Response → Type 0
@@ -30,22 +32,45 @@ abbrev pub HasLost : {S : Type 0} → (S → Bool) → (S → Option (List ℕ))
 HasLost has_failed kept first form size seen =
     HasFailed has_failed kept first form size seen × HasKept has_failed kept first form size seen
 
--- what a request brings was carried out at a seat, and this is the reply to it
-abbrev pub IsAnswered : Brought → ℕ → SeatView → List ℕ → List ℕ → SeatView → Type 0
-IsAnswered Line size before body text after = AnswersAtSeat size before (said_by body) text after
-IsAnswered Lines size before body text after = LinesAnswered size before (lines_of body) text after
+-- a text about what is kept off; or none, if the memory for it was refused
+abbrev pub IsLocked : List ℕ → Response → Type 0
+IsLocked text response = IsResponse 423 text_fields text response ⊎ IsResponse 423 text_fields [] response
+
+-- lines were replied this: all that were carried out; or those before one that is kept off, and why it is
+abbrev pub AreReplied : ℕ → Saying → SeatView → List (List ℕ) → Replied → SeatView → Type 0
+AreReplied size says before lines (Whole text) after = LinesAnswered size says before lines text.items after
+AreReplied size says before lines (KeptOff text) after = LinesKeptOff size says before lines text.items after
+
+-- the same of one line
+abbrev pub IsReplied : ℕ → Saying → SeatView → List ℕ → Replied → SeatView → Type 0
+IsReplied size says before line (Whole text) after =
+    says (lines_of line) None × AnswersAtSeat size before (said_by line) text.items after
+IsReplied size says before line (KeptOff text) after = says (lines_of line) (Some text.items) × (after ≡ before)
+
+-- what a request brings is replied this at a seat
+abbrev pub IsAnswered : Brought → ℕ → Saying → SeatView → List ℕ → Replied → SeatView → Type 0
+IsAnswered Line size says before body replied after = IsReplied size says before body replied after
+IsAnswered Lines size says before body replied after = AreReplied size says before (lines_of body) replied after
+
+-- the response has the replies, and the status of what is kept off
+abbrev pub IsToldBy : Replied → Response → Type 0
+IsToldBy (Whole text) response = IsText text.items response
+IsToldBy (KeptOff text) response = IsLocked text.items response
 
 -- it was carried out, if not to its end, and there is no reply, for a reason that holds
-abbrev pub IsNotAnswered : Brought → ℕ → (List SeatedCommand → Type 0) → SeatView → List ℕ → Unanswered → SeatView → Type 0
-IsNotAnswered Line size lost before body why after =
-    IsReason (lost after.list) why × IsUnanswered size before (said_by body) after
-IsNotAnswered Lines size lost before body why after = LinesUnanswered size lost before (lines_of body) why after
+abbrev pub IsNotAnswered : Brought → ℕ → Saying → (List SeatedCommand → Type 0) → SeatView → List ℕ → Unanswered
+    → SeatView → Type 0
+IsNotAnswered Line size says lost before body why after =
+    says (lines_of body) None × IsReason (lost after.list) why × IsUnanswered size before (said_by body) after
+IsNotAnswered Lines size says lost before body why after =
+    LinesUnanswered size says lost before (lines_of body) why after
 
--- the response has the reply, or says that there is none
-abbrev pub IsReplied : Brought → ℕ → (List SeatedCommand → Type 0) → SeatView → List ℕ → Response → SeatView → Type 0
-IsReplied brought size lost before body response after =
-    ((text : List ℕ) × IsAnswered brought size before body text after × IsText text response)
-    ⊎ ((why : Unanswered) × IsNotAnswered brought size lost before body why after × IsUnansweredBy why response)
+-- the response has what it is replied, or says that there is no reply
+abbrev pub IsOutcome : Brought → ℕ → Saying → (List SeatedCommand → Type 0) → SeatView → List ℕ → Response
+    → SeatView → Type 0
+IsOutcome brought size says lost before body response after =
+    ((replied : Replied) × IsAnswered brought size says before body replied after × IsToldBy replied response)
+    ⊎ ((why : Unanswered) × IsNotAnswered brought size says lost before body why after × IsUnansweredBy why response)
 
 -- A seat's number stays, and what it has seen goes on.
 pub record GoesOn (before after : SeatView) : Type 0 where
@@ -54,13 +79,13 @@ pub record GoesOn (before after : SeatView) : Type 0 where
 
 -- what a request brings has to come from the seat's own page, to be for this room if it names one, and to go on from
 -- what the seat made; else nothing is carried out
-abbrev pub Takes : Brought → ℕ → (List SeatedCommand → Type 0) → SiteView → List ℕ → Parts → List ℕ → SeatView → Response
-    → SeatView → Type 0
-Takes brought size lost site name head body before response after =
+abbrev pub Takes : Brought → ℕ → Saying → (List SeatedCommand → Type 0) → SiteView → List ℕ → Parts → List ℕ
+    → SeatView → Response → SeatView → Type 0
+Takes brought size says lost site name head body before response after =
     MatchBool (is_from_site head site)
     (MatchBool (is_for_room head name)
     (MatchBool (is_next (count_in head) before.made)
-    (IsReplied brought size lost before body response after × GoesOn before after)
+    (IsOutcome brought size says lost before body response after × GoesOn before after)
     (IsRefused 409 response × (after ≡ before)))
     (IsRefused 409 response × (after ≡ before)))
     (IsRefused 403 response × (after ≡ before))

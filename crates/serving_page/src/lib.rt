@@ -3,7 +3,7 @@
 //! ```text
 //! let site = Site::new(alloc, 8080, None)?;              // at http://127.0.0.1:8080/
 //! let shown = RoomShown { seats: 8, name: name.as_slice() };
-//! let mut page = SeatPage::new(alloc, rt, &room, seat, shown, &site, &document());
+//! let mut page = SeatPage::new(alloc, rt, &room, seat, shown, &site, &document(), &gate);
 //! answer_page(rt, &mut page, &mut requests);             // its requests in turn, to the last one
 //! page.into_seat()                                       // the seat, with all that it made
 //! ```
@@ -13,8 +13,9 @@
 pub mod asked;
 mod pieces;
 
-// what requests are answered at a seat, and those for another host
+// what requests are answered at a seat, what keeps lines off, and requests for another host
 pub mod elsewhere;
+pub mod gate;
 mod many_lines;
 pub mod picture_lines;
 pub mod showing;
@@ -30,6 +31,7 @@ pub mod taken_page;
 
 pub use asked::{Asked, asked_by};
 pub use elsewhere::tell_address;
+pub use gate::Gate;
 pub use listening::answer_page;
 pub use picture_lines::picture_text;
 pub use seat_page::{RoomShown, SeatPage};

@@ -3,6 +3,7 @@ ghost use Rattle.serving_http.specs.Exchange.{Follows};
 ghost use Rattle.serving_page.specs.SeatPage.{Answers};
 ghost use Rattle.serving_page.specs.Taking.{GoesOn, HasLost};
 
+use crate::gate::Gate;
 use crate::seat_page::SeatPage;
 use room_1401::{Keeper, RoomId};
 use serving_http::{Requests, answer_each};
@@ -17,9 +18,10 @@ pub fn answer_page<
     H: Wait + Drop,
     P: Keeper + Drop,
     W: Wait,
+    G: Gate,
     Q: Requests,
->(rt: &R, page: &mut SeatPage<'_, J, H, P, W>, requests: &mut Q)
-    ensures follows { Follows (Answers J.size (HasLost P.has_failed P.kept P.first P.form J.size)) page.old page.new }
+>(rt: &R, page: &mut SeatPage<'_, J, H, P, W, G>, requests: &mut Q)
+    ensures follows { Follows (Answers J.size G.says (HasLost P.has_failed P.kept P.first P.form J.size)) page.old page.new }
 
     // So no picture, and no reply, is of fewer of the room's commands than one before.
     ensures seat { GoesOn page.old.seat page.new.seat }

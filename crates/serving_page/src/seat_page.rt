@@ -7,9 +7,10 @@ ghost use Rattle.serving_page.specs.SeatPage.{site_of, with_seat};
 ghost use Rattle.serving_page.specs.Taking.{GoesOn, HasLost, IsAnswered, IsNotAnswered, Takes};
 
 use crate::elsewhere::tell_address;
+use crate::gate::Gate;
 use crate::many_lines::answer_lines;
 use crate::showing::show_picture;
-use crate::taking::{Brought, tell_outcome};
+use crate::taking::{Brought, Replied, tell_outcome};
 use bytes::Bytes;
 use console_1401::{Unanswered, answer_line};
 use http::{Request, StatusCode};
@@ -35,7 +36,7 @@ pub struct RoomShown<'a> {
 /// The page of a seat, at a port of the loopback, and perhaps at an origin outside. Contracts see how many seats there
 /// are, the port, that origin, the room's name, the page with what its browser may do with it, and what the seat knows.
 #[derive(Drop)]
-pub struct SeatPage<'a, J: RoomId, R: Wait + Drop, P: Keeper + Drop, W: Wait> {
+pub struct SeatPage<'a, J: RoomId, R: Wait + Drop, P: Keeper + Drop, W: Wait, G: Gate> {
     alloc: Global,
     wait: &'a W,
     room: &'a SharedRoom<J, R, P>,
@@ -44,9 +45,11 @@ pub struct SeatPage<'a, J: RoomId, R: Wait + Drop, P: Keeper + Drop, W: Wait> {
     site: &'a Site,
     name: &'a [u8],
     document: Document,
+    gate: &'a G,
 }
 
-impl<'a, J: RoomId, R: Wait + Drop, P: Keeper + Drop, W: Wait> Model for SeatPage<'a, J, R, P, W> {
+impl<'a, J: RoomId, R: Wait + Drop, P: Keeper + Drop, W: Wait, G: Gate> Model
+    for SeatPage<'a, J, R, P, W, G> {
     ghost use Rattle.std.specs.Prelude.{◌++◌, IsTrue};
     ghost use Rattle.http_header.specs.FieldValue.{is_visible_text};
     ghost use Rattle.serving_page.specs.SeatPage.{PageView};
@@ -66,8 +69,16 @@ impl<'a, J: RoomId, R: Wait + Drop, P: Keeper + Drop, W: Wait> Model for SeatPag
     ghost invariant = { λ s. IsTrue (is_visible_text s.document.policy.now) };
 }
 
-impl<'a, J: RoomId, R: Wait + Drop, P: Keeper + Drop, W: Wait> SeatPage<'a, J, R, P, W> {
-    /// The page of a seat of the room that is shown so, which is served where this site is, and nowhere else.
+impl<'a, J: RoomId, R: Wait + Drop, P: Keeper + Drop, W: Wait, G: Gate> SeatPage<
+    'a,
+    J,
+    R,
+    P,
+    W,
+    G,
+> {
+    /// The page of a seat of the room that is shown so, which is served where this site is, and nowhere else. The gate
+    /// says of each line whether it is carried out.
     pub fn new(
         alloc: Global,
         wait: &'a W,
@@ -76,7 +87,8 @@ impl<'a, J: RoomId, R: Wait + Drop, P: Keeper + Drop, W: Wait> SeatPage<'a, J, R
         shown: RoomShown<'a>,
         site: &'a Site,
         document: &Document,
-    ) -> SeatPage<'a, J, R, P, W>
+        gate: &'a G,
+    ) -> SeatPage<'a, J, R, P, W, G>
         requires { IsTrue (is_visible_text document.now.policy.now) }
         ensures { result ≡ record {
           seats = shown.entry.seats;
@@ -97,6 +109,7 @@ impl<'a, J: RoomId, R: Wait + Drop, P: Keeper + Drop, W: Wait> SeatPage<'a, J, R
             site,
             name: shown.name,
             document: *document,
+            gate,
         }
     }
 
@@ -113,27 +126,35 @@ impl<'a, J: RoomId, R: Wait + Drop, P: Keeper + Drop, W: Wait> SeatPage<'a, J, R
             site: _,
             name: _,
             document: _,
+            gate: _,
         } = self;
         seat
     }
 
-    /// Carries out what a request brings, and gives the reply.
+    /// Carries out what a request brings, unless it is kept off, and gives the reply.
     ///
     /// # Errors
     ///
     /// Why there is none, though it was carried out.
     #[tactic(auto, using(crate::proofs::TakingLemmas::reason))]
-    fn answer(&mut self, brought: Brought, body: &[u8]) -> Result<Vec<u8>, Unanswered>
-        ensures ok { IfOk result (λ text. IsAnswered brought J.size self.old.seat body.now text.items self.new.seat) }
-        ensures err { IfErr result (λ why. IsNotAnswered brought J.size
+    fn answer(&mut self, brought: Brought, body: &[u8]) -> Result<Replied, Unanswered>
+        ensures ok { IfOk result (λ replied.
+            IsAnswered brought J.size G.says self.old.seat body.now replied self.new.seat) }
+        ensures err { IfErr result (λ why. IsNotAnswered brought J.size G.says
             (HasLost P.has_failed P.kept P.first P.form J.size) self.old.seat body.now why self.new.seat) }
         ensures page { self.new ≡ with_seat self.old self.new.seat }
         ensures seat { GoesOn self.old.seat self.new.seat }
     {
         let seat = &mut self.seat;
         match brought {
-            Brought::Line => answer_line(self.alloc, self.wait, self.room, seat, body),
-            Brought::Lines => answer_lines(self.alloc, self.wait, self.room, seat, body),
+            Brought::Line => match self.gate.keeps_off(body) {
+                Some(why) => Ok(Replied::KeptOff(why)),
+                None => {
+                    let reply = answer_line(self.alloc, self.wait, self.room, seat, body)?;
+                    Ok(Replied::Whole(reply))
+                }
+            },
+            Brought::Lines => answer_lines(self.alloc, self.wait, self.room, self.gate, seat, body),
         }
     }
 
@@ -146,7 +167,7 @@ impl<'a, J: RoomId, R: Wait + Drop, P: Keeper + Drop, W: Wait> SeatPage<'a, J, R
         response: &mut Response,
     ) -> Result<(), AllocError>
         requires { IsBlank response.old }
-        ensures ok { OnOk result (Takes brought J.size (HasLost P.has_failed P.kept P.first P.form J.size)
+        ensures ok { OnOk result (Takes brought J.size G.says (HasLost P.has_failed P.kept P.first P.form J.size)
             (site_of self.old) self.old.name (head_of request.now) (body_of request.now) self.old.seat response.new
             self.new.seat × (self.new ≡ with_seat self.old self.new.seat)) }
         ensures err { OnErr result (self.new ≡ self.old) }
@@ -162,16 +183,17 @@ impl<'a, J: RoomId, R: Wait + Drop, P: Keeper + Drop, W: Wait> SeatPage<'a, J, R
         }
         begin_text(response)?;
         let outcome = self.answer(brought, request.body().as_slice());
-        tell_outcome(response, &outcome);
+        tell_outcome(response, outcome);
         Ok(())
     }
 }
 
-impl<J: RoomId, R: Wait + Drop, P: Keeper + Drop, W: Wait> Service for SeatPage<'_, J, R, P, W> {
+impl<J: RoomId, R: Wait + Drop, P: Keeper + Drop, W: Wait, G: Gate> Service
+    for SeatPage<'_, J, R, P, W, G> {
     ghost use Rattle.serving_page.specs.SeatPage.{Answers};
     ghost use Rattle.serving_page.specs.Taking.{HasLost};
 
-    ghost answers = { Answers J.size (HasLost P.has_failed P.kept P.first P.form J.size) };
+    ghost answers = { Answers J.size G.says (HasLost P.has_failed P.kept P.first P.form J.size) };
 
     fn call(
         &mut self,

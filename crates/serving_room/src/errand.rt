@@ -1,7 +1,7 @@
 //! What a request about a room comes to: it is about a new room, or about a hold of the machine.
 ghost use Rattle.std.specs.Prelude.{◌≡◌};
 ghost use Rattle.http.specs.Request.{head_of};
-ghost use Rattle.serving_room.specs.Errands.{about_hold, about_renewal, at_path, brings_lines, errand_of, posted};
+ghost use Rattle.serving_room.specs.Errands.{about_hold, about_renewal, brings_lines, errand_of, for_page, posted};
 
 use crate::hold::{Hold, is_kept_off};
 use bytes::Bytes;
@@ -100,30 +100,17 @@ fn about_hold(request: &Request<Bytes>, site: &Site, name: &[u8]) -> Errand
     posted(request, site, name, Errand::TakeHold)
 }
 
-/// What a request comes to at its path.
-fn at_path(
-    request: &Request<Bytes>,
-    site: &Site,
-    name: &[u8],
-    seat: u8,
-    hold: Option<Hold>,
-) -> Errand
-    ensures { result ≡ at_path (head_of request.now) site.now name.now seat hold }
+/// What a request about the room comes to: it has to be for this site, and to say nothing twice.
+fn for_page(request: &Request<Bytes>, site: &Site, errand: Errand) -> Errand
+    ensures { result ≡ for_page (head_of request.now) site.now errand }
 {
-    let path = request.uri().path();
-    if path == "/renewal" {
-        return about_renewal(request, site, name, seat, hold);
+    if !is_for_site(request, site) {
+        return Errand::Elsewhere;
     }
-    if path == "/hold" {
-        return about_hold(request, site, name);
+    if is_ambiguous(request) {
+        return Errand::Doubtful;
     }
-    if path == "/release" {
-        return posted(request, site, name, Errand::EndHold);
-    }
-    if is_kept_off(hold, seat) && brings_lines(route_of(request.method().as_str(), path)) {
-        return posted(request, site, name, Errand::KeptOff);
-    }
-    Errand::AtSeat
+    errand
 }
 
 /// What a request comes to at the page of a seat.
@@ -136,11 +123,17 @@ pub(crate) fn errand_of(
 ) -> Errand
     ensures { result ≡ errand_of (head_of request.now) site.now name.now seat hold }
 {
-    if !is_for_site(request, site) {
-        return Errand::Elsewhere;
-    }
-    if is_ambiguous(request) {
-        return Errand::Doubtful;
-    }
-    at_path(request, site, name, seat, hold)
+    let path = request.uri().path();
+    let errand = if path == "/renewal" {
+        about_renewal(request, site, name, seat, hold)
+    } else if path == "/hold" {
+        about_hold(request, site, name)
+    } else if path == "/release" {
+        posted(request, site, name, Errand::EndHold)
+    } else if is_kept_off(hold, seat) && brings_lines(route_of(request.method().as_str(), path)) {
+        posted(request, site, name, Errand::KeptOff)
+    } else {
+        return Errand::AtSeat;
+    };
+    for_page(request, site, errand)
 }

@@ -5,7 +5,7 @@ ghost use Rattle.serving_room.specs.Errands.{said_of};
 
 use crate::hold::{Hold, seconds_held};
 use crate::last::{Last, put_act};
-use crate::room_page::RoomState;
+use crate::room_state::RoomState;
 use machine_notation::put_digits;
 use std::alloc::{AllocError, Global};
 

@@ -22,6 +22,7 @@ mod hold_text;
 mod last;
 mod room_page;
 mod room_pages;
+mod room_state;
 
 // the connections of a page, its requests at its seat, and the pages of all seats
 mod arrivals;

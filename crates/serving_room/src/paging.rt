@@ -224,6 +224,7 @@ where
         shown,
         &page.port.site,
         &document(),
+        page,
     );
     answer_page(rt, &mut page, visits);
     page.into_seat()

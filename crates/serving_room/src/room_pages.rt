@@ -1,21 +1,20 @@
 //! What the pages of a room have in common: the room's name, and the hold of its machine.
 
 use crate::crowd::Crowd;
-use crate::hold::{Hold, going_on, is_kept_off, seen_by};
+use crate::hold::Hold;
+use crate::hold_text::hold_text;
 use crate::paging::PagePort;
-use crate::room_page::{RoomPage, RoomState};
+use crate::room_page::RoomPage;
+use crate::room_state::{RoomState, held_off};
 use crate::watch::Watch;
 use room_1401::RoomId;
 use serving_http::answer_bytes;
-use serving_page::{RoomName, WholeRequest};
+use serving_page::{Gate, RoomName, WholeRequest};
 use serving_seats::{SeatService, SeatsFault};
 use std::alloc::AllocGlobal;
 use std::random::RandomSource;
 use std::sync::{Mutex, Wait};
 use std::time::Clock;
-
-/// The paths of requests about a room, as they are in a request's first line.
-const ABOUT_ROOM: [&[u8]; 3] = [b" /renewal ", b" /hold ", b" /release "];
 
 /// What the pages of a room have in common.
 #[derive(Drop)]
@@ -32,15 +31,6 @@ pub(crate) enum Answered {
     Here(Option<Vec<u8>>),
     /// It goes to the page's seat.
     AtSeat,
-}
-
-/// Whether the bytes of a connection are a request about a room.
-fn is_about_room(bytes: &[u8]) -> bool {
-    let Some(at) = bytes.iter().position(|byte| *byte == b' ') else {
-        return false;
-    };
-    let rest = &bytes[at..];
-    ABOUT_ROOM.iter().any(|path| rest.starts_with(path))
 }
 
 impl RoomPages {
@@ -89,29 +79,44 @@ pub(crate) struct PageOfRoom<'a, J: RoomId, R> {
 }
 
 impl<'a, J: RoomId, R: Wait + Clock + AllocGlobal + RandomSource> PageOfRoom<'a, J, R> {
+    /// What the page knows of its room with this hold; or `None` if the clock can't be read. The clock is read after the
+    /// hold, so no hold begins later than now.
+    fn room_with(&self, hold: Option<Hold>) -> Option<RoomState> {
+        let rt = self.serving.rt;
+        let watch = self.serving.watch;
+        Some(RoomState {
+            seat: self.seat,
+            time: rt.monotonic().ok()?.as_secs(),
+            last: watch.last(rt),
+            is_prepared: watch.is_prepared(),
+            hold,
+            asks: false,
+            passes: false,
+        })
+    }
+
     /// Answers a request about the room, and what another page's hold keeps off; any other request goes to the seat. If
-    /// the clock can't be read, nobody holds the machine, and requests about the room aren't answered.
+    /// the clock can't be read, nobody holds the machine, and each request goes there.
     pub(crate) fn answer(&self, request: &WholeRequest) -> Answered {
         let rt = self.serving.rt;
-        let is_about_room = is_about_room(request.bytes.as_slice());
-        let Ok(clock) = rt.monotonic() else {
-            return if is_about_room {
-                Answered::Here(None)
-            } else {
-                Answered::AtSeat
-            };
-        };
-        let time = clock.as_secs();
-        let mut held = self.serving.pages.hold.lock(rt);
-        let hold = self.hold_at(request, *held, time);
-        *held = hold;
-        if !is_about_room && !is_kept_off(hold, self.seat) {
-            return Answered::AtSeat;
-        }
+        let watch = self.serving.watch;
         let Ok(taken) = self.serving.service.taken(rt, rt.alloc()) else {
             return Answered::Here(None);
         };
-        let mut page = self.page_with(time, hold, taken);
+        let left = watch.seconds_left(rt);
+        let mut held = self.serving.pages.hold.lock(rt);
+        let Some(room) = self.room_with(*held) else {
+            return Answered::AtSeat;
+        };
+        let mut page = RoomPage {
+            alloc: rt.alloc(),
+            site: &self.port.site,
+            name: self.name.as_slice(),
+            renews: watch.renews(),
+            left,
+            taken,
+            room,
+        };
         let answer = answer_bytes(rt, &mut page, request.bytes.as_slice());
         *held = page.room.hold;
         if page.room.passes {
@@ -119,41 +124,28 @@ impl<'a, J: RoomId, R: Wait + Clock + AllocGlobal + RandomSource> PageOfRoom<'a,
         }
         if page.room.asks {
             // If no new room may follow, this has no effect.
-            self.serving.watch.ask();
+            watch.ask();
         }
         Answered::Here(answer.ok())
     }
+}
 
-    /// The hold that goes on when a request has come.
-    fn hold_at(&self, request: &WholeRequest, hold: Option<Hold>, time: u64) -> Option<Hold> {
-        let hold = going_on(hold, time);
-        if request.is_visit {
-            seen_by(hold, self.seat, time)
-        } else {
-            hold
-        }
-    }
+impl<J: RoomId, R: Wait + Clock + AllocGlobal + RandomSource> Gate for PageOfRoom<'_, J, R> {
+    ghost use Rattle.serving_room.specs.Errands.{HoldSays};
 
-    /// The page that answers a request about the room.
-    fn page_with(&self, time: u64, hold: Option<Hold>, taken: Vec<u8>) -> RoomPage<'a> {
+    ghost says = { HoldSays };
+
+    fn keeps_off(&self, _lines: &[u8]) -> Option<Vec<u8>> {
         let rt = self.serving.rt;
-        let watch = self.serving.watch;
-        RoomPage {
-            alloc: rt.alloc(),
-            site: &self.port.site,
-            name: self.name.as_slice(),
-            renews: watch.renews(),
-            left: watch.seconds_left(rt),
-            taken,
-            room: RoomState {
-                seat: self.seat,
-                time,
-                last: watch.last(rt),
-                is_prepared: watch.is_prepared(),
-                hold,
-                asks: false,
-                passes: false,
-            },
+        let alloc = rt.alloc();
+        let hold = *self.serving.pages.hold.lock(rt);
+        let room = held_off(&self.room_with(hold)?)?;
+        let Ok(taken) = self.serving.service.taken(rt, alloc) else {
+            return Some(Vec::new(alloc));
+        };
+        match hold_text(alloc, &room, taken.as_slice()) {
+            Ok(text) => Some(text),
+            Err(_) => Some(Vec::new(alloc)),
         }
     }
 }
