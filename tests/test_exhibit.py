@@ -41,6 +41,7 @@ class Visitors(Browser):
 
     def come(self):
         """A visitor finds the machine as somebody has left it, and clears it."""
+        self.shows("the turn of the one before is over", "byId('guide-key').hidden", False)
         self.by("guide-key")
         self.page.value("send('FEED LEFT')")
         self.guided("other")

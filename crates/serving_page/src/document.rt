@@ -411,6 +411,7 @@ background:#10171dd9;color:#fff;}
 .touch-me p{margin:0;font-size:max(60px, 9cqh);line-height:1.1;font-weight:700;}
 #stage #home-figure{top:auto;left:auto;right:14px;bottom:116px;width:min(240px, 30cqh);z-index:3;}
 .watch .band{max-height:calc(50cqh - 100px);}
+.watch .band p{font-size:max(24px,min(6.4cqh, 158cqw / var(--columns, 26)));}
 .watch .strip{font-size:max(24px, min(1.9cqw, 3.4cqh));}
 .stage-head #stage-who{font-size:24px;}
 @container (max-width:640px){
@@ -4332,7 +4333,7 @@ begin();
 /// and nothing else.
 pub const POLICY: &str = "default-src 'none'; \
     script-src 'sha256-QjTQEm6R7F3U+ylTw6Y/7n2gwjCtP8ewMEqLLhQ/40Q='; \
-    style-src 'sha256-KOAcK7UwUiDrD7GU94qiiqDeqj180i/82nwGEMoHb5M='; \
+    style-src 'sha256-tNR2WJNDi6NY0FWvr+TLImh13HAKZf2YEcCOD58v4yE='; \
     img-src data:; \
     connect-src 'self'; \
     form-action 'none'; \
