@@ -81,8 +81,7 @@ class Holds(PageTest):
         return "" if found in texts else f"it is {found!r}"
 
     def test_lines_that_came_before_it_are_kept_off(self):
-        """At most one line of a page is carried out once the hold is answered: one that has its turn, or waits for
-        it."""
+        """At most one line of a page is carried out once the hold is answered: it has its turn, or waits for it."""
         for _ in range(MOST_TRIALS):
             wrong, is_certain = self.hold_during_lines()
             if is_certain:
@@ -123,7 +122,7 @@ class Holds(PageTest):
         said = rb"HOLD 1 FOR \d+\nLAST \d .+\nTAKEN[ 1-4]+\nBEGAN PLAIN\n"
         wrong = [f"{name}: {found[name]}" for name, wanted, text in [
             ("run", 200, rb"STOP 01 LIMIT STEPS %d I 0000\d\n" % steps), ("lines", 423, rb"(OK\n){%d}" % made[0] + said),
-            ("first", 200 if made[1] else 423, rb"OK\n" if made[1] else said), ("second", 423 if made[1] else 409, said if made[1] else rb""),
+            ("first", *((200, rb"OK\n") if made[1] else (423, said))), ("second", *((423, said) if made[1] else (409, rb""))),
         ] if found[name][0] != wanted or not re.fullmatch(text, found[name][1])]
         wrong += [f"lines that were carried out: {made}"] if max(made) > 1 else []
         self.ended(room, "the room", 5 + sum(made))

@@ -25,7 +25,7 @@ pub trait Lots {
         ensures { IfOk result were_drawn };
 }
 
-/// Random bytes, of which nothing is known.
+/// Random bytes. Nothing is known about them.
 impl<R: RandomSource> Lots for R {
     ghost were_drawn = { λ _. Unit {0} };
 

@@ -71,7 +71,7 @@ ends_told size says first before after all left these told text done is ends =
     let Left : List (List ℕ) → Type 0 = λ lines. LinesDone size says first all told before lines in
     (told, before, these, subst Left is done, ends)
 
--- the next line is kept off
+-- the next line is held off
 pub ends_kept_off : (size : ℕ) (says : Saying) (first before after : SeatView) (all left these : List (List ℕ))
     (told text : List ℕ) → LinesDone size says first all told before left → left ≡ these
     → EndsKeptOff says told before these text after → LinesKeptOff size says first all text after

@@ -78,19 +78,20 @@ taken_if true false next Taken before after response t goes_on = stays before af
 taken_if true true false Taken before after response t goes_on = stays before after t.1
 taken_if true true true Taken before after response t goes_on = goes_on t
 
-takes : (brought : Brought) (size : ℕ) (says : Saying) (lost : List SeatedCommand → Type 0) (site : SiteView) (name : List ℕ) (head : Parts)
-    (body : List ℕ) (before : SeatView) (response : Response) (after : SeatView)
+takes : (brought : Brought) (size : ℕ) (says : Saying) (lost : List SeatedCommand → Type 0) (site : SiteView)
+    (name : List ℕ) (head : Parts) (body : List ℕ) (before : SeatView) (response : Response) (after : SeatView)
     → Takes brought size says lost site name head body before response after → GoesOn before after
 takes brought size says lost site name head body before response after t =
     taken_if (is_from_site head site) (is_for_room head name) (is_next (count_in head) before.made)
     (IsOutcome brought size says lost before body response after × GoesOn before after) before after response t
     (λ taken. taken.1)
 
-route : (size : ℕ) (says : Saying) (lost : List SeatedCommand → Type 0) (to : Route) (old : PageView) (request : Request (List ℕ))
-    (response : Response) (new : PageView) → AnswersRoute size says lost to old request response new
-    → GoesOn old.seat new.seat
+route : (size : ℕ) (says : Saying) (lost : List SeatedCommand → Type 0) (to : Route) (old : PageView)
+    (request : Request (List ℕ)) (response : Response) (new : PageView)
+    → AnswersRoute size says lost to old request response new → GoesOn old.seat new.seat
 route size says lost Page old request response new a = stays old.seat new.seat (ap (λ (page : PageView). page.seat) a.1)
-route size says lost Picture old request response new a = shows size old.seats old.name (pieces_in ampersand (uri_query (head_of request).uri)) old.seat response new.seat a.0
+route size says lost Picture old request response new a =
+    shows size old.seats old.name (pieces_in ampersand (uri_query (head_of request).uri)) old.seat response new.seat a.0
 route size says lost Line old request response new a =
     let bytes : List ℕ = body_of request in
     let Taken : Type 0 =
@@ -102,8 +103,10 @@ route size says lost Line old request response new a =
     (λ refused. stays old.seat new.seat (ap (λ (page : PageView). page.seat) refused.1))
 route size says lost Lines old request response new a =
     takes brought.Lines size says lost _ old.name (head_of request) (body_of request) old.seat response new.seat a.0
-route size says lost WrongMethod old request response new a = stays old.seat new.seat (ap (λ (page : PageView). page.seat) a.1)
-route size says lost Unknown old request response new a = stays old.seat new.seat (ap (λ (page : PageView). page.seat) a.1)
+route size says lost WrongMethod old request response new a =
+    stays old.seat new.seat (ap (λ (page : PageView). page.seat) a.1)
+route size says lost Unknown old request response new a =
+    stays old.seat new.seat (ap (λ (page : PageView). page.seat) a.1)
 
 answers : (size : ℕ) (says : Saying) (lost : List SeatedCommand → Type 0) (old : PageView) (request : Request (List ℕ))
     (response : Response) (new : PageView) → Answers size says lost old request response new → GoesOn old.seat new.seat
@@ -125,8 +128,8 @@ goes_then before middle after first second = record {
   grows = prefix_trans before.list middle.list after.list first.grows second.grows;
 }
 
-chain : (size : ℕ) (says : Saying) (lost : List SeatedCommand → Type 0) (old : PageView) (calls : List Call) (new : PageView)
-    → Chain (Answers size says lost) old calls new → GoesOn old.seat new.seat
+chain : (size : ℕ) (says : Saying) (lost : List SeatedCommand → Type 0) (old : PageView) (calls : List Call)
+    (new : PageView) → Chain (Answers size says lost) old calls new → GoesOn old.seat new.seat
 chain size says lost old [] new c = stays old.seat new.seat (ap (λ (page : PageView). page.seat) c)
 chain size says lost old (call ∷ calls) new c =
     goes_then old.seat c.0.seat new.seat (answers size says lost old call.0 call.1 c.0 c.1)

@@ -16,7 +16,7 @@ pub reason : (lost : Type 0) (why : Unanswered) → (why ≡ Unkept → lost) �
 reason lost Memory given = tt
 reason lost Unkept given = given refl
 
--- what came of a request is told, whether or not it has a reply
+-- the page hears what came of a request, whether or not it has a reply
 pub outcome : (brought : Brought) (size : ℕ) (says : Saying) (lost : List SeatedCommand → Type 0) (before : SeatView)
     (body : List ℕ) (response : Response) (after : SeatView) (given : Result Replied Unanswered)
     → IfOk given (λ replied. IsAnswered brought size says before body replied after)

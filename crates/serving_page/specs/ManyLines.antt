@@ -27,7 +27,7 @@ begins front reply = starts_with (λ a b. a == b) reply front
 abbrev pub goes_on : List ℕ → Bool
 goes_on reply = bytes_eq reply (codes "OK\n") || begins (codes "LINE ") reply || begins (codes "CARD ") reply
 
--- what a gate says of the first of some lines: nothing, and it is carried out; or why it is kept off
+-- what a gate says of the first of some lines: nothing, and it is carried out; or why it is held off
 abbrev pub Saying : Type 1
 Saying = List (List ℕ) → Option (List ℕ) → Type 0
 
@@ -41,7 +41,7 @@ LinesDone size says before (line ∷ lines) text after left =
     × LinesDone size says middle lines rest after left)
     ⊎ ((text ≡ []) × (after ≡ before) × (left ≡ line ∷ lines))
 
--- After these replies no line is left; or the next one's reply, which is told too, doesn't go on.
+-- After these replies no line is left; or the next one's reply, which is in the text too, doesn't go on.
 abbrev pub EndsTold : ℕ → Saying → List ℕ → SeatView → List (List ℕ) → List ℕ → SeatView → Type 0
 EndsTold size says told before [] text after = (text ≡ told) × (after ≡ before)
 EndsTold size says told before (line ∷ lines) text after =
@@ -54,14 +54,14 @@ LinesAnswered size says before lines text after =
     (told : List ℕ) × (middle : SeatView) × (left : List (List ℕ)) × LinesDone size says before lines told middle left
     × EndsTold size says told middle left text after
 
--- After these replies a line is left, which is kept off with all that follow. The text says why, unless memory was
+-- After these replies a line is left, which is held off with all that follow. The text says why, unless memory was
 -- refused for that.
 abbrev pub EndsKeptOff : Saying → List ℕ → SeatView → List (List ℕ) → List ℕ → SeatView → Type 0
 EndsKeptOff says told before [] text after = ⊥
 EndsKeptOff says told before (line ∷ lines) text after =
     (why : List ℕ) × says (line ∷ lines) (Some why) × ((text ≡ told ++ why) ⊎ (text ≡ told)) × (after ≡ before)
 
--- lines were carried out up to one that is kept off; the text is all their replies, and then why
+-- lines were carried out up to the first to be held off; the text is all their replies, and then why
 abbrev pub LinesKeptOff : ℕ → Saying → SeatView → List (List ℕ) → List ℕ → SeatView → Type 0
 LinesKeptOff size says before lines text after =
     (told : List ℕ) × (middle : SeatView) × (left : List (List ℕ)) × LinesDone size says before lines told middle left
@@ -81,7 +81,7 @@ EndsUntold size says lost before (line ∷ lines) why after =
     × ((IsReason (lost after.list) why × IsUnanswered size before (said_by line) after)
     ⊎ ((reply : List ℕ) × AnswersAtSeat size before (said_by line) reply after × (why ≡ Memory)))
 
--- lines were carried out up to one without a reply, and none of their replies is told
+-- lines were carried out up to one without a reply, and the page hears none of their replies
 abbrev pub LinesUnanswered : ℕ → Saying → (List SeatedCommand → Type 0) → SeatView → List (List ℕ) → Unanswered
     → SeatView → Type 0
 LinesUnanswered size says lost before lines why after =

@@ -54,11 +54,13 @@ AnswersRoute size says lost Picture old request response new =
     × (new ≡ with_seat old new.seat)
 AnswersRoute size says lost Line old request response new =
     MatchBool (nat_le (length (body_of request)) most_line_bytes)
-    (Takes brought.Line size says lost (site_of old) old.name (head_of request) (body_of request) old.seat response new.seat
+    (Takes brought.Line size says lost (site_of old) old.name (head_of request) (body_of request) old.seat response
+    new.seat
     × (new ≡ with_seat old new.seat))
     (IsRefused 413 response × (new ≡ old))
 AnswersRoute size says lost Lines old request response new =
-    Takes brought.Lines size says lost (site_of old) old.name (head_of request) (body_of request) old.seat response new.seat
+    Takes brought.Lines size says lost (site_of old) old.name (head_of request) (body_of request) old.seat response
+    new.seat
     × (new ≡ with_seat old new.seat)
 AnswersRoute size says lost WrongMethod old request response new = IsRefused 405 response × (new ≡ old)
 AnswersRoute size says lost Unknown old request response new = IsRefused 404 response × (new ≡ old)

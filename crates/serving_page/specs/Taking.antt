@@ -32,11 +32,11 @@ abbrev pub HasLost : {S : Type 0} → (S → Bool) → (S → Option (List ℕ))
 HasLost has_failed kept first form size seen =
     HasFailed has_failed kept first form size seen × HasKept has_failed kept first form size seen
 
--- a text about what is kept off; or none, if the memory for it was refused
+-- a text about what is held off; or none, if the memory for it was refused
 abbrev pub IsLocked : List ℕ → Response → Type 0
 IsLocked text response = IsResponse 423 text_fields text response ⊎ IsResponse 423 text_fields [] response
 
--- lines were replied this: all that were carried out; or those before one that is kept off, and why it is
+-- lines were replied this: all that were carried out; or those before the first to be held off, and why it is
 abbrev pub AreReplied : ℕ → Saying → SeatView → List (List ℕ) → Replied → SeatView → Type 0
 AreReplied size says before lines (Whole text) after = LinesAnswered size says before lines text.items after
 AreReplied size says before lines (KeptOff text) after = LinesKeptOff size says before lines text.items after
@@ -52,7 +52,7 @@ abbrev pub IsAnswered : Brought → ℕ → Saying → SeatView → List ℕ →
 IsAnswered Line size says before body replied after = IsReplied size says before body replied after
 IsAnswered Lines size says before body replied after = AreReplied size says before (lines_of body) replied after
 
--- the response has the replies, and the status of what is kept off
+-- the response has the replies, and the status of what is held off
 abbrev pub IsToldBy : Replied → Response → Type 0
 IsToldBy (Whole text) response = IsText text.items response
 IsToldBy (KeptOff text) response = IsLocked text.items response

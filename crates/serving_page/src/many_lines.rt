@@ -20,7 +20,7 @@ fn goes_on(reply: &[u8]) -> bool
 }
 
 /// Carries out the lines of a body one after the other, up to the first whose reply doesn't go on, and gives their
-/// replies; or up to the first that is kept off, and then says why too.
+/// replies; or up to the first that is held off, and then says why too.
 ///
 /// # Errors
 ///

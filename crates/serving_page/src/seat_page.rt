@@ -131,7 +131,7 @@ impl<'a, J: RoomId, R: Wait + Drop, P: Keeper + Drop, W: Wait, G: Gate> SeatPage
         seat
     }
 
-    /// Carries out what a request brings, unless it is kept off, and gives the reply.
+    /// Carries out what a request brings, unless it is held off, and gives the reply.
     ///
     /// # Errors
     ///

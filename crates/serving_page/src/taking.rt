@@ -24,11 +24,11 @@ pub(crate) enum Brought {
 pub(crate) enum Replied {
     /// It was carried out: the replies.
     Whole(Vec<u8>),
-    /// It is kept off from some line on: the replies to the lines before, and then why.
+    /// It is held off from some line on: the replies to the lines before, and then why.
     KeptOff(Vec<u8>),
 }
 
-/// Ends a response with the text of what is kept off; or without it, if the memory for it is refused.
+/// Ends a response with the text of what is held off; or without it, if the memory for it is refused.
 fn end_locked(response: &mut Response, text: &[u8])
     requires { IsResponse 200 text_fields [] response.old }
     ensures { IsLocked text.now response.new }

@@ -104,7 +104,7 @@ after_errand OtherRoom room = room
 after_errand Doubtful room = room
 after_errand WrongMethod room = room
 
--- the room when a line would be carried out, if it is kept off
+-- the room when a line would be carried out, if it is held off
 abbrev pub held_off : RoomState → Option RoomState
 held_off room =
     let now = seen_at room false in
@@ -115,7 +115,7 @@ abbrev pub said_of : RoomState → List ℕ → List ℕ
 said_of room taken =
     hold_line room.hold room.time ++ last_line room.last ++ taken_line taken ++ beginning_line room.is_prepared
 
--- what is said of lines: why they are kept off, since another page holds the machine, or nothing if memory is refused
+-- what is said of lines: why they are held off, since another page holds the machine, or nothing if memory is refused
 abbrev pub HoldSays : List (List ℕ) → Option (List ℕ) → Type 0
 HoldSays lines None = Unit {0}
 HoldSays lines (Some text) =

@@ -1,4 +1,4 @@
--- What came of the request is told.
+-- The page hears what came of the request.
 use Rattle.std.proofs.Common.{rules, ◌≡◌, ℕ, List, true, subst}
 use Rattle.http.specs.Request.{body_of, head_of}
 use Rattle.room_alone.specs.declared.entry.SeatedCommand.{SeatedCommand}
