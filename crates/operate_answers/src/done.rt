@@ -167,7 +167,11 @@ pub fn put_dropped(text: &mut Text, hand: usize)
 /// are.
 pub fn put_saved(text: &mut Text, commands: u64, file: &[u8], hand: usize) {
     put_count(text, commands, b"command");
-    let is_in: &[u8] = if commands == 1 { b" is in " } else { b" are in " };
+    let is_in: &[u8] = if commands == 1 {
+        b" is in "
+    } else {
+        b" are in "
+    };
     text.put(is_in);
     text.put(file);
     if hand > 0 {

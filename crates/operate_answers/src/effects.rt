@@ -271,7 +271,14 @@ pub(crate) fn effect_of(alloc: Global, program: &Program, before: &Machine, afte
             put_card(&mut effect, b"reads ", &card);
         }
     }
-    put_changes(alloc, &mut effect, program, before.core(), after.core(), from);
+    put_changes(
+        alloc,
+        &mut effect,
+        program,
+        before.core(),
+        after.core(),
+        from,
+    );
     if after.devices().stacker() > before.devices().stacker() {
         if let Some(card) = after.devices().last_punched() {
             put_card(&mut effect, b"punches ", &card);

@@ -99,7 +99,8 @@ pub fn put_ended(
             if let Some(stop) = stops.met() {
                 put_met(text, stop);
                 if let Said::Break {
-                    condition: Some(_), ..
+                    condition: Some(_),
+                    ..
                 } = &stop.said
                 {
                     text.put_byte(b',');

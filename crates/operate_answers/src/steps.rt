@@ -31,7 +31,14 @@ fn put_stepped(alloc: Global, text: &mut Text, program: &Program, before: &Machi
     match program.statement_at(alloc, core, at) {
         Err(_) => text.fail(),
         Ok(statement) => {
-            put_step(alloc, text, at, statement, cells.as_slice(), effect.as_slice());
+            put_step(
+                alloc,
+                text,
+                at,
+                statement,
+                cells.as_slice(),
+                effect.as_slice(),
+            );
         }
     }
     put_lines_from(alloc, text, after.devices(), before.devices().paper());
