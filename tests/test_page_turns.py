@@ -20,10 +20,10 @@ class Visitor:
         self.page, self.name, self.presses = page, name, []
 
     def goes_on(self):
-        """One press, if a key is lit and on. False once the guide says that the name is on the paper."""
+        """One press, if a key is lit and on, and the step that the guide was at."""
         step, lit = self.page.value(f"[guide.step(), isOff(byId(({LIT}) || 'help-key')) ? '' : {LIT}]")
         if step == "done":
-            return False
+            return step
         if self.page.value("byId('ask').open"):
             self.page.click("ask-yes")
         elif step == "name":
@@ -31,7 +31,7 @@ class Visitor:
         elif lit and not (step == "wait" and self.page.value("turn.wants")):
             self.presses.append(lit)
             self.page.mouse(lit)
-        return True
+        return step
 
 
 class TwoScreens(Browser):
@@ -41,7 +41,7 @@ class TwoScreens(Browser):
         """Subtests: a visitor comes to the printed name, and it is on the paper when the guide says so."""
         visitor = Visitor(page, name)
         for _ in range(400):
-            if not visitor.goes_on():
+            if visitor.goes_on() == "done":
                 break
             page.value("delay(50)")
         self.same("the guide says that the name is there", page.value("guide.step()"), "done")
@@ -150,7 +150,11 @@ class Class(Browser):
             pupil.page.click("feed-key")
         late = time.monotonic() + SECONDS
         while left and time.monotonic() < late:
-            left = [pupil for pupil in left if pupil.goes_on()]
+            for pupil in list(left):
+                while (step := pupil.goes_on()) not in ("wait", "done") and time.monotonic() < late:
+                    pass
+                if step == "done":
+                    left.remove(pupil)
         self.same("pupils without a line", [pupil.name for pupil in left], [])
         lines = pages[0].until(PRINTED, "").split("|")
         self.same("each name is on the paper once", sorted(line for line in lines if line in NAMES), NAMES)

@@ -1,5 +1,5 @@
-/* The stage: the page's fragment says that it is the screen of an exhibit (#exhibit) or a projector's view (#watch), with
-   more settings: #exhibit&name=The+museum&lang=de. A stage has drawings, one card, 80 places of core storage, the newest
+/* The stage: the page's fragment says that it is the screen of an exhibit (#exhibit) or a projector's view (#watch). It
+   may say more: #exhibit&name=The+museum&lang=de. A stage has drawings, one card, 80 places of core storage, the newest
    lines and four keys; one key shows everything else. */
 const FRAGMENT = new URLSearchParams(location.hash.slice(1));
 const isExhibit = FRAGMENT.has('exhibit'), isWatch = FRAGMENT.has('watch'), isStage = isExhibit || isWatch;
