@@ -3,7 +3,7 @@
 //! ```text
 //! let site = Site::new(alloc, 8080, None)?;              // at http://127.0.0.1:8080/
 //! let shown = RoomShown { seats: 8, name: name.as_slice() };
-//! let mut page = SeatPage::new(alloc, rt, &room, seat, shown, &site, &document(), &gate);
+//! let mut page = SeatPage::new(rt, &room, seat, shown, &site, &document(), &gate);
 //! answer_page(rt, &mut page, &mut requests);             // its requests in turn, to the last one
 //! page.into_seat()                                       // the seat, with all that it made
 //! ```

@@ -20,7 +20,7 @@ use serving_http::{
     Document, MOST_LINE_BYTES, Route, Site, begin_text, is_ambiguous, is_for_room, is_for_site,
     is_from_site, is_next, put_page, refuse, route_of,
 };
-use std::alloc::{AllocError, Global};
+use std::alloc::{AllocError, AllocGlobal, Global};
 use std::marker::Model;
 use std::sync::Wait;
 
@@ -80,7 +80,6 @@ impl<'a, J: RoomId, R: Wait + Drop, P: Keeper + Drop, W: Wait, G: Gate> SeatPage
     /// The page of a seat of the room that is shown so, which is served where this site is, and nowhere else. The gate
     /// says of each line whether it is carried out.
     pub fn new(
-        alloc: Global,
         wait: &'a W,
         room: &'a SharedRoom<J, R, P>,
         seat: Seat<J>,
@@ -89,6 +88,8 @@ impl<'a, J: RoomId, R: Wait + Drop, P: Keeper + Drop, W: Wait, G: Gate> SeatPage
         document: &Document,
         gate: &'a G,
     ) -> SeatPage<'a, J, R, P, W, G>
+    where
+        W: AllocGlobal,
         requires { IsTrue (is_visible_text document.now.policy.now) }
         ensures { result ≡ record {
           seats = shown.entry.seats;
@@ -101,7 +102,7 @@ impl<'a, J: RoomId, R: Wait + Drop, P: Keeper + Drop, W: Wait, G: Gate> SeatPage
         } }
     {
         SeatPage {
-            alloc,
+            alloc: wait.alloc(),
             wait,
             room,
             seat,

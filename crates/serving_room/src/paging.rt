@@ -217,7 +217,6 @@ where
         name: page.name.as_slice(),
     };
     let mut page = SeatPage::new(
-        rt.alloc(),
         rt,
         room,
         seat,
