@@ -3153,7 +3153,9 @@ function isPrinted(card,from){
 return[...torn,...view.paper].slice(from).some(line=>line.text===card.slice(NAME_COLUMN));
 }
 function isFree({cells,from,read,next,registers}){
-if(isHello(read)&&registers.I===HELLO_END)return from>0||cells.slice(201,333).every(cell=>!cell.mark);
+if(isHello(read)&&[...HELLO_AT,HELLO_END].includes(registers.I)){
+return from>0||cells.slice(201,333).every(cell=>!cell.mark);
+}
 return next===null&&cells.every(cell=>cell.graphic===' '&&!cell.mark);
 }
 function stepOf(picture,{hasFed,card,from}){
@@ -4204,7 +4206,7 @@ begin();
 /// The `content-security-policy` of the page: its own script and style by their SHA-256, exchanges with its own server,
 /// and nothing else.
 pub const POLICY: &str = "default-src 'none'; \
-    script-src 'sha256-92VOVgU99g8e8V0Pq/NGbvgmWyMAXUvAnZvhsLlX4cQ='; \
+    script-src 'sha256-EDmkWs+kqBCj9Es8FGyv1cJJrC64JlD1ylqQj8qL8aI='; \
     style-src 'sha256-qtAJUXdIS+inHbpAhQQjkMyo/ukDTccSTx7JSUQ/LCg='; \
     img-src data:; \
     connect-src 'self'; \
