@@ -85,7 +85,8 @@ const guide = {
   /* The step that the machine is at now; null if there is nothing to guide. */
   step() {
     if (this.state !== 'on' || view.picture === null) return null;
-    return turn.wants || isKeptOff() ? 'wait' : stepOf(view.picture, this);
+    const step = stepOf(view.picture, this);
+    return step !== 'done' && (turn.wants || isKeptOff()) ? 'wait' : step;
   },
   draw() {
     const name = this.step(), step = name && GUIDE_STEPS[name], shown = step ? step.shown : -1;

@@ -3210,7 +3210,8 @@ return this.state !=='on'||this.step()==='done';
 },
 step(){
 if(this.state !=='on'||view.picture===null)return null;
-return turn.wants||isKeptOff()?'wait':stepOf(view.picture,this);
+const step=stepOf(view.picture,this);
+return step !=='done'&&(turn.wants||isKeptOff())?'wait':step;
 },
 draw(){
 const name=this.step(),step=name&&GUIDE_STEPS[name],shown=step?step.shown:-1;
@@ -4206,7 +4207,7 @@ begin();
 /// The `content-security-policy` of the page: its own script and style by their SHA-256, exchanges with its own server,
 /// and nothing else.
 pub const POLICY: &str = "default-src 'none'; \
-    script-src 'sha256-EDmkWs+kqBCj9Es8FGyv1cJJrC64JlD1ylqQj8qL8aI='; \
+    script-src 'sha256-76PDPYkRU54tJyPI4QjwvHw0XSFxlIfdNdHOgFjoGoM='; \
     style-src 'sha256-qtAJUXdIS+inHbpAhQQjkMyo/ukDTccSTx7JSUQ/LCg='; \
     img-src data:; \
     connect-src 'self'; \
