@@ -195,6 +195,8 @@ class Guide(Browser):
             ("a word mark in the print area", "'DEPOSIT 0220 ~A'", "other"),
             ("none any more", "'DEPOSIT 0220 A'", "feed"),
             ("a card with somebody's name", "'FEED ' + HELLO.slice(0, 40) + 'ADA'", "other"),
+            ("it is in core, and was left", "'LOAD'", "feed"),
+            ("in the middle", "'RUN 3'", "feed"),
         ]:
             sent = f"for (const line of [{lines}]) await send(line); await inTurn(look);"
             self.page.value(f"(async () => {{ {sent} }})()")

@@ -78,6 +78,8 @@ class TwoScreens(Browser):
         second = self.open_page(2)
         self.visit(self.page, "ADA")
         self.shows("the machine is given back", "isHeld() || turn.has", False)
+        second.value("attract.touched = performance.now(), takeTurn()")
+        self.shows("who has a name reads so while the next is at the machine", "isKeptOff() && guide.step()", "done")
         self.visit(second, "GRACE")
         self.shows("both names are on the paper", PRINTED, "|".join(
             ["HELLO FROM AN IBM 1401", "ADA", "HELLO FROM AN IBM 1401", "GRACE"]))

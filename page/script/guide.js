@@ -17,9 +17,11 @@ const isHello = text => text !== null && text.startsWith(HELLO.slice(0, NAME_COL
 function isPrinted(card, from) {
   return [...torn, ...view.paper].slice(from).some(line => line.text === card.slice(NAME_COLUMN));
 }
-/* Whether a hello card would run: core storage is clear, but for an earlier hello card that has halted. */
+/* Whether a hello card would run: core storage is clear, but for an earlier hello card, which has halted or was left. */
 function isFree({cells, from, read, next, registers}) {
-  if (isHello(read) && registers.I === HELLO_END) return from > 0 || cells.slice(201, 333).every(cell => !cell.mark);
+  if (isHello(read) && [...HELLO_AT, HELLO_END].includes(registers.I)) {
+    return from > 0 || cells.slice(201, 333).every(cell => !cell.mark);
+  }
   return next === null && cells.every(cell => cell.graphic === ' ' && !cell.mark);
 }
 /* The step that the machine is at, for a visitor who has fed a card or not, and has a card with a name or not. */
@@ -83,7 +85,8 @@ const guide = {
   /* The step that the machine is at now; null if there is nothing to guide. */
   step() {
     if (this.state !== 'on' || view.picture === null) return null;
-    return turn.wants || isKeptOff() ? 'wait' : stepOf(view.picture, this);
+    const step = stepOf(view.picture, this);
+    return step !== 'done' && (turn.wants || isKeptOff()) ? 'wait' : step;
   },
   draw() {
     const name = this.step(), step = name && GUIDE_STEPS[name], shown = step ? step.shown : -1;

@@ -3281,7 +3281,9 @@ function isPrinted(card,from){
 return[...torn,...view.paper].slice(from).some(line=>line.text===card.slice(NAME_COLUMN));
 }
 function isFree({cells,from,read,next,registers}){
-if(isHello(read)&&registers.I===HELLO_END)return from>0||cells.slice(201,333).every(cell=>!cell.mark);
+if(isHello(read)&&[...HELLO_AT,HELLO_END].includes(registers.I)){
+return from>0||cells.slice(201,333).every(cell=>!cell.mark);
+}
 return next===null&&cells.every(cell=>cell.graphic===' '&&!cell.mark);
 }
 function stepOf(picture,{hasFed,card,from}){
@@ -3336,7 +3338,8 @@ return this.state !=='on'||this.step()==='done';
 },
 step(){
 if(this.state !=='on'||view.picture===null)return null;
-return turn.wants||isKeptOff()?'wait':stepOf(view.picture,this);
+const step=stepOf(view.picture,this);
+return step !=='done'&&(turn.wants||isKeptOff())?'wait':step;
 },
 draw(){
 const name=this.step(),step=name&&GUIDE_STEPS[name],shown=step?step.shown:-1;
@@ -4332,7 +4335,7 @@ begin();
 /// The `content-security-policy` of the page: its own script and style by their SHA-256, exchanges with its own server,
 /// and nothing else.
 pub const POLICY: &str = "default-src 'none'; \
-    script-src 'sha256-QjTQEm6R7F3U+ylTw6Y/7n2gwjCtP8ewMEqLLhQ/40Q='; \
+    script-src 'sha256-AMs8anGq5Nsrs44/7Agj1BhjCOMmQT9zRfn+qXkK0sg='; \
     style-src 'sha256-tNR2WJNDi6NY0FWvr+TLImh13HAKZf2YEcCOD58v4yE='; \
     img-src data:; \
     connect-src 'self'; \
