@@ -82,9 +82,9 @@ const feedLine = card => card === '' ? 'FEED' : `FEED ${card}`;
 /* Feeds some cards; says why that wasn't possible, if it should not be tried again. */
 async function feedSome(cards, breaks) {
   const {failed, replies} = await inTurn(() => sendAll(cards.map(feedLine), breaks));
+  feed.fed += replies.filter(each => each === 'OK').length;
   if (failed) return failed;
   const reply = replies[replies.length - 1];
-  feed.fed += replies.filter(each => each === 'OK').length;
   feed.waits = reply === 'REFUSED 2 HOPPER';
   return reply === 'OK' || feed.waits ? '' : wordsOf(reply) || reply;
 }

@@ -27,8 +27,14 @@ async function post(path, body, breaks) {
     view.posting = false;
   }
   if (PROXY_STATUS.includes(response.status)) return lostLine(count, room);
-  if (response.status === 423) takeHold(text);
-  return response.status === 200 ? {text, count} : refusedLine(statusOf(response));
+  if (response.status === 200) return {text, count};
+  return {...refusedLine(statusOf(response)), done: response.status === 423 ? repliesBefore(text) : ''};
+}
+/* The replies to the lines that were carried out before another page held the machine; the hold follows them. */
+function repliesBefore(text) {
+  const at = text.search(/^HOLD /m);
+  if (at >= 0) takeHold(text.slice(at));
+  return at >= 0 ? text.slice(0, at) : text;
 }
 /* Sends a line: its reply, or how it failed. */
 async function send(line, breaks = view.breaks) {
@@ -42,9 +48,9 @@ async function send(line, breaks = view.breaks) {
 /* Sends commands in one request. They are carried out one after the other, up to the first whose reply isn't OK, a
    printed line or a card; there are as many replies. */
 async function sendAll(lines, breaks) {
-  const {failed, text, count} = await post('/lines', lines.join('\n'), breaks);
-  if (failed) return {failed, replies: []};
-  const replies = text.split('\n').slice(0, -1);
+  const {failed, text, count, done = ''} = await post('/lines', lines.join('\n'), breaks);
+  const replies = (failed ? done : text).split('\n').slice(0, -1);
+  if (failed) return {failed, replies};
   view.made = count + replies.filter(reply => RECORDED.test(reply)).length;
   noteFault(replies[replies.length - 1]);
   return {replies};

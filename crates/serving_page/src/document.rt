@@ -1432,11 +1432,11 @@ fed:'Dr\xfccken Sie LOAD, dann RUN.'},
 game:{name:'Gr\xf6\xdfer oder kleiner',about:'Die letzte Karte des Stapels hat eine geheime Zahl von 01 bis 99. '
 + 'Stanzen '
 + 'Sie Ihren Tipp, zwei Ziffern, dann RELEASE und RUN: die Maschine druckt, ob die Zahl gr\xf6\xdfer oder kleiner ist.',
-fed:'Dr\xfccken Sie LOAD, dann RUN. Stanzen Sie dann eine Karte mit zwei Ziffern, und wieder RUN.'},"##;
+fed:'Dr\xfccken Sie LOAD, dann RUN. Stanzen Sie dann eine Karte mit zwei Ziffern, und wieder RUN.'},
+listing:{name:'Liste',about:'Druckt und kopiert die Karten nach ihr. Mit Schalter A h\xe4lt es nach der '"##;
 
 /// The rest of the page.
 pub const REST: &[u8] = br##"
-listing:{name:'Liste',about:'Druckt und kopiert die Karten nach ihr. Mit Schalter A h\xe4lt es nach der '
 + 'letzten Karte an.',
 fed:'Schalter A an, LOAD, dann RUN. Bei 100 Schritten je Sekunde sehen Sie zu.'},
 },
@@ -1953,8 +1953,13 @@ return lostLine(count,room);
 view.posting=false;
 }
 if(PROXY_STATUS.includes(response.status))return lostLine(count,room);
-if(response.status===423)takeHold(text);
-return response.status===200?{text,count}:refusedLine(statusOf(response));
+if(response.status===200)return{text,count};
+return{...refusedLine(statusOf(response)),done:response.status===423?repliesBefore(text):''};
+}
+function repliesBefore(text){
+const at=text.search(/^HOLD /m);
+if(at>=0)takeHold(text.slice(at));
+return at>=0?text.slice(0,at):text;
 }
 async function send(line,breaks=view.breaks){
 const{failed,text,count}=await post('/line',line,breaks);
@@ -1965,9 +1970,9 @@ noteFault(reply);
 return{reply};
 }
 async function sendAll(lines,breaks){
-const{failed,text,count}=await post('/lines',lines.join('\n'),breaks);
-if(failed)return{failed,replies:[]};
-const replies=text.split('\n').slice(0,-1);
+const{failed,text,count,done=''}=await post('/lines',lines.join('\n'),breaks);
+const replies=(failed?done:text).split('\n').slice(0,-1);
+if(failed)return{failed,replies};
 view.made=count + replies.filter(reply=>RECORDED.test(reply)).length;
 noteFault(replies[replies.length - 1]);
 return{replies};
@@ -2326,9 +2331,9 @@ return why;
 const feedLine=card=>card===''?'FEED':`FEED ${card}`;
 async function feedSome(cards,breaks){
 const{failed,replies}=await inTurn(()=>sendAll(cards.map(feedLine),breaks));
+feed.fed +=replies.filter(each=>each==='OK').length;
 if(failed)return failed;
 const reply=replies[replies.length - 1];
-feed.fed +=replies.filter(each=>each==='OK').length;
 feed.waits=reply==='REFUSED 2 HOPPER';
 return reply==='OK'||feed.waits?'':wordsOf(reply)||reply;
 }
@@ -4335,7 +4340,7 @@ begin();
 /// The `content-security-policy` of the page: its own script and style by their SHA-256, exchanges with its own server,
 /// and nothing else.
 pub const POLICY: &str = "default-src 'none'; \
-    script-src 'sha256-AMs8anGq5Nsrs44/7Agj1BhjCOMmQT9zRfn+qXkK0sg='; \
+    script-src 'sha256-SwbujKFTSqaMY4ceQerseOz2HDFKBz1lEI77SsR8TAg='; \
     style-src 'sha256-tNR2WJNDi6NY0FWvr+TLImh13HAKZf2YEcCOD58v4yE='; \
     img-src data:; \
     connect-src 'self'; \
