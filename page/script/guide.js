@@ -17,7 +17,7 @@ const isHello = text => text !== null && text.startsWith(HELLO.slice(0, NAME_COL
 function isPrinted(card, from) {
   return [...torn, ...view.paper].slice(from).some(line => line.text === card.slice(NAME_COLUMN));
 }
-/* Whether a hello card would run: core storage is clear, but for an earlier hello card, which has halted or was left. */
+/* Whether a hello card would run: core storage is clear, but for an earlier hello card that halted or was left. */
 function isFree({cells, from, read, next, registers}) {
   if (isHello(read) && [...HELLO_AT, HELLO_END].includes(registers.I)) {
     return from > 0 || cells.slice(201, 333).every(cell => !cell.mark);
