@@ -6,7 +6,7 @@
 The ceilings are in tests/counts.txt, a line for each crate and one for all: functions, early exits (`?`), closures and
 clauses (`ensures` and `requires`). They only go down. A new crate gets a line while all crates together stay below
 theirs, so what moves from one crate to a new one is free, and what comes on top is paid for by less elsewhere.
-tests/proof_weight.py measures what this counts; docs/COSTS.md says what each costs."""
+tests/proof_weight.py measures what this counts; docs/CONTRIBUTING.md says what each costs."""
 import re
 import sys
 from pathlib import Path
@@ -21,7 +21,7 @@ KINDS = {
     "closures": re.compile(r"[(,=] ?(?:move )?\|[^|]*\| "),
     "clauses": re.compile(r"^\s*(?:ensures|requires)\b"),
 }
-# How many there may be at the end of the way that COSTS describes.
+# How many there may be at the end of the way that CONTRIBUTING describes.
 TARGETS = {"crates": 46, "functions": 3000}
 ALL = "all"
 # A text in quotation marks may have several lines.

@@ -13,7 +13,7 @@ the N heaviest functions alone, --csv all of them as lines with commas, --total 
   weight  seconds on a quiet processor, estimated: 0.65 for each MB of steps, 2.5 of goals, 0.5 of the rest
 
 The last lines have the totals: of functions, of derived impls and closures among them, and of the crate. A crate takes
-the gate its weight, half a second for each crate below it, and ten seconds. docs/COSTS.md has what was measured."""
+the gate its weight, half a second for each crate below it, and ten seconds. docs/CONTRIBUTING.md has what was measured."""
 import argparse
 import collections
 import os

@@ -13,8 +13,7 @@ DOCS = TOP / "docs"
 MOST_LINES = {
     "README.md": 110,
     "docs/ARCHITECTURE.md": 160,
-    "docs/CONTRIBUTING.md": 132,
-    "docs/COSTS.md": 120,
+    "docs/CONTRIBUTING.md": 205,
     "docs/THEOREMS.md": 600,
     "docs/DECISIONS.md": 520,
     "docs/GLOSSARY.md": 60,
