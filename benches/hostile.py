@@ -7,7 +7,7 @@ import socket
 import struct
 import time
 
-from tests.test_hostile_requests import damaged, hostile_heads, hostile_lines, large_heads, requests_to
+from tests.serving.test_hostile_requests import damaged, hostile_heads, hostile_lines, large_heads, requests_to
 
 # How many there are, and how many of them are at the consoles' port.
 CLIENTS = 200

@@ -4,7 +4,7 @@
 
 Each crate is below those that it needs, and has the colour of its family. An edge that others imply isn't drawn: if A
 needs B and C, and B needs C, there is no line from A to C. Each edge is a line of the file, whose title names both
-crates. tests/test_docs.py compares the file with crates.txt."""
+crates. tests/tools/test_docs.py compares the file with crates.txt."""
 from functools import lru_cache
 from html import escape
 from pathlib import Path

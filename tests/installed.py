@@ -15,8 +15,8 @@ import time
 from pathlib import Path
 
 from tests.support import REPLY_SECONDS, TOP, Console, a_port, run
-from tests.test_docs import rows_of
-from tests.test_unit import words_of
+from tests.tools.test_docs import rows_of
+from tests.serving.test_unit import words_of
 
 # What a root needs besides.
 BESIDES = "man-db,bash-completion"

@@ -15,6 +15,8 @@ from concurrent.futures import ThreadPoolExecutor, as_completed
 
 from tests.support import FIRST_PORT, LAST_PORT, TESTS, TOP
 
+# The modules, each in the folder of its theme.
+MODULES = sorted(TESTS.glob("*/test_*.py"))
 # The modules that take longest, which begin first: none is waited for alone at the end.
 LONGEST = "test_browser", "test_running", "test_served_journals", "test_serving"
 # The kind of a module's tests. Every other module tests the process: statuses, streams, files, sockets and pages.
@@ -79,7 +81,8 @@ class Counts(unittest.TestResult):
 def count_module(name):
     """Runs the tests of a module in this process, and prints its line."""
     began, counts = time.monotonic(), Counts()
-    unittest.defaultTestLoader.loadTestsFromName(f"tests.{name}").run(counts)
+    folder = next((file.parent.name for file in MODULES if file.stem == name), "")
+    unittest.defaultTestLoader.loadTestsFromName(f"tests.{folder}.{name}").run(counts)
     if counts.testsRun == 0 and not counts.errors:
         print(f"FAILED  {name} has no test", flush=True)
         counts.failed += 1
@@ -117,7 +120,7 @@ def kind_of(name):
 def run_modules(names=()):
     """Runs modules, all of them where none is named, as many at once as there are processors: the counts, which are
     also printed for each kind."""
-    names = list(names) or sorted(file.stem for file in TESTS.glob("test_*.py"))
+    names = list(names) or sorted(file.stem for file in MODULES)
     names.sort(key=lambda name: name not in LONGEST)
     counts = {}
     many = len(os.sched_getaffinity(0))

@@ -114,7 +114,7 @@ def places():
         files = [path for part in ("src", "specs", "proofs") for path in sorted((crate / part).rglob("*"))]
         found[f"crates/{crate.name}"] = [path for path in files if path.suffix in (".rt", ".antt")]
     texts = [(f"tests/{kind}", "*.txt") for kind in ("sessions", "sittings", "sources")]
-    for folder, form in ("tests", "*.py"), ("tests", "*.md"), *texts:
+    for folder, form in ("tests", "*.py"), ("tests", "*/*.py"), ("tests", "*.md"), *texts:
         for test in sorted((TOP / folder).glob(form)):
             if test != Path(__file__).resolve():
                 found[str(test.relative_to(TOP))] = [test]

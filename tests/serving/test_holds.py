@@ -5,8 +5,8 @@ import time
 import unittest
 
 from tests.support import EXAMPLES, MOST_TRIALS, body, status, wait_until
-from tests.test_page_lines import NAME
-from tests.test_page_requests import PageTest
+from tests.serving.test_page_lines import NAME
+from tests.serving.test_page_requests import PageTest
 
 # How long a hold lasts, and after how many seconds without its page it ends; a clock in whole seconds makes it shorter.
 HELD = 60

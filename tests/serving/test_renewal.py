@@ -3,7 +3,7 @@ import threading
 import time
 
 from tests.support import SECONDS, ProgramTest, program, status, wait_until
-from tests.test_holds import QUICK
+from tests.serving.test_holds import QUICK
 
 # The text of a card.
 CARD = "HELLO FROM AN IBM 1401"

@@ -8,8 +8,8 @@ import unittest
 from tests.peer import peer, with_peer
 from tests.support import EXAMPLES, LAUNCHER, PAGE, PROGRAM, TOP, ProgramTest, program, run, status
 from tests.tape_reels import MARK, MARK_RECORD, records_of
-from tests.test_holds import HELD
-from tests.test_operate import typed_in
+from tests.serving.test_holds import HELD
+from tests.operate.test_operate import typed_in
 
 COURSE = EXAMPLES / "course"
 LESSONS = sorted(path.parent for path in COURSE.glob("*/lesson.md"))

@@ -24,7 +24,7 @@ import unittest
 from itertools import zip_longest
 
 from tests.support import EXAMPLES, TESTS, difference, program, run
-from tests.test_operate import PROMPT, recorded, typed_in
+from tests.operate.test_operate import PROMPT, recorded, typed_in
 from tests.texts import add_cases, read_parts
 
 SITTINGS = TESTS / "sittings"

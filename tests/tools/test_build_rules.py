@@ -10,7 +10,7 @@ from pathlib import Path
 sys.dont_write_bytecode = True
 from tests.mock_toolchain import make_toolchain
 
-TOP = Path(__file__).resolve().parent.parent
+TOP = Path(__file__).resolve().parents[2]
 SECONDS = 300
 
 # A program over three libraries; two of them need nothing of each other.

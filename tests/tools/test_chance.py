@@ -2,7 +2,7 @@
 
 Half of what is given is a damaged copy of an example. One seed is always the same, and another is made of the sources,
 so each change of them tries something else, and the same sources are tried alike everywhere. CHANCE_SEED=n python3 -m
-unittest tests.test_chance tries another one."""
+unittest tests.tools.test_chance tries another one."""
 import os
 import random
 import re

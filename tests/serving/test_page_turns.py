@@ -4,8 +4,8 @@ import unittest
 
 from tests.chromium import NARROW
 from tests.support import SECONDS
-from tests.test_browser import Browser
-from tests.test_exhibit import LIT, ONE_MORE, PRINTED, SIZES
+from tests.serving.test_browser import Browser
+from tests.serving.test_exhibit import LIT, ONE_MORE, PRINTED, SIZES
 
 PUPILS = 8
 # A name for the pupil at each seat, in letters alone.

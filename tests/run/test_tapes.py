@@ -4,7 +4,7 @@ import unittest
 
 from tests.peer import image
 from tests.support import EXAMPLES, ProgramTest, misuse, program
-from tests.test_reel import MARK, between, codes, refuse_large_files
+from tests.files.test_reel import MARK, between, codes, refuse_large_files
 
 SOURCE = EXAMPLES / "five_and_five.source"
 USAGE = "run [OPTIONS] [FILE]"

@@ -6,7 +6,7 @@ from pathlib import Path
 
 from tests import words
 
-TOP = Path(__file__).resolve().parent.parent
+TOP = Path(__file__).resolve().parents[2]
 DOCS = TOP / "docs"
 
 # How many lines a page may have. README and ARCHITECTURE are read in ten minutes.

@@ -19,7 +19,7 @@ sys.dont_write_bytecode = True
 from tests.chains import DOUBTFUL, SIMH, SOURCE_SIMH
 from tests.support import PORTS_TRIED, SECONDS, at_a_port, free_ports
 
-TOP = Path(__file__).resolve().parent.parent
+TOP = Path(__file__).resolve().parents[2]
 PROGRAM = Path(os.environ.get("IBM1401", TOP / "crates/ibm1401/out/ibm1401"))
 MISUSE = 2
 

@@ -1,7 +1,7 @@
 """Strangers at a page, one after the other: each is led by the guide to a printed line with his own name."""
 import unittest
 
-from tests.test_browser import Browser
+from tests.serving.test_browser import Browser
 
 SIZES = {"the smallest screen": (1024, 768), "a small screen": (1280, 800), "a wide screen": (1366, 768),
          "a large screen": (1920, 1080), "a screen of 4K": (3840, 2160), "a telephone": (390, 844)}

@@ -9,7 +9,7 @@ import unittest
 from pathlib import Path
 
 sys.dont_write_bytecode = True
-TOP = Path(__file__).resolve().parent.parent
+TOP = Path(__file__).resolve().parents[2]
 PROGRAM = Path(os.environ.get("IBM1401", TOP / "crates/ibm1401/out/ibm1401"))
 COMMANDS = ["console", "assemble", "load", "disassemble", "reel", "run", "operate", "serve", "journal", "resume"]
 HELP = [["--help"], ["-h"], ["help"]]

@@ -1,8 +1,8 @@
 """A page of a seat for those who see little, hear it read, use no mouse, or want no movement."""
 import unittest
 
-from tests.test_browser import Browser
-from tests.test_exhibit import SIZES
+from tests.serving.test_browser import Browser
+from tests.serving.test_exhibit import SIZES
 
 # What a screen reader names by its content or its label.
 NAMED = {"button", "textbox", "searchbox", "combobox", "checkbox", "image", "img", "link", "grid", "gridcell", "region",

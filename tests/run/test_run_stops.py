@@ -12,7 +12,7 @@ from pathlib import Path
 from tests.peer import image
 from tests.support import ProgramTest, program
 
-TOP = Path(__file__).resolve().parent.parent
+TOP = Path(__file__).resolve().parents[2]
 PROGRAM = Path(os.environ.get("IBM1401", TOP / "crates/ibm1401/out/ibm1401")).absolute()
 SECONDS = 300
 

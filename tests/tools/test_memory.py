@@ -9,7 +9,7 @@ from pathlib import Path
 from tests.support import MOST_CARDS, a_port
 from tests.tape_reels import tape
 
-TOP = Path(__file__).resolve().parent.parent
+TOP = Path(__file__).resolve().parents[2]
 PROGRAM = Path(os.environ.get("IBM1401", TOP / "crates/ibm1401/out/ibm1401")).absolute()
 
 # The most bytes that a file may have, and the most memory for each of them.

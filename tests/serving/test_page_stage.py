@@ -2,8 +2,8 @@
 import unittest
 
 from tests.chromium import Page
-from tests.test_browser import Browser
-from tests.test_exhibit import LIT, PRINTED, SIZES
+from tests.serving.test_browser import Browser
+from tests.serving.test_exhibit import LIT, PRINTED, SIZES
 
 KEYS = ["feed-key", "load-key", "step-key", "run-key"]
 # Whether an element is seen as a whole, without scrolling.

@@ -5,7 +5,7 @@ from pathlib import Path
 
 from tests.source_texts import FAULTY_SOURCES, GOOD, IMAGE, LISTING
 from tests.support import EXAMPLES, TOP, ProgramTest, program, shell
-from tests.test_diagnostics import FAULTY, LINES_OF_FAULTY
+from tests.assembler.test_diagnostics import FAULTY, LINES_OF_FAULTY
 
 # The deck of the good source, which has no cells: storage is cleared, and the program begun.
 DECK = """\

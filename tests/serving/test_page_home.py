@@ -5,8 +5,8 @@ import unittest
 
 from tests.chromium import Page
 from tests.support import PAGE
-from tests.test_browser import Browser
-from tests.test_exhibit import PRINTED
+from tests.serving.test_browser import Browser
+from tests.serving.test_exhibit import PRINTED
 
 HOME = "https://museum.example/1401"
 CARD = "&card=%2C008015%2C022029%2C036037%2C038041M0802402.+++ADA+%26+CO&line=ADA+%26+CO"

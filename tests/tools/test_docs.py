@@ -66,7 +66,7 @@ def known_tests():
     names = set()
     for source in (TOP / "crates").glob("tests_*/src/**/*.rt"):
         names |= set(re.findall(r"#\[test[^\n]*\n(?:#[^\n]*\n)*(?:pub )?fn (\w+)", source.read_text()))
-    for module in TESTS.glob("test_*.py"):
+    for module in TESTS.glob("*/test_*.py"):
         names |= {module.stem, *re.findall(r"def test_(\w+)\(", module.read_text())}
     for text in TESTS.glob("*/*.txt"):
         for title in re.findall(r"^== (.*)$", text.read_text(), re.MULTILINE):
@@ -122,7 +122,7 @@ class Pages(ProgramTest):
     def test_modules_that_the_page_of_tests_names(self):
         rows = re.findall(r"^\| `test_.*", (TESTS / "README.md").read_text(), re.MULTILINE)
         named = sorted(name for row in rows for name in re.findall(r"`(test_\w+)`", row))
-        self.same("the modules", named, sorted(file.stem for file in TESTS.glob("test_*.py")))
+        self.same("the modules", named, sorted(file.stem for file in TESTS.glob("*/test_*.py")))
 
     def test_definitions_that_machine_names(self):
         named = list(named_definitions())

@@ -3,7 +3,7 @@ import re
 import unittest
 
 from tests.support import body, status
-from tests.test_page_requests import PageTest
+from tests.serving.test_page_requests import PageTest
 
 LOOP = "DEPOSIT 0001 ~B001\nSTART 1\n"
 # The lines of a request, its replies, and how many commands were carried out.

@@ -4,7 +4,7 @@ from pathlib import Path
 
 from tests.jobs import ending
 from tests.support import EXAMPLES, ProgramTest, program
-from tests.test_loaded_decks import HAND_PUNCHED
+from tests.files.test_loaded_decks import HAND_PUNCHED
 
 
 class StoredImages(ProgramTest):

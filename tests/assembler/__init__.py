@@ -1,0 +1,1 @@
+"""Sources and what the assembler makes of them."""

@@ -1,0 +1,1 @@
+"""Texts in files: images, decks, journals, reels."""

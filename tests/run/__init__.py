@@ -1,0 +1,1 @@
+"""Jobs, with cards and with tapes."""

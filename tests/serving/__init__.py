@@ -1,0 +1,1 @@
+"""Served rooms, and the pages of their seats."""
