@@ -1,24 +1,25 @@
 """The wrong bodies that the prover must refuse: each is still one of the code that is there."""
 import sys
+import tempfile
+from pathlib import Path
 
+from tests.edit_texts import Edit, further_crates, further_edits, lay_out, read_edits
 from tests.support import TOP, ProgramTest
 
-EDITS = sorted([*TOP.glob("crates/*/must-fail/*.edit"), *TOP.glob("further-edits/*/*.edit")])
+# Each edit that the gate tries, and each further one: how it is named, the folder of its crate, and its lines.
+EDITS = [(str(edit.relative_to(TOP)), edit.parent.parent, edit.read_text().split("\n"))
+         for edit in sorted(TOP.glob("crates/*/must-fail/*.edit"))]
+EDITS += [(f"further-edits/{crate}.txt: {edit.title}", TOP / "crates" / crate, edit.lines)
+          for crate in further_crates() for edit in further_edits(crate)]
 
 
-def crate_of(edit):
-    """The folder of the crate that an edit changes."""
-    folder = edit.parent
-    return folder.parent if folder.name == "must-fail" else TOP / "crates" / folder.name
-
-
-def wrong_with(edit):
-    """Why an edit can't be made, or nothing. Each pair of texts applies to what the earlier ones made."""
+def wrong_with(folder, lines):
+    """Why an edit of a crate can't be made, or nothing. Each pair of texts applies to what the earlier ones made."""
     path, old, texts = None, None, {}
-    for line in edit.read_text().splitlines():
+    for line in lines:
         word, _, text = line.partition(" ")
         if word == "file:":
-            path = crate_of(edit) / text
+            path = folder / text
             if path not in texts:
                 texts[path] = path.read_text() if path.is_file() else ""
         elif word == "old:" and old is None:
@@ -37,9 +38,43 @@ class Edits(ProgramTest):
 
     def test_each_edit_changes_one_place(self):
         self.assertTrue(EDITS)
-        for edit in EDITS:
-            self.check(str(edit.relative_to(TOP)), wrong_with(edit))
+        for name, folder, lines in EDITS:
+            self.check(name, wrong_with(folder, lines))
+
+    def test_each_text_is_of_a_crate_and_names_an_edit_once(self):
+        for crate in further_crates():
+            names = [edit.name for edit in further_edits(crate)]
+            self.check(f"{crate}: there is such a crate", "" if (TOP / "crates" / crate).is_dir() else "there is none")
+            self.same(f"{crate}: its names", sorted(set(names)), sorted(names))
+
+
+class Texts(ProgramTest):
+    """The form of a text."""
+
+    def test_edits_are_laid_out_as_rt_takes_them(self):
+        with tempfile.TemporaryDirectory() as folder:
+            for crate in further_crates():
+                count = lay_out(crate, Path(folder))
+                laid = {file.name: file.read_text() for file in Path(folder).iterdir()}
+                wanted = {f"{edit.name}.edit": edit.text for edit in further_edits(crate)}
+                self.same(f"{crate}: how many", (count, len(laid)), (len(wanted), len(wanted)))
+                self.same(crate, laid, wanted)
+                for file in Path(folder).iterdir():
+                    file.unlink()
+
+    def test_a_text_is_read(self):
+        text = ("# A remark.\n\n== No second pass\nfile: src/a.rt\nold:   x + 1\nnew:   x\n"
+                "refused: the clause `sum` of `add`\n\n== It's gone\nfile: src/b.rt\nold: y\nnew: z\n")
+        first, other = read_edits(text)
+        self.same("the first", (first.name, first.text, first.refused),
+                  ("no_second_pass", "file: src/a.rt\nold:   x + 1\nnew:   x\n", "the clause `sum` of `add`"))
+        self.same("the other", (other.name, other.refused), ("it_s_gone", ""))
+        self.same("nothing", Edit("A title").text, "")
+        for wrong in "file: src/a.rt\n", "== A title\nold text\n":
+            with self.assertRaises(ValueError):
+                read_edits(wrong)
 
 
 if __name__ == "__main__":
-    sys.exit(print(f"{sum(not wrong_with(edit) for edit in EDITS)} of {len(EDITS)} edits apply"))
+    wrong = [name for name, folder, lines in EDITS if wrong_with(folder, lines)]
+    sys.exit(print(f"{len(EDITS) - len(wrong)} of {len(EDITS)} edits apply", *wrong, sep="\n"))
