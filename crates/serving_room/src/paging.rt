@@ -216,15 +216,7 @@ where
         seats,
         name: page.name.as_slice(),
     };
-    let mut page = SeatPage::new(
-        rt,
-        room,
-        seat,
-        shown,
-        &page.port.site,
-        &document(),
-        page,
-    );
+    let mut page = SeatPage::new(rt, room, seat, shown, &page.port.site, &document(), page);
     answer_page(rt, &mut page, visits);
     page.into_seat()
 }
