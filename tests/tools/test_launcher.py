@@ -331,10 +331,13 @@ class Released(ProgramTest):
 
     def test_check_without_the_toolchain(self):
         """It tests the release's program, and says that no proof was checked; what a merge asks for fails."""
-        for name in ("check", ".ci", "page", "tests/__init__.py", "tests/support.py", "tests/runner.py"):
+        copied = "check", ".ci", "page", *(f"tests/{name}.py" for name in ("__init__", "support", "runner", "edit_texts"))
+        for name in copied:
             copy = shutil.copytree if (TOP / name).is_dir() else shutil.copy
             copy(TOP / name, self.folder / name)
-        (self.folder / "tests/test_one.py").write_text(ONE_TEST)
+        (self.folder / "tests/tools").mkdir()
+        (self.folder / "tests/tools/__init__.py").touch()
+        (self.folder / "tests/tools/test_one.py").write_text(ONE_TEST)
         ran = run([self.folder / "check"], env=self.env)
         said = ran.stdout.decode().splitlines()
         self.same("its status", (ran.returncode, ran.stderr), (0, (FIRST + REST).encode()))
