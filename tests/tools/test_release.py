@@ -13,6 +13,7 @@ from releasing.completion import for_bash, for_fish, for_zsh
 from releasing.helps import lesson_page, pages_of
 from releasing.proved import bare, checksum, note_of, program_of, sources, write_note
 from tests.support import PROGRAM, TOP, ProgramTest, program, repository, run
+from tests.tools.test_launcher import without_toolchain
 
 COPIED = "release", "releasing", "README.md", "CHANGELOG.md", "docs", "examples", "benches", "crates.txt", "HANDLES"
 PRINTED = "rt: bcd_1401 proved\n3 passed, 0 failed\n"
@@ -224,10 +225,26 @@ class InTheTree(ProgramTest):
         ran = run(["sha256sum", "-c", "SHA256SUMS"], cwd=TOP / "dist")
         self.expect("SHA256SUMS", ran, 0, f"PROVED.txt.gz: OK\n{archive}: OK\n{package}: OK\n")
 
+    def setUp(self):
+        self.proof = gzip.decompress((TOP / "dist/PROVED.txt.gz").read_bytes()).decode()
+        self.is_of_these_sources = released.noted_in(self.proof.partition("SOURCES\n\n")[2]) == sources(TOP)
+
+    def test_a_fresh_clone_runs_it(self):
+        """Without the toolchain, and with it before anything is built, if the sources are still those of the release."""
+        words = "run", "examples/sales.source", "--cards", "examples/sales.cards", "--switches", "A"
+        paths = [without_toolchain()] + ([os.environ["PATH"]] if self.is_of_these_sources else [])
+        for number, path in enumerate(paths):
+            clone = self.folder / f"clone_{number}"
+            run(["git", "clone", "-q", TOP, clone])
+            ran = run([clone / "ibm1401", *words], cwd=clone, env={**os.environ, "PATH": path})
+            first = self.proof.splitlines()[0]
+            self.same("its status", (ran.returncode, ran.stdout.split()[-2:]), (0, [b"TOTAL", b"13.75"]))
+            self.check("what it says", "" if ran.stderr.decode().startswith(f"ibm1401: this is {first}") else ran.stderr)
+
     def test_the_gate_has_built_the_same_program(self):
         """Whenever the sources are those of the release: any toolchain of that kind gives the same bytes."""
-        proof = gzip.decompress((TOP / "dist/PROVED.txt.gz").read_bytes()).decode()
-        if not note_of(TOP).exists() or released.noted_in(proof.partition("SOURCES\n\n")[2]) != sources(TOP):
+        proof = self.proof
+        if not note_of(TOP).exists() or not self.is_of_these_sources:
             self.skipTest("the gate hasn't built the sources of the release here")
         archive = released.archive_in(TOP / "dist")
         program = released.program_in(archive, released.noted_in((TOP / "dist/SHA256SUMS").read_text()), proof)
