@@ -172,7 +172,8 @@ class Made(ReleaseTest):
         self.expect("its check", checked, 1, "lesson 2: not yet. The total isn't the sum...")
         version = run(["./ibm1401", "--version"], cwd=self.folder / "desk/02-last-card")
         self.expect("its program", version, 0, "ibm1401 0.9.0...")
-        self.check("the lessons by the documentation", "" if (course / "02-last-card/lesson.md").exists() else "none there")
+        is_there = (course / "02-last-card/lesson.md").exists()
+        self.check("the lessons by the documentation", "" if is_there else "none there")
 
     def test_the_package(self):
         self.made()
@@ -230,7 +231,7 @@ class InTheTree(ProgramTest):
         self.is_of_these_sources = released.noted_in(self.proof.partition("SOURCES\n\n")[2]) == sources(TOP)
 
     def test_a_fresh_clone_runs_it(self):
-        """Without the toolchain, and with it before anything is built, if the sources are still those of the release."""
+        """Without the toolchain, and with it before anything is built, if the sources are those of the release."""
         words = "run", "examples/sales.source", "--cards", "examples/sales.cards", "--switches", "A"
         paths = [without_toolchain()] + ([os.environ["PATH"]] if self.is_of_these_sources else [])
         for number, path in enumerate(paths):
@@ -239,7 +240,8 @@ class InTheTree(ProgramTest):
             ran = run([clone / "ibm1401", *words], cwd=clone, env={**os.environ, "PATH": path})
             first = self.proof.splitlines()[0]
             self.same("its status", (ran.returncode, ran.stdout.split()[-2:]), (0, [b"TOTAL", b"13.75"]))
-            self.check("what it says", "" if ran.stderr.decode().startswith(f"ibm1401: this is {first}") else ran.stderr)
+            said = ran.stderr.decode()
+            self.check("what it says", "" if said.startswith(f"ibm1401: this is {first}") else said)
 
     def test_the_gate_has_built_the_same_program(self):
         """Whenever the sources are those of the release: any toolchain of that kind gives the same bytes."""
