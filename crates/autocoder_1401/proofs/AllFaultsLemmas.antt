@@ -9,7 +9,7 @@ use Rattle.autocoder_symbols.specs.Symbols.{sites_anywhere}
 use Rattle.autocoder_symbols.specs.declared.fault.AsmFault.{AsmFault}
 use Rattle.autocoder_diagnostics.specs.ToldFaults.{line_faults, first_in, IsThere}
 use Rattle.autocoder_diagnostics.specs.OwnFault.{told, nothing_before}
-use Rattle.autocoder_faults.specs.FirstFault.{first_fault}
+use Rattle.autocoder_diagnostics.specs.FirstFault.{first_fault}
 use Rattle.autocoder_diagnostics.proofs.ToldFaultsLemmas.{first_of_lines, each_from}
 use Rattle.autocoder_placing.specs.Values.{first_outside}
 use Rattle.autocoder_placing.proofs.LawLemmas.{found_outside}

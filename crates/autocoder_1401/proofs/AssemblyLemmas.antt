@@ -11,7 +11,7 @@ use Rattle.autocoder_symbols.specs.Known.{declared_at}
 use Rattle.autocoder_symbols.specs.Reading.{lines_in}
 use Rattle.autocoder_symbols.specs.Fault.{IsMemory, Gives}
 use Rattle.autocoder_symbols.specs.declared.fault.AsmFault.{AsmFault}
-use Rattle.autocoder_faults.specs.FirstFault.{first_fault, IsFaultless, IsFirstFault}
+use Rattle.autocoder_diagnostics.specs.FirstFault.{first_fault, IsFaultless, IsFirstFault}
 use Rattle.autocoder_placing.specs.Laws.{IsFirstOutside, IsCutOf}
 use Rattle.autocoder_placing.specs.PlacedImage.{image_of, placed_cells}
 use Rattle.autocoder_placing.specs.Values.{first_outside}

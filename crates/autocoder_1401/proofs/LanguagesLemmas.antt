@@ -5,8 +5,8 @@ use Rattle.autocoder_statements.specs.declared.language.Language.TheVariants.{Pl
 use Rattle.autocoder_statements.specs.declared.statement.Line.{Line}
 use Rattle.autocoder_symbols.specs.Reading.{lines_in}
 use Rattle.autocoder_symbols.specs.declared.fault.AsmFault.{AsmFault}
-use Rattle.autocoder_faults.specs.FirstFault.{first_fault}
-use Rattle.autocoder_faults.proofs.SoundLemmas.{lines_alike, clean_in_each}
+use Rattle.autocoder_diagnostics.specs.FirstFault.{first_fault}
+use Rattle.autocoder_diagnostics.proofs.SoundLemmas.{lines_alike, clean_in_each}
 use Rattle.autocoder_placing.specs.Values.{first_outside}
 use Rattle.autocoder_1401.specs.Assembly.{assembly_with, assembly_in, fault_or, unless_fault}
 use Rattle.autocoder_1401.specs.Languages.{MeansTheSame, AgreesWithPlain}

@@ -4,7 +4,7 @@ use Rattle.autocoder_statements.specs.declared.language.Language.{Language}
 use Rattle.autocoder_statements.specs.declared.statement.Line.{Line}
 use Rattle.autocoder_symbols.specs.Known.{declared_at}
 use Rattle.autocoder_symbols.specs.declared.fault.AsmFault.{AsmFault}
-use Rattle.autocoder_faults.specs.FirstFault.{first_fault}
+use Rattle.autocoder_diagnostics.specs.FirstFault.{first_fault}
 use Rattle.autocoder_diagnostics.specs.ToldFaults.{line_faults, IsThere}
 use Rattle.autocoder_placing.specs.Laws.{IsFirstOutside}
 use Rattle.autocoder_placing.specs.Values.{first_outside}

@@ -7,7 +7,7 @@ use Rattle.autocoder_statements.specs.declared.statement.Line.{Line}
 use Rattle.autocoder_symbols.specs.Known.{declared_at}
 use Rattle.autocoder_symbols.specs.Reading.{lines_in}
 use Rattle.autocoder_symbols.specs.declared.fault.AsmFault.{AsmFault}
-use Rattle.autocoder_faults.specs.FirstFault.{first_fault, IsFaultless, IsFirstFault}
+use Rattle.autocoder_diagnostics.specs.FirstFault.{first_fault, IsFaultless, IsFirstFault}
 use Rattle.autocoder_placing.specs.Laws.{IsFirstOutside}
 use Rattle.autocoder_placing.specs.Values.{first_outside}
 use Rattle.autocoder_placing.specs.PlacedImage.{image_of}

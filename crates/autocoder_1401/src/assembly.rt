@@ -9,7 +9,7 @@ ghost use Rattle.autocoder_symbols.specs.Known.{declared_at};
 ghost use Rattle.autocoder_symbols.specs.Reading.{lines_in};
 ghost use Rattle.autocoder_symbols.specs.Symbols.{sites_of};
 ghost use Rattle.autocoder_symbols.specs.View.{chains_view};
-ghost use Rattle.autocoder_faults.specs.FirstFault.{IsFaultless};
+ghost use Rattle.autocoder_diagnostics.specs.FirstFault.{IsFaultless};
 ghost use Rattle.autocoder_placing.specs.Placement.{placed};
 ghost use Rattle.autocoder_placing.specs.Values.{first_outside};
 ghost use Rattle.autocoder_placing.specs.PlacedImage.{image_of, placed_cells};
@@ -19,7 +19,7 @@ ghost use Rattle.autocoder_placing.specs.View.{places_of};
 ghost use Rattle.autocoder_1401.specs.Assembly.{assembly_with, assembly_in, with_listing, IsFaultOf};
 ghost use Rattle.autocoder_1401.specs.Languages.{AgreesWithPlain};
 
-use autocoder_faults::FaultlessLines;
+use autocoder_diagnostics::FaultlessLines;
 use autocoder_image::make_image;
 use autocoder_listing::{Listing, make_listing};
 use autocoder_placing::{Placing, place_all};

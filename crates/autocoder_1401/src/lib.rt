@@ -8,7 +8,7 @@
 //! ```
 //!
 //! The passes are in `assembly`. What they are made of is in crates of its own: `autocoder_symbols` reads the lines and
-//! follows the chains of EQUs, `autocoder_faults` looks for the first fault, `autocoder_diagnostics` for all of them,
+//! follows the chains of EQUs, `autocoder_diagnostics` looks for the first fault, `autocoder_diagnostics` for all of them,
 //! `autocoder_placing` places lines and makes their cells, `autocoder_image` makes the image, `autocoder_listing` what
 //! is printed, and `autocoder_warnings` reports likely mistakes in a source that assembles. What a source is refused
 //! for, and what is wrong at a fault, is handed on from there; images and their texts from `machine_image`.

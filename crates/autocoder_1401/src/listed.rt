@@ -14,7 +14,7 @@ ghost use Rattle.autocoder_listing.specs.Writing.{IsReadyFor, text_for};
 ghost use Rattle.autocoder_1401.specs.Assembly.{assembly_in, assembly_of};
 ghost use Rattle.autocoder_1401.specs.Languages.{AgreesWithPlain};
 
-use autocoder_faults::FaultlessLines;
+use autocoder_diagnostics::FaultlessLines;
 use autocoder_image::check_places;
 use autocoder_listing::{ReadyListing, ready_listing};
 use autocoder_placing::{Placing, place_all};

@@ -6,7 +6,7 @@ ghost use Rattle.autocoder_symbols.specs.Symbols.{sites_of};
 ghost use Rattle.autocoder_symbols.specs.View.{chains_view};
 ghost use Rattle.autocoder_placing.specs.Values.{is_in_core};
 
-use autocoder_faults::FaultlessLines;
+use autocoder_diagnostics::FaultlessLines;
 use autocoder_placing::{LiteralKey, Placing, contents_length, may_name_unit, place_all};
 use autocoder_statements::{
     Address, Addressing, Base, Description, Language, Literal, Next, Operand, OperandField, Point,

@@ -14,7 +14,7 @@ ghost use Rattle.autocoder_placing.specs.Values.{first_outside};
 ghost use Rattle.autocoder_1401.specs.Assembly.{assembly_in, with_listing};
 ghost use Rattle.autocoder_1401.specs.Languages.{AgreesWithPlain};
 
-use autocoder_faults::FaultlessLines;
+use autocoder_diagnostics::FaultlessLines;
 use autocoder_image::{PackedImage, pack_image};
 use autocoder_placing::place_all;
 use autocoder_statements::Language;

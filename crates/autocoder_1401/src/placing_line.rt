@@ -5,11 +5,11 @@ ghost use Rattle.autocoder_symbols.specs.Fault.{IsMemory};
 ghost use Rattle.autocoder_symbols.specs.Reading.{lines_in};
 ghost use Rattle.autocoder_symbols.specs.Symbols.{sites_of};
 ghost use Rattle.autocoder_symbols.specs.View.{chains_view};
-ghost use Rattle.autocoder_faults.specs.FirstFault.{first_fault};
+ghost use Rattle.autocoder_diagnostics.specs.FirstFault.{first_fault};
 ghost use Rattle.autocoder_listing.specs.Listing.{characters_text};
 ghost use Rattle.autocoder_listing.specs.Rows.{line_of, rows_of, IsLastAt};
 
-use autocoder_faults::FaultlessLines;
+use autocoder_diagnostics::FaultlessLines;
 use autocoder_listing::last_placing;
 use autocoder_placing::place_all;
 use autocoder_statements::Language;

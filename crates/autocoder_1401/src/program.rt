@@ -18,7 +18,7 @@ ghost use Rattle.autocoder_1401.specs.Assembly.{assembly_in, with_listing};
 ghost use Rattle.autocoder_1401.specs.Languages.{AgreesWithPlain};
 ghost use Rattle.autocoder_1401.specs.declared.program.AssemblyProgram.{AssemblyProgram as Made};
 
-use autocoder_faults::FaultlessLines;
+use autocoder_diagnostics::FaultlessLines;
 use autocoder_image::{PackedImage, pack_image};
 use autocoder_listing::{Rows, Symbol, make_rows, make_symbols};
 use autocoder_placing::{Placing, place_all};

@@ -19,7 +19,7 @@ ghost use Rattle.autocoder_1401.specs.Assembly.{assembly_in, with_listing};
 ghost use Rattle.autocoder_1401.specs.Languages.{AgreesWithPlain};
 ghost use Rattle.autocoder_1401.specs.declared.tables.AssemblyTables.{AssemblyTables as Made};
 
-use autocoder_faults::FaultlessLines;
+use autocoder_diagnostics::FaultlessLines;
 use autocoder_image::make_image;
 use autocoder_listing::{ReadyListing, Tables, make_tables, ready_listing};
 use autocoder_placing::{Placing, place_all};

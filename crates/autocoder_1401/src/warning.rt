@@ -1,6 +1,6 @@
 //! What a source without a fault says and hardly means.
 ghost use Rattle.std.specs.Prelude.{◌≡◌, All, Contains, IfOk, IfErr};
-ghost use Rattle.machine_panel.specs.Features.{no_features};
+ghost use Rattle.machine_tables.specs.Features.{no_features};
 ghost use Rattle.autocoder_symbols.specs.Reading.{lines_in};
 ghost use Rattle.autocoder_symbols.specs.Fault.{IsMemory};
 ghost use Rattle.autocoder_warnings.specs.Warnings.{all_warnings, PlainIsCarriedOut};
@@ -10,7 +10,7 @@ use autocoder_statements::Language;
 use autocoder_symbols::AsmFault;
 use autocoder_warnings::source_warnings;
 pub use autocoder_warnings::{Warning, WarningKind, lost_warnings};
-use machine_panel::Features;
+use machine_tables::Features;
 use std::alloc::Global;
 
 /// The warnings of a source in this language, for core storage of this size on a machine with these features: in the

@@ -9,7 +9,7 @@ use Rattle.std.proofs.lemmas.List.{length-drop}
 use Rattle.std.proofs.lemmas.List.{length-take-le, take-append-drop, replicate-append-replicate}
 use Rattle.bcd_1401.specs.declared.cell.Cell.{Cell}
 use Rattle.core_1401.specs.Storage.{Storage, blank, blanks}
-use Rattle.machine_execution.specs.CarryOut.{deposited}
+use Rattle.cpu_1401.specs.CarryOut.{deposited}
 use Rattle.autocoder_deck.specs.Card.{cards_from, fitting, more_columns, most_marks, with_cards}
 use Rattle.autocoder_deck.specs.Contents.{card_places, first_from, first_taken, is_blank}
 use Rattle.autocoder_deck.specs.Deck.{AreBrought}

@@ -10,7 +10,7 @@ use Rattle.bcd_1401.specs.declared.cell.Cell.{Cell}
 use Rattle.bcd_1401.specs.Graphic.{graphics}
 use Rattle.core_1401.specs.Storage.{Storage, blank, cell_at, with_mark}
 use Rattle.devices_1401.specs.declared.card.Card.{Card}
-use Rattle.machine_operations.specs.declared.operation.Operation.TheVariants as op
+use Rattle.machine_tables.specs.declared.operation.Operation.TheVariants as op
 use Rattle.cpu_1401.specs.State.{State}
 use Rattle.autocoder_deck.proofs.AddressLemmas.{effective_is}
 use Rattle.autocoder_deck.proofs.LoaderCardLemmas.{loader_marks}

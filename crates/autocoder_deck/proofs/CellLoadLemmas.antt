@@ -16,8 +16,8 @@ use Rattle.core_1401.specs.Storage.{Storage, blank, blanks, cell_at}
 use Rattle.devices_1401.specs.declared.card.Card.{Card}
 use Rattle.fields_1401.specs.Load.{is_overwritten, loaded}
 use Rattle.fields_1401.specs.Move.{moved, source_of}
-use Rattle.machine_operations.specs.declared.operation.Operation.TheVariants as op
-use Rattle.machine_operations.specs.Operation.{operation_of}
+use Rattle.machine_tables.specs.declared.operation.Operation.TheVariants as op
+use Rattle.machine_tables.specs.Operation.{operation_of}
 use Rattle.cpu_1401.specs.State.{State}
 use Rattle.autocoder_deck.proofs.AddressLemmas.{effective_is}
 use Rattle.autocoder_deck.proofs.CellCardLemmas.{CardCode, card_chars, code_chars, columns, here}

@@ -15,7 +15,7 @@ use Rattle.fields_1401.specs.declared.done.Done.{Done}
 use Rattle.fields_1401.specs.Marks.{cleared, hundred_of}
 use Rattle.fields_1401.specs.Outcome.{below_by, registers_of}
 use Rattle.cpu_1401.specs.CardsAndPrinter.{with_chars_from, with_program_card}
-use Rattle.machine_operations.specs.declared.operation.Operation.TheVariants as op
+use Rattle.machine_tables.specs.declared.operation.Operation.TheVariants as op
 use Rattle.cpu_1401.specs.RegisterStep.{stored}
 use Rattle.cpu_1401.specs.State.{State, power_on}
 use Rattle.cpu_1401.specs.Stepped.{step_to}

@@ -12,7 +12,7 @@ use Rattle.core_1401.specs.Storage.{Storage, blank, blanks}
 use Rattle.devices_1401.specs.declared.card.Card.{Card}
 use Rattle.devices_1401.specs.Devices.{no_cards}
 use Rattle.fields_1401.specs.Marks.{cleared}
-use Rattle.machine_operations.specs.declared.operation.Operation.TheVariants as op
+use Rattle.machine_tables.specs.declared.operation.Operation.TheVariants as op
 use Rattle.cpu_1401.specs.Run.{plain_run_for}
 use Rattle.cpu_1401.specs.State.{State, power_on}
 use Rattle.cpu_1401.specs.Stepped.{step_to}

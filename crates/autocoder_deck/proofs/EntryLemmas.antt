@@ -3,8 +3,8 @@ use Rattle.std.proofs.Common.{◌≡◌, ◌<◌, ℕ, zero, suc, ◌-◌, ◌==
 use Rattle.std.specs.Prelude.{not, Result, Ok, Err}
 use Rattle.machine_tapes.specs.declared.taped_machine.TapedMachine.{TapedMachine}
 use Rattle.job_runner.specs.Unattended.{unattended}
-use Rattle.machine_panel.specs.declared.stop.Stop.{Stop}
-use Rattle.machine_panel.specs.declared.stop.Stop.TheVariants as stop
+use Rattle.machine_tables.specs.declared.stop.Stop.{Stop}
+use Rattle.machine_tables.specs.declared.stop.Stop.TheVariants as stop
 use Rattle.autocoder_deck.specs.Entry.{AtEntry, cards_held, carried_after, is_at_entry, load_on, stopped, until_entry}
 use Rattle.autocoder_deck.specs.declared.entry.LoadFault.{LoadFault}
 

@@ -1,17 +1,30 @@
 pub mod AddressLemmas
+mod AssembledExamples
+pub mod AssembledLemmas
 pub mod BroughtLemmas
 pub mod CardTextLemmas
 pub mod CardsLemmas
 pub mod CellCardLemmas
 pub mod CellLoadLemmas
+pub mod CellsLemmas
 pub mod ClearCardLemmas
 pub mod DeckLemmas
 pub mod DeckTextLemmas
 pub mod EntryLemmas
 pub mod FittingLemmas
+pub mod LineLemmas
 pub mod LoadedCoreLemmas
 pub mod LoaderCardLemmas
 pub mod LoadsItselfLemmas
+pub mod MnemonicLemmas
+pub mod NumberLemmas
+pub mod OperandsLemmas
+pub mod PlacedLemmas
 pub mod PlacesLemmas
 pub mod ProgramLemmas
+pub mod ReadLemmas
+pub mod SpellingLemmas
 pub mod StepLemmas
+pub mod WordLemmas
+pub mod WrittenAddressLemmas
+mod WrittenAgainExamples

@@ -7,7 +7,7 @@ use Rattle.std.proofs.lemmas.List.{append_assoc, append-nil, drop-drop, drop-rep
 use Rattle.std.proofs.lemmas.List.{length-take-le}
 use Rattle.bcd_1401.specs.declared.cell.Cell.{Cell}
 use Rattle.core_1401.specs.Storage.{Storage, blank, blanks}
-use Rattle.machine_execution.specs.CarryOut.{deposited}
+use Rattle.cpu_1401.specs.CarryOut.{deposited}
 use Rattle.machine_image.specs.Image.{is_inside}
 use Rattle.autocoder_deck.specs.Contents.{is_blank, with_segments}
 use Rattle.autocoder_deck.specs.LoadedCore.{following, more_cells, one_more, segments_from}

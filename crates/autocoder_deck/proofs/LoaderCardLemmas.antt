@@ -8,7 +8,7 @@ use Rattle.core_1401.specs.Storage.{Storage, blank, blanks, cell_at}
 use Rattle.devices_1401.specs.declared.card.Card.{Card}
 use Rattle.fields_1401.specs.Load.{loaded}
 use Rattle.fields_1401.specs.Marks.{cleared}
-use Rattle.machine_operations.specs.declared.operation.Operation.TheVariants as op
+use Rattle.machine_tables.specs.declared.operation.Operation.TheVariants as op
 use Rattle.cpu_1401.specs.State.{State}
 use Rattle.autocoder_deck.proofs.ClearCardLemmas.{clear_chars, first_marks, with_first_card}
 use Rattle.autocoder_deck.proofs.PlacesLemmas.{cells_in_front, chars_over, with_marks}

@@ -17,10 +17,10 @@ use Rattle.fields_1401.specs.Marks.{hundred_of}
 use Rattle.fields_1401.specs.Move.{moved}
 use Rattle.fields_1401.specs.Outcome.{below_by}
 use Rattle.cpu_1401.specs.CardsAndPrinter.{with_chars_from}
-use Rattle.machine_operations.specs.declared.operation.Operation.{Operation}
-use Rattle.machine_operations.specs.declared.operation.Operation.TheVariants as op
+use Rattle.machine_tables.specs.declared.operation.Operation.{Operation}
+use Rattle.machine_tables.specs.declared.operation.Operation.TheVariants as op
 use Rattle.cpu_1401.specs.Instruction.{length_at}
-use Rattle.machine_operations.specs.Operation.{operation_of}
+use Rattle.machine_tables.specs.Operation.{operation_of}
 use Rattle.cpu_1401.specs.State.{State, power_on}
 use Rattle.cpu_1401.specs.Stepped.{step_to}
 use Rattle.autocoder_deck.proofs.PlacesLemmas.{with_marks}

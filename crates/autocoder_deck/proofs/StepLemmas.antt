@@ -22,19 +22,19 @@ use Rattle.cpu_1401.specs.CardsAndPrinter.{read_area, unless_hindered, with_char
 use Rattle.cpu_1401.specs.declared.condition.Condition.{Condition}
 use Rattle.cpu_1401.specs.declared.condition.Condition.TheVariants.{Unequal}
 use Rattle.cpu_1401.specs.declared.instruction.Instruction.{Instruction}
-use Rattle.machine_operations.specs.declared.operation.Operation.{Operation}
-use Rattle.machine_operations.specs.declared.operation.Operation.TheVariants as op
-use Rattle.machine_panel.specs.declared.stop.Stop.TheVariants as stop
+use Rattle.machine_tables.specs.declared.operation.Operation.{Operation}
+use Rattle.machine_tables.specs.declared.operation.Operation.TheVariants as op
+use Rattle.machine_tables.specs.declared.stop.Stop.TheVariants as stop
 use Rattle.cpu_1401.specs.FieldStep.{after_clear, after_comparison, after_field}
 use Rattle.cpu_1401.specs.Instruction.{begins_at, instruction_of, length_at}
-use Rattle.machine_operations.specs.Operation.{form_of, has_length, is_unfitted_length, operation_of}
+use Rattle.machine_tables.specs.Operation.{form_of, has_length, is_unfitted_length, operation_of}
 use Rattle.cpu_1401.specs.RegisterStep.{stored}
 use Rattle.cpu_1401.specs.FittingLaw.{FittingLaw}
 use Rattle.cpu_1401.specs.Run.{one_more, plain_run_for, run_on}
 use Rattle.cpu_1401.specs.State.{State, power_on}
 use Rattle.cpu_1401.specs.Step.{check_length, check_operation, perform, step}
 use Rattle.cpu_1401.specs.Stepped.{Stepped, step_to, stopped}
-use Rattle.machine_panel.specs.Features.{no_features}
+use Rattle.machine_tables.specs.Features.{no_features}
 use Rattle.autocoder_deck.specs.Loading.{Leads, all_carried_out}
 
 -- the same of the steps of a machine without features

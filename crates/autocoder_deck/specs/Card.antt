@@ -7,7 +7,7 @@ use Rattle.bcd_1401.specs.declared.cell.Cell.{Cell}
 use Rattle.bcd_1401.specs.Graphic.{graphics}
 use Rattle.core_1401.specs.Address.{spelling_of}
 use Rattle.core_1401.specs.Storage.{Storage}
-use Rattle.machine_execution.specs.CarryOut.{deposited}
+use Rattle.cpu_1401.specs.CarryOut.{deposited}
 use Rattle.autocoder_deck.specs.Contents.{is_blank}
 
 -- the graphic of a cell's character

@@ -3,7 +3,7 @@ use Rattle.std.specs.Prelude.{ℕ, ◌+◌, ◌==◌, Bool, not, ◌&&◌, if◌
 use Rattle.std.specs.Prelude.{Option, None, Some}
 use Rattle.bcd_1401.specs.declared.cell.Cell.{Cell}
 use Rattle.core_1401.specs.Storage.{Storage, blanks}
-use Rattle.machine_execution.specs.CarryOut.{deposited}
+use Rattle.cpu_1401.specs.CarryOut.{deposited}
 use Rattle.machine_image.specs.declared.image.Image.{Image}
 use Rattle.machine_image.specs.declared.image.Segment.{Segment}
 

@@ -6,8 +6,8 @@ use Rattle.cpu_1401.specs.State.{State}
 use Rattle.machine_tapes.specs.TapedStep.{without_reels}
 use Rattle.machine_tapes.specs.declared.taped_machine.TapedMachine.{TapedMachine}
 use Rattle.job_runner.specs.Unattended.{taped_load, unattended}
-use Rattle.machine_panel.specs.declared.stop.Stop.{Stop}
-use Rattle.machine_panel.specs.declared.stop.Stop.TheVariants as stop
+use Rattle.machine_tables.specs.declared.stop.Stop.{Stop}
+use Rattle.machine_tables.specs.declared.stop.Stop.TheVariants as stop
 use Rattle.autocoder_deck.specs.Contents.{card_places}
 use Rattle.autocoder_deck.specs.declared.entry.LoadFault.{LoadFault}
 use Rattle.autocoder_deck.specs.declared.entry.LoadFault.TheVariants as fault

@@ -1,6 +1,11 @@
+pub mod Assembled
 pub mod Card
 pub mod Contents
 pub mod Deck
 pub mod Entry
+pub mod ImageListing
 pub mod LoadedCore
 pub mod Loading
+pub mod Stretches
+pub mod Writing
+pub mod WrittenAgain

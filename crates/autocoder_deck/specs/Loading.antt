@@ -2,7 +2,7 @@
 use Rattle.std.specs.Prelude.{◌≡◌, ℕ, List, ◌++◌, Ok}
 use Rattle.core_1401.specs.Storage.{Storage}
 use Rattle.cpu_1401.specs.CardsAndPrinter.{load}
-use Rattle.machine_panel.specs.declared.stop.Stop.TheVariants as stop
+use Rattle.machine_tables.specs.declared.stop.Stop.TheVariants as stop
 use Rattle.cpu_1401.specs.Run.{Finished, run_for}
 use Rattle.cpu_1401.specs.State.{State, power_on}
 use Rattle.devices_1401.specs.declared.card.Card.{Card}

@@ -4,7 +4,7 @@ ghost use Rattle.std.specs.List.{list_all};
 ghost use Rattle.core_1401.specs.Address.{addresses};
 ghost use Rattle.core_1401.specs.Storage.{least_core_size};
 ghost use Rattle.machine_image.specs.Image.{IsInCore, is_inside};
-ghost use Rattle.machine_execution.specs.CarryOut.{deposited};
+ghost use Rattle.cpu_1401.specs.CarryOut.{deposited};
 ghost use Rattle.autocoder_deck.specs.Contents.{card_places, first_from, is_blank, storage_of, with_segments};
 
 use bcd_1401::Cell;

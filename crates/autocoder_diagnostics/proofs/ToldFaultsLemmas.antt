@@ -23,12 +23,12 @@ use Rattle.autocoder_diagnostics.specs.ToldFaults.{IsFaultThere}
 use Rattle.autocoder_diagnostics.specs.ToldFaults.{IsThere}
 use Rattle.autocoder_diagnostics.specs.OwnFault.{before_next, is_own, told, nothing_before, own_bad_operation}
 use Rattle.autocoder_diagnostics.specs.OwnFault.{own_undefined}
-use Rattle.autocoder_faults.specs.FirstFault.{place_beyond, place_at, has_fault, scanned, lowest, or_beyond, first_of}
-use Rattle.autocoder_faults.specs.FirstFault.{first_fault_from, first_fault, up_to_end_has, bad_operation, undefined}
+use Rattle.autocoder_diagnostics.specs.FirstFault.{place_beyond, place_at, has_fault, scanned, lowest, or_beyond, first_of}
+use Rattle.autocoder_diagnostics.specs.FirstFault.{first_fault_from, first_fault, up_to_end_has, bad_operation, undefined}
 use Rattle.autocoder_diagnostics.specs.declared.own_fault.Before.{Before}
-use Rattle.autocoder_faults.specs.declared.first_fault.LineContext.{LineContext}
-use Rattle.autocoder_faults.proofs.FirstFaultLemmas.{next_place_is}
-use Rattle.autocoder_faults.proofs.LowestLemmas.{found}
+use Rattle.autocoder_diagnostics.specs.declared.first_fault.LineContext.{LineContext}
+use Rattle.autocoder_diagnostics.proofs.FirstFaultLemmas.{next_place_is}
+use Rattle.autocoder_diagnostics.proofs.LowestLemmas.{found}
 
 -- of one line, and of those after it
 first_of_two : (number : ℕ) (told low : Option AsmKind) (rest : List AsmFault) (beyond : Option AsmFault) → told ≡ low

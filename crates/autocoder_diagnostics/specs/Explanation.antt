@@ -38,7 +38,7 @@ use Rattle.autocoder_symbols.specs.declared.known.Known.{Known}
 use Rattle.autocoder_symbols.specs.declared.known.Known.TheVariants as known
 use Rattle.autocoder_symbols.specs.declared.symbols.Declaration.{Declaration}
 use Rattle.autocoder_diagnostics.specs.ToldFaults.{told_end}
-use Rattle.autocoder_faults.specs.FirstFault.{is_long, is_undefined, symbol_in, double_label, double_area}
+use Rattle.autocoder_diagnostics.specs.FirstFault.{is_long, is_undefined, symbol_in, double_label, double_area}
 use Rattle.autocoder_diagnostics.specs.OwnFault.{before_next, nothing_before, told}
 use Rattle.autocoder_diagnostics.specs.declared.explanation.Cause.{Cause}
 use Rattle.autocoder_diagnostics.specs.declared.explanation.Cause.TheVariants as causes

@@ -1,5 +1,6 @@
 pub mod Declarations
 pub mod Explanation
+pub mod FirstFault
 pub mod Noted
 pub mod Notes
 pub mod OwnFault

@@ -23,7 +23,7 @@ use Rattle.autocoder_statements.specs.declared.operands.OperandField.{OperandFie
 use Rattle.autocoder_statements.specs.declared.operands.OperandField.TheVariants as fields
 use Rattle.autocoder_statements.specs.declared.statement.Chain.{Chain}
 use Rattle.autocoder_symbols.specs.Symbols.{has_label}
-use Rattle.autocoder_faults.specs.FirstFault.{symbol_in, symbol_in_base}
+use Rattle.autocoder_diagnostics.specs.FirstFault.{symbol_in, symbol_in_base}
 
 -- one of the operands is counted from a label
 abbrev pub names : Label → Operands → Bool

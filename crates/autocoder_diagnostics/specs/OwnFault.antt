@@ -17,9 +17,9 @@ use Rattle.autocoder_symbols.specs.Known.{Declared}
 use Rattle.autocoder_symbols.specs.Symbols.{Sites}
 use Rattle.autocoder_symbols.specs.declared.fault.AsmKind.{AsmKind}
 use Rattle.autocoder_symbols.specs.declared.fault.AsmKind.TheVariants as kinds
-use Rattle.autocoder_faults.specs.FirstFault.{first_place, place_beyond, is_field, bad_label, is_double, bad_operation}
-use Rattle.autocoder_faults.specs.FirstFault.{is_undefined, undefined, bad_operands, up_to_end_has, has_fault, first_of}
-use Rattle.autocoder_faults.specs.FirstFault.{scanned, lowest}
+use Rattle.autocoder_diagnostics.specs.FirstFault.{first_place, place_beyond, is_field, bad_label, is_double, bad_operation}
+use Rattle.autocoder_diagnostics.specs.FirstFault.{is_undefined, undefined, bad_operands, up_to_end_has, has_fault, first_of}
+use Rattle.autocoder_diagnostics.specs.FirstFault.{scanned, lowest}
 use Rattle.autocoder_diagnostics.specs.declared.own_fault.Before.{Before}
 
 -- before the first line of a source

@@ -10,7 +10,7 @@ use Rattle.autocoder_symbols.specs.Symbols.{Sites, sites_anywhere}
 use Rattle.autocoder_symbols.specs.declared.fault.AsmFault.{AsmFault}
 use Rattle.autocoder_symbols.specs.declared.fault.AsmKind.{AsmKind}
 use Rattle.autocoder_symbols.specs.declared.fault.AsmKind.TheVariants as kinds
-use Rattle.autocoder_faults.specs.FirstFault.{place_at, has_fault}
+use Rattle.autocoder_diagnostics.specs.FirstFault.{place_at, has_fault}
 use Rattle.autocoder_diagnostics.specs.OwnFault.{nothing_before, before_next, told}
 use Rattle.autocoder_diagnostics.specs.declared.own_fault.Before.{Before}
 

@@ -4,10 +4,10 @@ ghost use Rattle.autocoder_symbols.specs.Fault.{IsMemory};
 ghost use Rattle.autocoder_symbols.specs.Known.{declared_at};
 ghost use Rattle.autocoder_symbols.specs.Symbols.{sites_anywhere};
 ghost use Rattle.autocoder_symbols.specs.View.{symbols_view};
-ghost use Rattle.autocoder_faults.specs.FirstFault.{is_undefined};
+ghost use Rattle.autocoder_diagnostics.specs.FirstFault.{is_undefined};
 ghost use Rattle.autocoder_diagnostics.specs.Declarations.{anywhere_of};
 
-use autocoder_faults::first_fault::symbol_in;
+use crate::first_fault::symbol_in;
 use autocoder_statements::{Label, Language, OperandField};
 use autocoder_symbols::{
     AsmFault, Declaration, Lines, Sites, SourceHashing, Symbols, declared, sites_beyond_end,

@@ -12,7 +12,7 @@ ghost use Rattle.autocoder_diagnostics.specs.Notes.{is_addressed, is_signed_in, 
 ghost use Rattle.autocoder_diagnostics.specs.Notes.{is_number_of, is_signed, known_in};
 ghost use Rattle.autocoder_diagnostics.specs.Noted.{known_of};
 
-use autocoder_faults::symbol_in;
+use crate::symbol_in;
 use autocoder_statements::{
     Chain, Constant, Contents, Description, Instruction, Label, LabelField, Line, Literal, Operand,
     OperandField, Operands, Statement,

@@ -1,15 +1,13 @@
 //! The faults of a line that don't only follow from one told before.
 ghost use Rattle.std.specs.Prelude.{◌≡◌, ◌<◌, ◌^◌, ◌&&◌, ◌||◌, not, is_none};
 ghost use Rattle.autocoder_symbols.specs.View.{symbols_view};
-ghost use Rattle.autocoder_faults.specs.FirstFault.{is_field, undefined_in};
+ghost use Rattle.autocoder_diagnostics.specs.FirstFault.{is_field, undefined_in};
 ghost use Rattle.autocoder_diagnostics.specs.Declarations.{anywhere_of};
 ghost use Rattle.autocoder_diagnostics.specs.OwnFault.{loses_areas, before_next, is_late, undefined_anywhere, own_in};
 ghost use Rattle.autocoder_diagnostics.specs.OwnFault.{told};
 
 use crate::declarations::Declarations;
-use autocoder_faults::first_fault::{
-    LineContext, has_double, has_undefined, is_undefined, lowest_kind,
-};
+use crate::first_fault::{LineContext, has_double, has_undefined, is_undefined, lowest_kind};
 use autocoder_statements::{
     Addressing, AreaRole, DeclaredAreas, Description, Line, LineCheck, OperandField, Statement,
 };

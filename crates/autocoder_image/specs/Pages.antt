@@ -1,6 +1,6 @@
 -- An image as it is written, a page after the other (own).
 use Rattle.std.specs.Prelude.{◌≡◌, ◌≤◌, ℕ, List, [], vec_capacity}
-use Rattle.bytes_pages.specs.Page.{most_in_page}
+use Rattle.bytes_streams.specs.Page.{most_in_page}
 use Rattle.machine_image.specs.ImageText.{most_in_line}
 use Rattle.autocoder_image.specs.declared.image_pages.ImagePages.{ImagePages}
 

@@ -1,14 +1,13 @@
 //! The lines of an image's text, put into a page that is written when it is full.
 ghost use Rattle.std.specs.Prelude.{◌≡◌, ◌++◌, ◌≤◌, true, vec_capacity, IsTrue, IfOk, OnOk, OnErr};
 ghost use Rattle.std.specs.Io.KnownBytes.{Appends};
-ghost use Rattle.bytes_pages.specs.Page.{Sent};
+ghost use Rattle.bytes_streams.specs.Page.{Sent};
 ghost use Rattle.bytes_streams.specs.Sink.{AppendsPart};
 ghost use Rattle.machine_image.specs.declared.version.Version.TheVariants.{Two};
 ghost use Rattle.machine_image.specs.ImageText.{header_text, segment_text, end_text, line_of, most_in_line};
 ghost use Rattle.autocoder_image.specs.Pages.{HasRoom, IsEmpty, unwritten};
 
-use bytes_pages::{PAGE, put_through};
-use bytes_streams::{Failed, Sink, put_all};
+use bytes_streams::{Failed, PAGE, Sink, put_all, put_through};
 use machine_image::{MOST_IN_LINE, Segment, Version, put_end, put_header, put_segment};
 use std::alloc::{AllocError, Global};
 

@@ -4,7 +4,7 @@ ghost use Rattle.std.specs.Io.KnownBytes.{Appends};
 ghost use Rattle.bytes_streams.specs.Sink.{AppendsPart};
 ghost use Rattle.machine_image.specs.declared.version.Version.TheVariants.{Two};
 ghost use Rattle.machine_image.specs.ImageText.{segments_text};
-ghost use Rattle.bytes_pages.specs.Page.{Sent};
+ghost use Rattle.bytes_streams.specs.Page.{Sent};
 ghost use Rattle.autocoder_image.specs.Pages.{unwritten, HasRoom};
 ghost use Rattle.autocoder_image.specs.ReadyImage.{text_of, HasPages};
 

@@ -1,6 +1,6 @@
 -- The lines of literals and a line of the source, put after a page part by part.
 use Rattle.std.proofs.Common.{◌≡◌, ℕ, ◌+◌, List, ◌∷◌, ◌++◌, Option, sym, ap, ◌∙◌, subst, append_assoc}
-use Rattle.bytes_pages.proofs.SentLemmas.{part_before}
+use Rattle.bytes_streams.proofs.SentLemmas.{part_before}
 use Rattle.bytes_streams.specs.Sink.{AppendsPart}
 use Rattle.autocoder_listing.specs.Heads.{head_at, heads_after, literals_after, written, written_for}
 use Rattle.autocoder_listing.specs.declared.heads.Head.{Head}

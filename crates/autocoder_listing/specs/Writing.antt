@@ -1,6 +1,6 @@
 -- A listing that is ready to be written, a page after the other (own).
 use Rattle.std.specs.Prelude.{◌≡◌, ◌<◌, ◌≤◌, ◌^◌, ℕ, List, [], length, vec_capacity}
-use Rattle.bytes_pages.specs.Page.{most_in_page}
+use Rattle.bytes_streams.specs.Page.{most_in_page}
 use Rattle.autocoder_statements.specs.SourceLine.{lines_of}
 use Rattle.autocoder_listing.specs.Heads.{written}
 use Rattle.autocoder_listing.specs.declared.writing.ReadyListing.{ReadyListing}

@@ -9,7 +9,7 @@ ghost use Rattle.autocoder_listing.specs.CrossReference.{number_if, uses_of, use
 ghost use Rattle.autocoder_listing.specs.View.{lines_naming};
 
 use crate::symbol_table::{LINE_DIGITS, Symbol};
-use autocoder_faults::symbol_in;
+use autocoder_diagnostics::symbol_in;
 use autocoder_statements::{Label, Line, Statement};
 use autocoder_symbols::{AsmFault, Lines, SourceHashing};
 use indexmap::IndexMap;

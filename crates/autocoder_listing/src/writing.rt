@@ -2,7 +2,7 @@
 ghost use Rattle.std.specs.Prelude.{◌≡◌, ◌+◌, ◌++◌, ◌<◌, ◌≤◌, ◌^◌, ℕ, Some, [], length, codes, vec_capacity, IsTrue};
 ghost use Rattle.std.specs.Prelude.{IfOk, IfErr, OnOk, OnErr};
 ghost use Rattle.std.specs.Io.KnownBytes.{Appends};
-ghost use Rattle.bytes_pages.specs.Page.{most_in_page, Sent};
+ghost use Rattle.bytes_streams.specs.Page.{most_in_page, Sent};
 ghost use Rattle.bytes_streams.specs.Sink.{AppendsPart};
 ghost use Rattle.autocoder_statements.specs.SourceLine.{lines_of};
 ghost use Rattle.autocoder_symbols.specs.Fault.{IsMemory};
@@ -19,8 +19,7 @@ use crate::printing::{cut_last_blanks, len_without_last_blanks, put_address, put
 use autocoder_placing::Placing;
 use autocoder_statements::split_line;
 use autocoder_symbols::{AsmFault, Lines};
-use bytes_pages::{PAGE, put_through};
-use bytes_streams::{Failed, Sink, put_all};
+use bytes_streams::{Failed, PAGE, Sink, put_all, put_through};
 use std::alloc::Global;
 
 /// The most bytes that precede the line of the source on its line of the listing: a number and an address of up to 20

@@ -2,7 +2,7 @@
 use Rattle.std.specs.Prelude.{ℕ, ◌+◌, Bool, false, not, ◌&&◌, ◌||◌, nat_lt, if◌then◌else◌, List, [], ◌∷◌, length, ℤ}
 use Rattle.std.specs.Prelude.{pos, negsuc, ◌+ℤ◌, int_le, int_lt, Option, Some, None, is_some}
 use Rattle.std.specs.Option.{option_map_or}
-use Rattle.machine_operations.specs.Operation.{is_fitted}
+use Rattle.machine_tables.specs.Operation.{is_fitted}
 use Rattle.autocoder_statements.specs.Description.{describe}
 use Rattle.autocoder_statements.specs.declared.address.Address.{Address}
 use Rattle.autocoder_statements.specs.declared.literal.Literal.{Literal}

@@ -9,7 +9,7 @@
 //! ```
 //!
 //! Each statement is placed, valued and made into cells by its row of the table of kinds of statement,
-//! `autocoder_statements::Description`. Faults of other kinds are found before: see `autocoder_faults`.
+//! `autocoder_statements::Description`. Faults of other kinds are found before: see `autocoder_diagnostics`.
 #![tactic(auto)]
 
 pub mod characters; // the characters of constants

@@ -14,7 +14,7 @@ use autocoder_statements::{
     Address, Addressing, Contents, Description, Literal, Next, Operand, OperandField, Operands,
 };
 use autocoder_symbols::{AsmFault, checked_sum};
-use machine_operations::is_fitted;
+use machine_tables::is_fitted;
 
 /// Whether a value is the address of a place of core storage of this size.
 fn is_in_core(size: u16, value: i64) -> bool

@@ -2,8 +2,8 @@
 use Rattle.std.specs.Prelude.{ℕ, List, [], ◌∷◌, Option, None, Some, find, codes}
 use Rattle.std.specs.Option.{option_map}
 use Rattle.std.specs.Str.{bytes_eq, byte}
-use Rattle.machine_operations.specs.Operation.{mnemonic_of}
-use Rattle.machine_operations.specs.declared.operation.Operation.TheVariants as op
+use Rattle.machine_tables.specs.Operation.{mnemonic_of}
+use Rattle.machine_tables.specs.declared.operation.Operation.TheVariants as op
 use Rattle.autocoder_statements.specs.declared.mnemonic.DCharacter.{DCharacter}
 use Rattle.autocoder_statements.specs.declared.mnemonic.DCharacter.TheVariants as d
 use Rattle.autocoder_statements.specs.declared.mnemonic.Instruction.{Instruction}

@@ -5,7 +5,7 @@ ghost use Rattle.autocoder_statements.specs.Mnemonic.{instructions, instruction_
 ghost use Rattle.autocoder_statements.specs.Mnemonic.{assembler_operations};
 ghost use Rattle.autocoder_statements.specs.Mnemonic.{assembler_operation_of, operation_of};
 
-use machine_operations::mnemonics::{
+use machine_tables::mnemonics::{
     ADD, BRANCH, BRANCH_CHANNEL_NINE, BRANCH_CHANNEL_TWELVE, BRANCH_EQUAL, BRANCH_HIGH,
     BRANCH_LAST_CARD, BRANCH_LOW, BRANCH_ON_CELL, BRANCH_ON_CHARACTER, BRANCH_ON_SWITCH,
     BRANCH_ON_WORD_MARK, BRANCH_OVERFLOW, BRANCH_UNEQUAL, CLEAR_STORAGE, CLEAR_WORD_MARK, COMPARE,

@@ -6,7 +6,7 @@ use crate::mnemonic::DCharacter::{self, Fixed};
 use crate::mnemonic::{Form, Named, row_of};
 use crate::operands::Operands;
 use crate::units::FirstOperand::{self, Address, Tape, Unit, UnitOrAddress};
-use machine_operations::mnemonics::{
+use machine_tables::mnemonics::{
     BRANCH, BRANCH_ON_BIT, BRANCH_ON_CELL, BRANCH_ON_CHARACTER, BRANCH_ON_WORD_MARK,
     CONTROL_CARRIAGE, CONTROL_UNIT, DIVIDE, HALT, LOAD, MODIFY_ADDRESS, MOVE,
     MOVE_AND_INSERT_ZEROS, MOVE_RECORD, MULTIPLY, NO_OPERATION, SELECT_STACKER, START_PUNCH_FEED,

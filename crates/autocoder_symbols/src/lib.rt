@@ -8,7 +8,7 @@
 //! symbols.known(label)                                        // from which line on its value is known
 //! ```
 //!
-//! The faults of the lines are found by `autocoder_faults`, and their statements are placed by `autocoder_placing`.
+//! The faults of the lines are found by `autocoder_diagnostics`, and their statements are placed by `autocoder_placing`.
 #![tactic(auto)]
 
 pub mod fault; // the kinds of fault

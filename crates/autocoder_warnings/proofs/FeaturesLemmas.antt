@@ -5,15 +5,15 @@ use Rattle.std.proofs.lemmas.Bool.{and_parts, and_right, eqb-true, or_cases, tru
 use Rattle.std.specs.Prelude.{find, is_none}
 use Rattle.std.specs.List.{list_all, list_any}
 use Rattle.std.specs.Option.{option_map, option_map_or}
-use Rattle.machine_operations.specs.Fitted.{FittedRow, claims, fitted_lengths, fitted_rows, is_fitted_with, is_operation}
-use Rattle.machine_operations.specs.Operation.{has_length, is_fitted, meaning_of}
-use Rattle.machine_operations.specs.declared.fitted.Fitted.{Fitted}
-use Rattle.machine_operations.specs.declared.fitted.Fitted.TheVariants as fitted
-use Rattle.machine_operations.specs.declared.operation.Operation.{Operation}
-use Rattle.machine_panel.specs.Features.{has_feature, no_features}
-use Rattle.machine_panel.specs.declared.features.Feature.{Feature}
-use Rattle.machine_panel.specs.declared.features.Feature.TheVariants as feature
-use Rattle.machine_panel.specs.declared.features.Features.{Features}
+use Rattle.machine_tables.specs.Fitted.{FittedRow, claims, fitted_lengths, fitted_rows, is_fitted_with, is_operation}
+use Rattle.machine_tables.specs.Operation.{has_length, is_fitted, meaning_of}
+use Rattle.machine_tables.specs.declared.fitted.Fitted.{Fitted}
+use Rattle.machine_tables.specs.declared.fitted.Fitted.TheVariants as fitted
+use Rattle.machine_tables.specs.declared.operation.Operation.{Operation}
+use Rattle.machine_tables.specs.Features.{has_feature, no_features}
+use Rattle.machine_tables.specs.declared.features.Feature.{Feature}
+use Rattle.machine_tables.specs.declared.features.Feature.TheVariants as feature
+use Rattle.machine_tables.specs.declared.features.Features.{Features}
 
 -- what is found has what each row has
 pub found_has : {X : Type 0} (test has : X → Bool) (rows : List X) (row : X) → list_all has rows ≡ true

@@ -8,9 +8,9 @@ use Rattle.std.specs.Prelude.{All, Contains, codes}
 use Rattle.std.specs.Option.{option_map, option_map_or}
 use Rattle.std.specs.Str.{byte}
 use Rattle.bcd_1401.specs.declared.cell.Cell.{Cell}
-use Rattle.machine_operations.specs.Fitted.{FittedRow, fitted_rows, is_fitted_with, is_for_tape}
-use Rattle.machine_panel.specs.Features.{no_features}
-use Rattle.machine_panel.specs.declared.features.Features.{Features}
+use Rattle.machine_tables.specs.Fitted.{FittedRow, fitted_rows, is_fitted_with, is_for_tape}
+use Rattle.machine_tables.specs.Features.{no_features}
+use Rattle.machine_tables.specs.declared.features.Features.{Features}
 use Rattle.autocoder_statements.specs.Description.{describe}
 use Rattle.autocoder_statements.specs.LoneAddress.{is_unit}
 use Rattle.autocoder_statements.specs.Operands.{count_of}

@@ -6,9 +6,9 @@ use Rattle.std.specs.Prelude.{find, is_some}
 use Rattle.std.specs.List.{list_all}
 use Rattle.std.specs.Option.{option_map, option_map_or}
 use Rattle.std.specs.Str.{bytes_eq}
-use Rattle.machine_operations.specs.Fitted.{is_fitted_with}
-use Rattle.machine_operations.specs.Operation.{is_fitted}
-use Rattle.machine_panel.specs.declared.features.Features.{Features}
+use Rattle.machine_tables.specs.Fitted.{is_fitted_with}
+use Rattle.machine_tables.specs.Operation.{is_fitted}
+use Rattle.machine_tables.specs.declared.features.Features.{Features}
 use Rattle.autocoder_statements.specs.Address.{address_of}
 use Rattle.autocoder_statements.specs.Constant.{constant_of}
 use Rattle.autocoder_statements.specs.Description.{describe}

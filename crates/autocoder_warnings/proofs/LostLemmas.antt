@@ -3,7 +3,7 @@ use Rattle.std.proofs.Common.{◌≡◌, ℕ, ◌+◌, Bool, true, false, not, �
 use Rattle.std.proofs.lemmas.List.Elements.{filter-append}
 use Rattle.std.specs.List.{filter}
 use Rattle.bcd_1401.specs.declared.cell.Cell.{Cell}
-use Rattle.machine_panel.specs.declared.features.Features.{Features}
+use Rattle.machine_tables.specs.declared.features.Features.{Features}
 use Rattle.autocoder_statements.specs.Description.{describe}
 use Rattle.autocoder_statements.specs.Statement.{well_formed}
 use Rattle.autocoder_statements.specs.declared.statement.Line.{Line}

@@ -5,7 +5,7 @@ use Rattle.std.specs.List.{list_all}
 use Rattle.std.proofs.lemmas.Bool.{and_parts, not-true, true≢false}
 use Rattle.std.proofs.lemmas.List.Elements.{All-append, All-cons, All-nil}
 use Rattle.bcd_1401.specs.declared.cell.Cell.{Cell}
-use Rattle.machine_panel.specs.declared.features.Features.{Features}
+use Rattle.machine_tables.specs.declared.features.Features.{Features}
 use Rattle.autocoder_statements.specs.Description.{describe}
 use Rattle.autocoder_statements.specs.Language.{are_good, is_sound, is_sound_statement}
 use Rattle.autocoder_statements.specs.SourceLine.{columns_in, columns_of, is_comment, lines_of}
@@ -17,9 +17,9 @@ use Rattle.autocoder_statements.specs.declared.language.Language.TheVariants.{Pl
 use Rattle.autocoder_statements.specs.declared.statement.Statement.{Statement}
 use Rattle.autocoder_symbols.specs.Reading.{lines_in}
 use Rattle.autocoder_symbols.specs.Known.{declared_at}
-use Rattle.autocoder_faults.specs.FirstFault.{first_place}
+use Rattle.autocoder_diagnostics.specs.FirstFault.{first_place}
 use Rattle.autocoder_diagnostics.specs.Notes.{Known}
-use Rattle.autocoder_faults.proofs.SoundLemmas.{all_sound, lines_alike}
+use Rattle.autocoder_diagnostics.proofs.SoundLemmas.{all_sound, lines_alike}
 use Rattle.autocoder_placing.specs.Filling.{addresses_of, filled}
 use Rattle.autocoder_warnings.specs.FittedNotes.{known_with}
 use Rattle.autocoder_warnings.specs.Loss.{losses_of}

@@ -2,9 +2,9 @@
 use Rattle.std.proofs.Common.{◌≡◌, ℕ, List, [], ◌∷◌, ◌++◌, map, Option, None, Some, refl}
 use Rattle.std.specs.Prelude.{codes}
 use Rattle.bcd_1401.specs.Graphic.{graphics}
-use Rattle.machine_panel.specs.Features.{no_features, with_feature}
-use Rattle.machine_panel.specs.declared.features.Feature.TheVariants.{BitTest, Lengths, Multiply}
-use Rattle.machine_panel.specs.declared.features.Features.{Features}
+use Rattle.machine_tables.specs.Features.{no_features, with_feature}
+use Rattle.machine_tables.specs.declared.features.Feature.TheVariants.{BitTest, Lengths, Multiply}
+use Rattle.machine_tables.specs.declared.features.Features.{Features}
 use Rattle.autocoder_statements.specs.Heading.{system_cards}
 use Rattle.autocoder_statements.specs.Language.{wider_line}
 use Rattle.autocoder_statements.specs.Mnemonic.{instructions, assembler_operations}

@@ -4,7 +4,7 @@ use Rattle.std.specs.Prelude.{Bool, false, ◌==◌, ◌&&◌, ◌||◌, if◌th
 use Rattle.std.specs.List.{list_any}
 use Rattle.std.specs.Option.{option_map_or}
 use Rattle.std.specs.Str.{byte}
-use Rattle.machine_panel.specs.declared.features.Features.{Features}
+use Rattle.machine_tables.specs.declared.features.Features.{Features}
 use Rattle.autocoder_statements.specs.Description.{describe}
 use Rattle.autocoder_statements.specs.Operands.{count_of}
 use Rattle.autocoder_statements.specs.declared.description.Contents.{Contents}
@@ -15,7 +15,7 @@ use Rattle.autocoder_statements.specs.declared.operands.Operands.{Operands}
 use Rattle.autocoder_statements.specs.declared.statement.Line.{Line}
 use Rattle.autocoder_statements.specs.declared.statement.Statement.{Statement}
 use Rattle.autocoder_symbols.specs.Symbols.{has_label}
-use Rattle.autocoder_faults.specs.FirstFault.{symbol_in}
+use Rattle.autocoder_diagnostics.specs.FirstFault.{symbol_in}
 use Rattle.autocoder_diagnostics.specs.Notes.{Known, has_operation, known_in}
 
 -- a division by zero sets the indicator of an overflow

@@ -6,10 +6,10 @@ use Rattle.std.specs.Option.{option_map_or, option_and_then}
 use Rattle.std.specs.Ordering.{int_eq}
 use Rattle.std.specs.Str.{byte}
 use Rattle.bcd_1401.specs.declared.cell.Cell.{Cell}
-use Rattle.machine_operations.specs.Fitted.{fitted_in, is_fitted_with, is_for_tape}
-use Rattle.machine_operations.specs.Operation.{longest_at}
-use Rattle.machine_operations.specs.TapeUnit.{unit_named}
-use Rattle.machine_panel.specs.declared.features.Features.{Features}
+use Rattle.machine_tables.specs.Fitted.{fitted_in, is_fitted_with, is_for_tape}
+use Rattle.machine_tables.specs.Operation.{longest_at}
+use Rattle.machine_tables.specs.TapeUnit.{unit_named}
+use Rattle.machine_tables.specs.declared.features.Features.{Features}
 use Rattle.autocoder_statements.specs.Constant.{bytes_of, is_at_sign}
 use Rattle.autocoder_statements.specs.Description.{describe}
 use Rattle.autocoder_statements.specs.Language.{cuts_no_text}
@@ -40,7 +40,7 @@ use Rattle.autocoder_statements.specs.declared.statement.Chain.{Chain}
 use Rattle.autocoder_statements.specs.declared.statement.Line.{Line}
 use Rattle.autocoder_statements.specs.declared.statement.Statement.{Statement}
 use Rattle.autocoder_symbols.specs.Reading.{lines_in}
-use Rattle.autocoder_faults.specs.FirstFault.{first_fault, symbol_in_base}
+use Rattle.autocoder_diagnostics.specs.FirstFault.{first_fault, symbol_in_base}
 use Rattle.autocoder_diagnostics.specs.Notes.{Known}
 use Rattle.autocoder_placing.specs.Filling.{filled, addresses_of}
 use Rattle.autocoder_placing.specs.Placement.{instruction_length, chain_length}

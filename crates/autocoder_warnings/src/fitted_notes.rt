@@ -11,11 +11,10 @@ ghost use Rattle.autocoder_diagnostics.specs.Notes.{has_operation};
 ghost use Rattle.autocoder_warnings.specs.FittedNotes.{stored_by, stored_symbol, is_stored_in, known_with};
 ghost use Rattle.autocoder_warnings.specs.FittedNotes.{with_divisions, with_stores};
 
-use autocoder_diagnostics::{LabelSet, Notes};
-use autocoder_faults::symbol_in;
+use autocoder_diagnostics::{LabelSet, Notes, symbol_in};
 use autocoder_statements::{Contents, Instruction, Label, Line, OperandField, Operands, Statement};
 use autocoder_symbols::{AsmFault, Lines, SourceHashing};
-use machine_panel::Features;
+use machine_tables::Features;
 use std::alloc::Global;
 
 /// Whether a line divides, or is a chain of divisions.

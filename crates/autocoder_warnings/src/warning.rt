@@ -2,9 +2,9 @@
 ghost use Rattle.std.specs.Prelude.{◌≡◌, ◌+◌, ◌<◌, ◌^◌, ◌++◌, [], length, replicate, take, All, Contains, IfOk, IfErr};
 ghost use Rattle.std.specs.Prelude.{OnOk, drop, ℕ};
 ghost use Rattle.std.specs.List.{filter};
-ghost use Rattle.machine_operations.specs.Operation.{longest_at};
-ghost use Rattle.machine_panel.specs.Features.{no_features};
-ghost use Rattle.machine_panel.specs.declared.features.Features.{Features};
+ghost use Rattle.machine_tables.specs.Operation.{longest_at};
+ghost use Rattle.machine_tables.specs.Features.{no_features};
+ghost use Rattle.machine_tables.specs.declared.features.Features.{Features};
 ghost use Rattle.autocoder_statements.specs.LoneAddress.{is_unit};
 ghost use Rattle.autocoder_statements.specs.SourceLine.{lines_of};
 ghost use Rattle.autocoder_statements.specs.Statement.{well_formed};
@@ -46,8 +46,7 @@ use autocoder_statements::{
 };
 use autocoder_symbols::{AsmFault, Chains, Lines, SourceHashing, declared, read_lines};
 use bcd_1401::{Cell, Char};
-use machine_operations::{fitted_in, is_fitted_with, longest_at, tape_unit_named};
-use machine_panel::Features;
+use machine_tables::{Features, fitted_in, is_fitted_with, longest_at, tape_unit_named};
 use std::alloc::Global;
 
 /// What a line says and hardly means.

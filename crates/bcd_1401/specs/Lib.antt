@@ -3,3 +3,5 @@ pub mod Character
 pub mod Collation
 pub mod Digits
 pub mod Graphic
+pub mod Graphics
+pub mod Suggestion

@@ -8,16 +8,31 @@
 //! ```
 //!
 //! After a failed read or write there is no other one.
+//!
+//! A text of any length, written a page after the other through one page that is reserved before.
+//!
+//! ```text
+//! let mut page = Vec::with_capacity(alloc, PAGE)?;
+//! put_through(&mut page, b"0001 00333", &mut writer)?;    // in the page, which is written first if it is full
+//! put_all(&mut writer, page.as_slice())?;                 // the last page
+//! ```
+//!
+//! Nothing here asks for memory.
 #![tactic(auto)]
 
+// a source, a sink, and what has failed
 pub mod failure;
 pub mod from_reader;
 pub mod sink;
 pub mod source;
 pub mod to_writer;
 
+// a page of a text that goes to a sink
+pub mod page;
+
 pub use failure::Failed;
 pub use from_reader::FromReader;
+pub use page::{PAGE, make_room, put_through};
 pub use sink::{Sink, put_all};
 pub use source::Source;
 pub use to_writer::ToWriter;

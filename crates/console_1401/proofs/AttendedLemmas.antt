@@ -14,16 +14,16 @@ use Rattle.room_alone.specs.Journal.{most_entries}
 use Rattle.room_alone.specs.Replay.{pair}
 use Rattle.room_1401.specs.Seen.{SeatView}
 use Rattle.console_text.specs.declared.line.Line.TheVariants as line
-use Rattle.console_lines.specs.declared.reply.Reply.{Reply}
-use Rattle.console_lines.specs.declared.reply.Reply.TheVariants as reply
-use Rattle.console_lines.specs.declared.session_end.SessionEnd.{SessionEnd}
-use Rattle.console_lines.specs.declared.session_end.SessionEnd.TheVariants as end
-use Rattle.console_lines.specs.Answering.{AnsweredAll}
+use Rattle.room_alone.specs.declared.reply.Reply.{Reply}
+use Rattle.room_alone.specs.declared.reply.Reply.TheVariants as reply
+use Rattle.room_alone.specs.declared.session_end.SessionEnd.{SessionEnd}
+use Rattle.room_alone.specs.declared.session_end.SessionEnd.TheVariants as end
+use Rattle.room_alone.specs.Answering.{AnsweredAll}
 use Rattle.console_1401.specs.Attended.{Replied, Stand, Between, LineReplied, AllReplied, Attended, carried_in}
 use Rattle.console_1401.specs.Attended.{command_in, answer_in}
 use Rattle.console_text.specs.ConsoleLine.{Said}
-use Rattle.console_lines.specs.ReplyText.{bytes_of}
-use Rattle.console_lines.specs.Session.{HasEnded, SessionDid}
+use Rattle.room_alone.specs.ReplyText.{bytes_of}
+use Rattle.room_alone.specs.Session.{HasEnded, SessionDid}
 use Rattle.console_1401.specs.SeatTurns.{KeptResponds, SeatResponds, LineResponds}
 
 prefix_self : {A : Type 0} (xs : List A) → IsPrefix xs xs

@@ -5,11 +5,11 @@ use Rattle.std.proofs.lemmas.Bool.{and_parts}
 use Rattle.std.proofs.lemmas.List.{length-map}
 use Rattle.std.proofs.Math.Seq.{take-append_seam, take-append-add}
 use Rattle.std.specs.List.{list_all}
-use Rattle.machine_execution.specs.CarryOut.{carry_out}
+use Rattle.cpu_1401.specs.CarryOut.{carry_out}
 use Rattle.cpu_1401.specs.State.{State}
 use Rattle.machine_image.specs.declared.image.Segment.{Segment}
 use Rattle.machine_image.specs.Image.{is_inside}
-use Rattle.machine_loading.specs.Loading.{deposit_of}
+use Rattle.machine_image.specs.Loading.{deposit_of}
 use Rattle.room_alone.specs.declared.entry.Entry.{Entry}
 use Rattle.machine_commands.specs.declared.answer.Answer.TheVariants.{Done}
 use Rattle.machine_commands.specs.declared.command.Command.{Command}

@@ -9,8 +9,8 @@ use Rattle.room_alone.specs.Replay.{pair}
 use Rattle.room_1401.specs.Seen.{SeatView}
 use Rattle.console_text.specs.declared.line.Line.TheVariants as line
 use Rattle.console_text.specs.ConsoleLine.{Said}
-use Rattle.console_lines.specs.declared.reply.Reply.{Reply}
-use Rattle.console_lines.specs.declared.reply.Reply.TheVariants as reply
+use Rattle.room_alone.specs.declared.reply.Reply.{Reply}
+use Rattle.room_alone.specs.declared.reply.Reply.TheVariants as reply
 use Rattle.console_1401.specs.SeatTurns.{CommandResponds, GlanceResponds, KeptResponds, LineResponds, SeatResponds}
 
 same_list : (before after : SeatView) → after ≡ before → IsPrefix before.list after.list

@@ -11,10 +11,10 @@ use Rattle.room_alone.specs.Journal.{most_entries}
 use Rattle.room_alone.specs.Replay.{pair, reply_to, cell_after}
 use Rattle.room_1401.specs.Seen.{SeatView}
 use Rattle.console_text.specs.declared.line.Line.TheVariants as line
-use Rattle.console_lines.specs.declared.reply.Reply.{Reply}
-use Rattle.console_lines.specs.declared.reply.Reply.TheVariants as reply
+use Rattle.room_alone.specs.declared.reply.Reply.{Reply}
+use Rattle.room_alone.specs.declared.reply.Reply.TheVariants as reply
 use Rattle.console_text.specs.ConsoleLine.{Said}
-use Rattle.console_lines.specs.ReplyText.{bytes_of}
+use Rattle.room_alone.specs.ReplyText.{bytes_of}
 use Rattle.console_1401.specs.SeatTurns.{GlanceRefused}
 
 -- a line with its reply, which an empty one hasn't

@@ -1,8 +1,8 @@
 -- How a console loads an image (own): it gives the commands that load it, as seat 0, and each is answered `Done`.
 use Rattle.std.specs.Prelude.{◌≡◌, ℕ, ◌+◌, ◌<◌, Bool, true, false, List, ◌++◌, length, map, take, nat_le, nat_lt}
 use Rattle.machine_image.specs.declared.image.Image.{Image}
-use Rattle.machine_loading.specs.Loading.{fit_commands, load_commands}
-use Rattle.machine_panel.specs.declared.features.Features.{Features}
+use Rattle.machine_image.specs.Loading.{fit_commands, load_commands}
+use Rattle.machine_tables.specs.declared.features.Features.{Features}
 use Rattle.machine_commands.specs.declared.answer.Answer.TheVariants.{Done}
 use Rattle.machine_commands.specs.declared.command.Command.{Command}
 use Rattle.machine_commands.specs.declared.command.Command.TheVariants.{Deposit, Examine, Registers, SetI, Switch, Feed}

@@ -11,10 +11,10 @@ use Rattle.room_alone.specs.Journal.{most_entries}
 use Rattle.room_alone.specs.Replay.{cell_after}
 use Rattle.room_1401.specs.Seen.{SeatView, Carries}
 use Rattle.console_text.specs.declared.line.Line.TheVariants as line
-use Rattle.console_lines.specs.declared.reply.Reply.{Reply}
-use Rattle.console_lines.specs.declared.reply.Reply.TheVariants as reply
+use Rattle.room_alone.specs.declared.reply.Reply.{Reply}
+use Rattle.room_alone.specs.declared.reply.Reply.TheVariants as reply
 use Rattle.console_text.specs.ConsoleLine.{Said}
-use Rattle.console_lines.specs.ReplyText.{bytes_of}
+use Rattle.room_alone.specs.ReplyText.{bytes_of}
 
 -- a command is carried out for the seat, and answered as the sequential machine answers it; or the room takes none, and
 -- the seat has seen no less: a full journal, or one that isn't full if memory is the reason

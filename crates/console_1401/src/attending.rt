@@ -2,17 +2,17 @@
 ghost use Rattle.std.specs.Prelude.{◌≡◌, ◌≢◌, true, false, IsTrue, IfOk, OnErr, None, Some};
 ghost use mathlib.Core.List.{IsPrefix};
 ghost use Rattle.console_text.specs.ConsoleLine.{said_by};
-ghost use Rattle.console_lines.specs.Answering.{AnsweredAll};
-ghost use Rattle.console_lines.specs.Session.{SessionDid};
+ghost use Rattle.room_alone.specs.Answering.{AnsweredAll};
+ghost use Rattle.room_alone.specs.Session.{SessionDid};
 ghost use Rattle.room_1401.specs.Keeping.{HasFailed, HasKept};
 ghost use Rattle.console_1401.specs.Attended.{Attended};
 ghost use Rattle.console_1401.specs.SeatTurns.{AnswersAtSeat, IsUnanswered, KeptResponds, unkept_reply};
 
 use crate::door::Door;
 use bytes_streams::{Sink, Source};
-use console_lines::{Reply, Responder, SessionEnd, answer_lines, reply_bytes};
 use console_text::{Line, LineFault, parse_line};
 use room_1401::{Carried, Keeper, RoomFault, RoomId, Seat, SharedRoom};
+use room_alone::{Reply, Responder, SessionEnd, answer_lines, reply_bytes};
 use std::alloc::Global;
 use std::marker::Model;
 use std::sync::Wait;

@@ -6,9 +6,8 @@ ghost use Rattle.room_alone.specs.Journal.{is_full, refusal_of};
 ghost use Rattle.console_1401.specs.ImageLoading.{done_entry, fit_entries, load_entries, is_within};
 ghost use Rattle.console_1401.specs.ImageLoading.{WentOnByFewer};
 
-use machine_image::{Image, LentImage};
-use machine_loading::{LoadCommands, fit_command};
-use machine_panel::Features;
+use machine_image::{Image, LentImage, LoadCommands, fit_command};
+use machine_tables::Features;
 use room_1401::{Command, Room, RoomFault};
 use room_alone::OWN_SEAT;
 

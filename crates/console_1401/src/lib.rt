@@ -19,10 +19,10 @@ pub mod serving;
 
 pub use ahead::ahead_of;
 pub use attending::{Unanswered, answer_line, attend};
-pub use console_lines::{
-    Failed, FromReader, Line, LineFault, SessionEnd, Sink, Source, ToWriter, parse_line, reply_text,
-};
 pub use door::{Door, OpenDoor};
 pub use image_loading::{put_command, put_features, put_image, put_lent_image};
-pub use room_alone::session;
+pub use room_alone::{
+    Failed, FromReader, Line, LineFault, SessionEnd, Sink, Source, ToWriter, parse_line,
+    reply_text, session,
+};
 pub use serving::{ServeFault, Served, serve};

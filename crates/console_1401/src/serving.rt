@@ -6,7 +6,7 @@ ghost use Rattle.console_1401.specs.Served.{AreAllSeats, CountsConsoles, serve_f
 use crate::ahead::ahead_of;
 use crate::attending::attend;
 use crate::door::Door;
-use bytes_sockets::{Pause, is_gone, linger, shut_down};
+use bytes_descriptors::{Pause, is_gone, linger, shut_down};
 use bytes_streams::{FromReader, ToWriter};
 use room_1401::{Room, RoomId, Seat, SharedRoom};
 use std::alloc::Global;

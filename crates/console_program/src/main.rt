@@ -3,8 +3,8 @@
 #![tactic(auto)]
 
 use bytes_streams::{FromReader, ToWriter};
-use console_terminal::console;
 use core_1401::SIZES;
+use room_alone::console;
 use std::io;
 use std::process::ExitCode;
 

@@ -4,8 +4,8 @@ use Rattle.std.specs.Prelude.{codes}
 use Rattle.std.specs.Fmt.{digits}
 use Rattle.bcd_1401.specs.declared.cell.Cell.{Cell}
 use Rattle.bcd_1401.specs.Graphic.{graphics}
-use Rattle.machine_panel.specs.declared.regs.Regs.{Regs}
-use Rattle.machine_panel.specs.declared.stop.Stop.TheVariants as stop
+use Rattle.machine_tables.specs.declared.regs.Regs.{Regs}
+use Rattle.machine_tables.specs.declared.stop.Stop.TheVariants as stop
 use Rattle.machine_commands.specs.declared.answer.Answer.{Answer}
 use Rattle.machine_commands.specs.declared.answer.Answer.TheVariants as answer
 use Rattle.machine_commands.specs.declared.answer.Refusal.TheVariants.{Address, Hopper, Reader, Empty, Limit, Count}

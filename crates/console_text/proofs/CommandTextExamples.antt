@@ -7,7 +7,7 @@ use Rattle.bcd_1401.specs.Graphic.{graphics}
 use Rattle.machine_commands.specs.declared.command.Command.{Command}
 use Rattle.machine_commands.specs.declared.command.Command.TheVariants.{Deposit, Examine, Registers, SetI, Switch, Feed}
 use Rattle.machine_commands.specs.declared.command.Command.TheVariants.{LoadKey, Run, TakeLine, TakeCard}
-use Rattle.machine_panel.specs.declared.switch_name.SwitchName.TheVariants.{A, G}
+use Rattle.machine_tables.specs.declared.switch_name.SwitchName.TheVariants.{A, G}
 use Rattle.machine_notation.specs.Cells.{cells_text}
 use Rattle.machine_notation.specs.Characters.{graphics_of, trimmed}
 use Rattle.console_text.specs.CommandText.{command_text}

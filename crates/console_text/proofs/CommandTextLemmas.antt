@@ -9,8 +9,8 @@ use Rattle.std.proofs.lemmas.List.{append_assoc, append-nil, length-map, length-
 use Rattle.bcd_1401.specs.declared.cell.Cell.{Cell}
 use Rattle.bcd_1401.specs.Graphic.{graphics}
 use Rattle.core_1401.specs.Address.{addresses}
-use Rattle.machine_panel.specs.declared.switch_name.SwitchName.{SwitchName}
-use Rattle.machine_panel.specs.declared.switch_name.SwitchName.TheVariants.{A, B, C, D, E, F, G}
+use Rattle.machine_tables.specs.declared.switch_name.SwitchName.{SwitchName}
+use Rattle.machine_tables.specs.declared.switch_name.SwitchName.TheVariants.{A, B, C, D, E, F, G}
 use Rattle.devices_1401.specs.declared.card.Card.{Card}
 use Rattle.machine_notation.specs.Cells.{cell_text, cells_text}
 use Rattle.machine_notation.specs.Digits.{digits_in}

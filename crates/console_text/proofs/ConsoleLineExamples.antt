@@ -5,7 +5,7 @@ use Rattle.bcd_1401.specs.declared.cell.Cell.{Cell}
 use Rattle.bcd_1401.specs.Graphic.{graphics}
 use Rattle.machine_commands.specs.declared.command.Command.TheVariants.{Deposit, Examine, Registers, SetI, Switch, Feed}
 use Rattle.machine_commands.specs.declared.command.Command.TheVariants.{LoadKey, Run, TakeLine, TakeCard}
-use Rattle.machine_panel.specs.declared.switch_name.SwitchName.TheVariants.{A, B, C, D, E, F, G}
+use Rattle.machine_tables.specs.declared.switch_name.SwitchName.TheVariants.{A, B, C, D, E, F, G}
 use Rattle.console_text.specs.declared.line.Line.TheVariants.{Empty, Command, Quit}
 use Rattle.console_text.specs.declared.line.LineFault.TheVariants.{Word, Number, Graphic, Length, Extra}
 use Rattle.console_text.specs.Words.{word_in, beyond_word, keyword_of, number_of, address_of, count_of, switch_named}

@@ -1,9 +1,9 @@
 -- The texts of commands that fit a machine, computed.
 use Rattle.std.proofs.Common.{◌≡◌, ℕ, true, List, [], ◌∷◌, map, replicate, None, Some, Err, refl}
 use Rattle.std.specs.Prelude.{codes}
-use Rattle.machine_panel.specs.Features.{no_features, with_feature}
-use Rattle.machine_panel.specs.declared.features.Feature.TheVariants.{Multiply, MoveRecord, Lengths}
-use Rattle.machine_panel.specs.declared.features.Features.{Features}
+use Rattle.machine_tables.specs.Features.{no_features, with_feature}
+use Rattle.machine_tables.specs.declared.features.Feature.TheVariants.{Multiply, MoveRecord, Lengths}
+use Rattle.machine_tables.specs.declared.features.Features.{Features}
 use Rattle.machine_commands.specs.declared.command.Command.TheVariants.{Fit}
 use Rattle.console_text.specs.declared.line.LineFault.TheVariants.{Word}
 use Rattle.console_text.specs.CommandText.{command_text}

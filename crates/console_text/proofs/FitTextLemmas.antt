@@ -11,11 +11,11 @@ use Rattle.std.proofs.lemmas.List.{take_more}
 use Rattle.std.proofs.lemmas.Slice.Eq.{bytes_eq-Decides}
 use Rattle.machine_notation.specs.Prefix.{after_prefix}
 use Rattle.machine_notation.proofs.PrefixLemmas.{after_prefix_takes}
-use Rattle.machine_panel.specs.Features.{are_some, feature_list, no_features}
-use Rattle.machine_panel.specs.declared.features.Feature.{Feature}
-use Rattle.machine_panel.specs.declared.features.Feature.TheVariants.{Multiply, MoveRecord, ModifyAddress, BitTest}
-use Rattle.machine_panel.specs.declared.features.Feature.TheVariants.{Lengths, ReadPunchRelease, Tapes}
-use Rattle.machine_panel.specs.declared.features.Features.{Features}
+use Rattle.machine_tables.specs.Features.{are_some, feature_list, no_features}
+use Rattle.machine_tables.specs.declared.features.Feature.{Feature}
+use Rattle.machine_tables.specs.declared.features.Feature.TheVariants.{Multiply, MoveRecord, ModifyAddress, BitTest}
+use Rattle.machine_tables.specs.declared.features.Feature.TheVariants.{Lengths, ReadPunchRelease, Tapes}
+use Rattle.machine_tables.specs.declared.features.Features.{Features}
 use Rattle.console_text.specs.declared.line.LineFault.TheVariants.{Word}
 use Rattle.console_text.specs.ConsoleLine.{most_line_bytes, said_in_words, said_with}
 use Rattle.console_text.specs.Words.{beyond_word, keyword_of, word_in}

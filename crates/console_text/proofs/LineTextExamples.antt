@@ -5,7 +5,7 @@ use Rattle.std.specs.Fmt.{digits}
 use Rattle.std.specs.Prelude.{codes}
 use Rattle.bcd_1401.specs.declared.cell.Cell.{Cell}
 use Rattle.bcd_1401.specs.Graphic.{graphics}
-use Rattle.machine_panel.specs.declared.switch_name.SwitchName.TheVariants.{C}
+use Rattle.machine_tables.specs.declared.switch_name.SwitchName.TheVariants.{C}
 use Rattle.machine_commands.specs.declared.command.Command.TheVariants.{Deposit, Examine, Switch}
 use Rattle.console_text.specs.declared.line.Line.TheVariants.{Empty, Command}
 use Rattle.machine_notation.specs.Characters.{graphics_of}

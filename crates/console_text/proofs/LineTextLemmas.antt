@@ -11,8 +11,8 @@ use Rattle.bcd_1401.specs.declared.cell.Cell.{Cell}
 use Rattle.bcd_1401.specs.Graphic.{graphics}
 use Rattle.core_1401.specs.Address.{addresses}
 use Rattle.core_1401.specs.Cells.{most_cells}
-use Rattle.machine_panel.specs.declared.switch_name.SwitchName.{SwitchName}
-use Rattle.machine_panel.specs.declared.switch_name.SwitchName.TheVariants.{A, B, C, D, E, F, G}
+use Rattle.machine_tables.specs.declared.switch_name.SwitchName.{SwitchName}
+use Rattle.machine_tables.specs.declared.switch_name.SwitchName.TheVariants.{A, B, C, D, E, F, G}
 use Rattle.devices_1401.specs.Card.{card_columns}
 use Rattle.devices_1401.specs.declared.card.Card.{Card}
 use Rattle.machine_commands.specs.declared.command.Command.TheVariants as command

@@ -4,12 +4,12 @@ use Rattle.std.specs.Prelude.{false, Ok, codes, slice_index_or}
 use Rattle.bcd_1401.specs.declared.cell.Cell.{Cell}
 use Rattle.machine_notation.specs.Cells.{cell_text, cells_of, cells_text, spelled}
 use Rattle.machine_notation.specs.Digits.{digits_in}
-use Rattle.machine_panel.specs.declared.regs.Regs.{Regs}
-use Rattle.machine_panel.specs.declared.stop.Stop.{Stop}
-use Rattle.machine_panel.specs.declared.switch_name.SwitchName.{SwitchName}
-use Rattle.machine_panel.specs.declared.switch_name.SwitchName.TheVariants.{A, B, C, D, E, F, G}
-use Rattle.machine_panel.specs.Stop.{stop_number, stop_name}
-use Rattle.machine_panel.specs.SwitchName.{switch_number}
+use Rattle.machine_tables.specs.declared.regs.Regs.{Regs}
+use Rattle.machine_tables.specs.declared.stop.Stop.{Stop}
+use Rattle.machine_tables.specs.declared.switch_name.SwitchName.{SwitchName}
+use Rattle.machine_tables.specs.declared.switch_name.SwitchName.TheVariants.{A, B, C, D, E, F, G}
+use Rattle.machine_tables.specs.Stop.{stop_number, stop_name}
+use Rattle.machine_tables.specs.SwitchName.{switch_number}
 use Rattle.devices_1401.specs.declared.card.Card.{Card}
 use Rattle.devices_1401.specs.declared.print_line.PrintLine.{PrintLine}
 use Rattle.machine_commands.specs.declared.answer.Answer.{Answer}

@@ -7,11 +7,11 @@ use Rattle.std.specs.List.{flat_map}
 use Rattle.std.specs.Option.{option_map_or}
 use Rattle.std.specs.Str.{bytes_eq}
 use Rattle.machine_notation.specs.Prefix.{after_prefix}
-use Rattle.machine_panel.specs.Features.{are_some, feature_list, feature_name, has_feature, no_features}
-use Rattle.machine_panel.specs.declared.features.Feature.{Feature}
-use Rattle.machine_panel.specs.declared.features.Feature.TheVariants.{Multiply, MoveRecord, ModifyAddress, BitTest}
-use Rattle.machine_panel.specs.declared.features.Feature.TheVariants.{Lengths, ReadPunchRelease, Tapes}
-use Rattle.machine_panel.specs.declared.features.Features.{Features}
+use Rattle.machine_tables.specs.Features.{are_some, feature_list, feature_name, has_feature, no_features}
+use Rattle.machine_tables.specs.declared.features.Feature.{Feature}
+use Rattle.machine_tables.specs.declared.features.Feature.TheVariants.{Multiply, MoveRecord, ModifyAddress, BitTest}
+use Rattle.machine_tables.specs.declared.features.Feature.TheVariants.{Lengths, ReadPunchRelease, Tapes}
+use Rattle.machine_tables.specs.declared.features.Features.{Features}
 use Rattle.console_text.specs.Words.{blank}
 
 -- the name of a feature in capitals, after a blank

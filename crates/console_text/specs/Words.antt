@@ -6,8 +6,8 @@ use Rattle.std.specs.Option.{ok_or}
 use Rattle.std.specs.Str.{bytes_eq}
 use Rattle.bcd_1401.specs.Digits.{is_digit, value_of}
 use Rattle.core_1401.specs.Address.{addresses}
-use Rattle.machine_panel.specs.declared.switch_name.SwitchName.{SwitchName}
-use Rattle.machine_panel.specs.declared.switch_name.SwitchName.TheVariants.{A, B, C, D, E, F, G}
+use Rattle.machine_tables.specs.declared.switch_name.SwitchName.{SwitchName}
+use Rattle.machine_tables.specs.declared.switch_name.SwitchName.TheVariants.{A, B, C, D, E, F, G}
 use Rattle.console_text.specs.declared.line.LineFault.{LineFault}
 use Rattle.console_text.specs.declared.line.LineFault.TheVariants.{Word, Number}
 use Rattle.console_text.specs.declared.words.Keyword.{Keyword}

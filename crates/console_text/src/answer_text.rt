@@ -13,7 +13,7 @@ use core_1401::Cells;
 use devices_1401::{Card, PrintLine};
 use machine_commands::Answer;
 use machine_notation::{put_cell, put_cells, put_characters, put_digits, put_named_digits};
-use machine_panel::{Regs, Stop, SwitchName};
+use machine_tables::{Regs, Stop, SwitchName};
 use std::alloc::{AllocError, Global};
 
 /// The text of an answer.

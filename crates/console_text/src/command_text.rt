@@ -10,7 +10,7 @@ use core_1401::Cells;
 use devices_1401::Card;
 use machine_commands::Command;
 use machine_notation::{put_cells, put_characters, put_named_digits};
-use machine_panel::SwitchName;
+use machine_tables::SwitchName;
 use std::alloc::AllocError;
 
 /// Adds the text of a command, the line by which it is typed (own). `parse_line` reads it as that command, if a line

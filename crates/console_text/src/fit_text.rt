@@ -1,12 +1,12 @@
 //! The text of the command that fits a machine, which no console has a word for.
 ghost use Rattle.std.specs.Prelude.{◌≡◌, ◌++◌, Some, IfSome, OnOk};
 ghost use Rattle.std.specs.List.{flat_map};
-ghost use Rattle.machine_panel.specs.declared.features.Features.{Features};
-ghost use Rattle.machine_panel.specs.Features.{are_some, feature_list};
+ghost use Rattle.machine_tables.specs.declared.features.Features.{Features};
+ghost use Rattle.machine_tables.specs.Features.{are_some, feature_list};
 ghost use Rattle.console_text.specs.FitText.{feature_word, features_at, features_in, fit_of, fit_text, named};
 ghost use Rattle.console_text.specs.FitText.{word_if, words_of};
 
-use machine_panel::{Feature, Features};
+use machine_tables::{Feature, Features};
 use std::alloc::AllocError;
 
 /// The name of a feature in capitals, after a blank.

@@ -4,7 +4,7 @@ ghost use Rattle.machine_commands.specs.declared.command.Command.{Command};
 ghost use Rattle.console_text.specs.declared.line.Line.{Line};
 ghost use Rattle.console_text.specs.CommandText.{command_text};
 ghost use Rattle.console_text.specs.FitText.{fit_text};
-ghost use Rattle.machine_panel.specs.declared.features.Features.{Features};
+ghost use Rattle.machine_tables.specs.declared.features.Features.{Features};
 ghost use Rattle.machine_notation.specs.Cells.{cells_of, spelled};
 ghost use Rattle.console_text.specs.AnswerText.{fault_number, fault_text};
 ghost use Rattle.console_text.specs.ConsoleLine.{if_cells, ended, deposit_of, examine_of, start_of};

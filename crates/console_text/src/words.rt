@@ -7,7 +7,7 @@ ghost use Rattle.console_text.specs.Words.{address_of, count_of, letter_of, swit
 use crate::line::LineFault;
 use core_1401::ADDRESSES;
 use machine_notation::read_digits;
-use machine_panel::SwitchName;
+use machine_tables::SwitchName;
 
 /// The most digits that a number has.
 const MOST_DIGITS: usize = 7;

@@ -7,8 +7,8 @@ use Rattle.core_1401.specs.Storage.{Storage}
 use Rattle.cpu_1401.specs.declared.condition.Condition.{Condition}
 use Rattle.cpu_1401.specs.declared.condition.Condition.TheVariants.{Unequal, Equal, Low, High, Overflow, LastCard}
 use Rattle.cpu_1401.specs.declared.condition.Condition.TheVariants.{SwitchOn, ChannelNine, ChannelTwelve}
-use Rattle.machine_panel.specs.declared.stop.Stop.TheVariants as stop
-use Rattle.machine_panel.specs.declared.switch_name.SwitchName.TheVariants.{B, C, D, E, F, G}
+use Rattle.machine_tables.specs.declared.stop.Stop.TheVariants as stop
+use Rattle.machine_tables.specs.declared.switch_name.SwitchName.TheVariants.{B, C, D, E, F, G}
 use Rattle.cpu_1401.specs.Branch.{condition_of, is_so, passes}
 use Rattle.cpu_1401.specs.State.{State, power_on, with_switch}
 use Rattle.cpu_1401.specs.Step.{step}

@@ -5,7 +5,7 @@ use Rattle.devices_1401.specs.Devices.{Devices, no_cards}
 use Rattle.devices_1401.specs.declared.card.Card.{Card}
 use Rattle.devices_1401.specs.declared.print_line.PrintLine.{PrintLine}
 use Rattle.cpu_1401.specs.declared.io_request.IoRequest.{IoRequest}
-use Rattle.machine_panel.specs.declared.stop.Stop.TheVariants as stop
+use Rattle.machine_tables.specs.declared.stop.Stop.TheVariants as stop
 use Rattle.core_1401.specs.Places.{with_cells}
 use Rattle.cpu_1401.specs.CardsAndPrinter.{first_io_stop, mark_char, with_chars_from, with_program_card}
 use Rattle.cpu_1401.specs.Step.{step}

@@ -25,8 +25,8 @@ use Rattle.fields_1401.specs.Suppress.{suppress_at, suppress_by}
 use Rattle.fields_1401.specs.declared.done.Done.{Done}
 use Rattle.fields_1401.specs.declared.done.FieldStop.{FieldStop}
 use Rattle.fields_1401.specs.declared.done.FieldStop.TheVariants.{Address}
-use Rattle.machine_products.specs.Outside.{IsMarkedSameOutside}
-use Rattle.machine_products.specs.Quotients.{dividend_at, dividend_len_of, divide_by, quotient_at, terms_of}
+use Rattle.fields_1401.specs.Outside.{IsMarkedSameOutside}
+use Rattle.fields_1401.specs.Quotients.{dividend_at, dividend_len_of, divide_by, quotient_at, terms_of}
 
 -- a word mark by its place
 pub mark_at : (s : Storage) (at : ℕ) → slice_index_or (marks_of s) at false ≡ (cell_at s at).mark

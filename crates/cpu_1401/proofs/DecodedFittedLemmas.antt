@@ -9,12 +9,12 @@ use Rattle.bcd_1401.specs.declared.cell.Cell.{Cell}
 use Rattle.core_1401.specs.Address.{addresses, indexed_by}
 use Rattle.core_1401.specs.EightCells.{AreEightCells}
 use Rattle.core_1401.specs.Storage.{Storage, cell_at, is_in_core}
-use Rattle.machine_operations.specs.Operation.{operation_of}
-use Rattle.machine_operations.specs.Fitted.{fitted_in}
-use Rattle.machine_operations.specs.declared.fitted.Fitted.{Fitted}
-use Rattle.machine_operations.specs.declared.fitted.Fitted.TheVariants.{OnCell}
-use Rattle.machine_panel.specs.declared.features.Features.{Features}
-use Rattle.machine_panel.specs.declared.stop.Stop.{Stop}
+use Rattle.machine_tables.specs.Operation.{operation_of}
+use Rattle.machine_tables.specs.Fitted.{fitted_in}
+use Rattle.machine_tables.specs.declared.fitted.Fitted.{Fitted}
+use Rattle.machine_tables.specs.declared.fitted.Fitted.TheVariants.{OnCell}
+use Rattle.machine_tables.specs.declared.features.Features.{Features}
+use Rattle.machine_tables.specs.declared.stop.Stop.{Stop}
 use Rattle.cpu_1401.specs.DecodedFitted.{AlwaysSayFitted, AreSaying, IsSaying, SaysFitted}
 use Rattle.cpu_1401.specs.Fetched.{cells_at, longest_of}
 use Rattle.cpu_1401.specs.Fitting.{fitted_at, fitted_instruction, fitted_step, perform_fitted}

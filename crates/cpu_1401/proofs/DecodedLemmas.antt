@@ -18,11 +18,11 @@ use Rattle.cpu_1401.specs.declared.decoded.Decoded.{Decoded}
 use Rattle.cpu_1401.specs.declared.decoded.Addressing.{Addressing}
 use Rattle.cpu_1401.specs.declared.decoded.Addressing.TheVariants.{Both, Target, Unasked, OnlyA, Registers}
 use Rattle.cpu_1401.specs.declared.instruction.Instruction.{Instruction}
-use Rattle.machine_operations.specs.declared.operation.Operation.{Operation}
-use Rattle.machine_operations.specs.declared.operation.Operation.TheVariants as op
+use Rattle.machine_tables.specs.declared.operation.Operation.{Operation}
+use Rattle.machine_tables.specs.declared.operation.Operation.TheVariants as op
 use Rattle.cpu_1401.specs.Decoded.{AlwaysSay, IsAddress, Says, Serve}
 use Rattle.cpu_1401.specs.Instruction.{instruction_of, length_at, longest_at}
-use Rattle.machine_operations.specs.Operation.{form_of, operation_of}
+use Rattle.machine_tables.specs.Operation.{form_of, operation_of}
 use Rattle.cpu_1401.specs.Addressing.{has_b}
 use Rattle.cpu_1401.specs.State.{State}
 use Rattle.cpu_1401.specs.Step.{perform, step}

@@ -20,18 +20,18 @@ use Rattle.fields_1401.specs.Move.{move_at}
 use Rattle.fields_1401.specs.Outcome.{Outcome, stop_of}
 use Rattle.fields_1401.specs.Parts.{digit_moved_at, zone_moved_at}
 use Rattle.fields_1401.specs.Suppress.{suppress_at}
-use Rattle.machine_operations.specs.Operation.{operation_of, is_unfitted, is_unfitted_length, has_length}
-use Rattle.machine_operations.specs.declared.fitted.Fitted.{Fitted}
-use Rattle.machine_operations.specs.declared.fitted.Fitted.TheVariants as fitted
-use Rattle.machine_operations.specs.declared.operation.Operation.{Operation}
-use Rattle.machine_operations.specs.declared.operation.Operation.TheVariants as op
-use Rattle.machine_operations.specs.declared.tape_unit.TapeUnit.{TapeUnit}
-use Rattle.machine_panel.specs.declared.stop.Stop.{Stop}
-use Rattle.machine_panel.specs.declared.stop.Stop.TheVariants as stop
-use Rattle.machine_products.specs.AddressSums.{address_sum_at}
-use Rattle.machine_products.specs.Products.{product_at}
-use Rattle.machine_products.specs.Quotients.{quotient_at}
-use Rattle.machine_products.specs.Records.{record_at}
+use Rattle.machine_tables.specs.Operation.{operation_of, is_unfitted, is_unfitted_length, has_length}
+use Rattle.machine_tables.specs.declared.fitted.Fitted.{Fitted}
+use Rattle.machine_tables.specs.declared.fitted.Fitted.TheVariants as fitted
+use Rattle.machine_tables.specs.declared.operation.Operation.{Operation}
+use Rattle.machine_tables.specs.declared.operation.Operation.TheVariants as op
+use Rattle.machine_tables.specs.declared.tape_unit.TapeUnit.{TapeUnit}
+use Rattle.machine_tables.specs.declared.stop.Stop.{Stop}
+use Rattle.machine_tables.specs.declared.stop.Stop.TheVariants as stop
+use Rattle.fields_1401.specs.AddressSums.{address_sum_at}
+use Rattle.fields_1401.specs.Products.{product_at}
+use Rattle.fields_1401.specs.Quotients.{quotient_at}
+use Rattle.fields_1401.specs.Records.{record_at}
 use Rattle.cpu_1401.specs.Branch.{after_branch, branch_on_cell, has_char, passes}
 use Rattle.cpu_1401.specs.CardsAndPrinter.{after_cards, after_control, after_write, after_work, all_three, asks}
 use Rattle.cpu_1401.specs.CardsAndPrinter.{beyond_last, beyond_print_area, has_d, first_io_stop, line_alone}

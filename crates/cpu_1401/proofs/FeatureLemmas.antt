@@ -11,11 +11,11 @@ use Rattle.fields_1401.specs.declared.done.Done.{Done}
 use Rattle.fields_1401.specs.declared.done.FieldStop.{FieldStop}
 use Rattle.fields_1401.specs.Load.{has_places}
 use Rattle.fields_1401.specs.Outcome.{Outcome, below_by}
-use Rattle.machine_operations.specs.Operation.{operation_of, is_unfitted_length, has_length}
-use Rattle.machine_operations.specs.declared.operation.Operation.{Operation}
-use Rattle.machine_operations.specs.declared.operation.Operation.TheVariants as op
-use Rattle.machine_panel.specs.declared.features.Features.{Features}
-use Rattle.machine_panel.specs.declared.stop.Stop.{Stop}
+use Rattle.machine_tables.specs.Operation.{operation_of, is_unfitted_length, has_length}
+use Rattle.machine_tables.specs.declared.operation.Operation.{Operation}
+use Rattle.machine_tables.specs.declared.operation.Operation.TheVariants as op
+use Rattle.machine_tables.specs.declared.features.Features.{Features}
+use Rattle.machine_tables.specs.declared.stop.Stop.{Stop}
 use Rattle.cpu_1401.specs.Branch.{after_branch, branch_if, branch_on, branch_on_cell, condition_of, go_on, has_char}
 use Rattle.cpu_1401.specs.Branch.{is_so, passes, after_look}
 use Rattle.cpu_1401.specs.CardsAndPrinter.{after_cards, after_control, after_write, after_work, all_three, asks}
@@ -34,8 +34,8 @@ use Rattle.cpu_1401.specs.Step.{check_length, check_operation, perform, step}
 use Rattle.cpu_1401.specs.Stepped.{Stepped}
 use Rattle.cpu_1401.specs.declared.condition.Condition.{Condition}
 use Rattle.cpu_1401.specs.declared.condition.Condition.TheVariants as condition
-use Rattle.machine_operations.specs.declared.fitted.Fitted.{Fitted}
-use Rattle.machine_operations.specs.declared.fitted.Fitted.TheVariants as fitted
+use Rattle.machine_tables.specs.declared.fitted.Fitted.{Fitted}
+use Rattle.machine_tables.specs.declared.fitted.Fitted.TheVariants as fitted
 use Rattle.cpu_1401.specs.declared.instruction.Instruction.{Instruction}
 use Rattle.cpu_1401.specs.declared.io_request.CardWork.{CardWork}
 use Rattle.cpu_1401.specs.declared.io_request.IoRequest.{IoRequest}

@@ -5,18 +5,18 @@ use Rattle.std.proofs.lemmas.Bool.{and_parts, and_right, eqb-true, false≢true,
 use Rattle.std.specs.Prelude.{codes, find, if◌then◌else◌, is_some, slice_index}
 use Rattle.std.specs.List.{list_all, list_any}
 use Rattle.std.specs.Option.{option_map}
-use Rattle.machine_operations.specs.Operation.{has_length, meaning_of, operations, unfitted_operations}
-use Rattle.machine_operations.specs.declared.operation.Operation.{Operation}
-use Rattle.machine_operations.specs.declared.operation.Operation.TheVariants as op
-use Rattle.machine_panel.specs.Features.{has_feature, no_features}
-use Rattle.machine_panel.specs.declared.features.Feature.{Feature}
-use Rattle.machine_panel.specs.declared.features.Feature.TheVariants as feature
-use Rattle.machine_panel.specs.declared.features.Features.{Features}
+use Rattle.machine_tables.specs.Operation.{has_length, meaning_of, operations, unfitted_operations}
+use Rattle.machine_tables.specs.declared.operation.Operation.{Operation}
+use Rattle.machine_tables.specs.declared.operation.Operation.TheVariants as op
+use Rattle.machine_tables.specs.Features.{has_feature, no_features}
+use Rattle.machine_tables.specs.declared.features.Feature.{Feature}
+use Rattle.machine_tables.specs.declared.features.Feature.TheVariants as feature
+use Rattle.machine_tables.specs.declared.features.Features.{Features}
 use Rattle.cpu_1401.specs.Chaining.{is_by_cell}
-use Rattle.machine_operations.specs.Fitted.{FittedRow, claims, fitted_in, fitted_lengths, fitted_row, fitted_rows}
-use Rattle.machine_operations.specs.declared.fitted.Fitted.{Fitted}
-use Rattle.machine_operations.specs.declared.fitted.Fitted.TheVariants.{OnCell}
-use Rattle.machine_operations.specs.declared.fitted.FittedLengths.TheVariants.{Eight}
+use Rattle.machine_tables.specs.Fitted.{FittedRow, claims, fitted_in, fitted_lengths, fitted_row, fitted_rows}
+use Rattle.machine_tables.specs.declared.fitted.Fitted.{Fitted}
+use Rattle.machine_tables.specs.declared.fitted.Fitted.TheVariants.{OnCell}
+use Rattle.machine_tables.specs.declared.fitted.FittedLengths.TheVariants.{Eight}
 
 -- what is found has what each row has
 found_has : {X : Type 0} (test has : X → Bool) (rows : List X) (row : X) → list_all has rows ≡ true

@@ -11,8 +11,8 @@ use Rattle.cpu_1401.specs.Frame.{UsesOne}
 use Rattle.cpu_1401.specs.State.{State}
 use Rattle.cpu_1401.specs.Step.{step}
 use Rattle.cpu_1401.specs.Stepped.{Stepped}
-use Rattle.machine_operations.specs.declared.fitted.Fitted.{Fitted}
-use Rattle.machine_operations.specs.declared.fitted.Fitted.TheVariants as fitted
+use Rattle.machine_tables.specs.declared.fitted.Fitted.{Fitted}
+use Rattle.machine_tables.specs.declared.fitted.Fitted.TheVariants as fitted
 use Rattle.cpu_1401.specs.declared.instruction.Instruction.{Instruction}
 use Rattle.cpu_1401.proofs.UseLemmas.{either, field_uses, on_cell_uses, step_uses, store_uses, uses_none}
 

@@ -4,11 +4,11 @@ use Rattle.std.proofs.Common.{◌≡◌, ℕ, ◌+◌, List, [], ◌++◌, lengt
 use Rattle.std.specs.Prelude.{codes}
 use Rattle.bcd_1401.specs.Graphic.{graphics}
 use Rattle.core_1401.specs.Storage.{Storage, blanks}
-use Rattle.machine_panel.specs.Features.{no_features, with_feature}
-use Rattle.machine_panel.specs.declared.features.Feature.TheVariants.{BitTest, Lengths, ReadPunchRelease}
-use Rattle.machine_panel.specs.declared.features.Features.{Features}
-use Rattle.machine_panel.specs.declared.stop.Stop.{Stop}
-use Rattle.machine_panel.specs.declared.stop.Stop.TheVariants as stop
+use Rattle.machine_tables.specs.Features.{no_features, with_feature}
+use Rattle.machine_tables.specs.declared.features.Feature.TheVariants.{BitTest, Lengths, ReadPunchRelease}
+use Rattle.machine_tables.specs.declared.features.Features.{Features}
+use Rattle.machine_tables.specs.declared.stop.Stop.{Stop}
+use Rattle.machine_tables.specs.declared.stop.Stop.TheVariants as stop
 use Rattle.cpu_1401.specs.Fitting.{fitted_step}
 use Rattle.cpu_1401.specs.Run.{Finished, run_for}
 use Rattle.cpu_1401.specs.State.{State, fitted_with}

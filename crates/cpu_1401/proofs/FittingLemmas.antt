@@ -7,16 +7,16 @@ use Rattle.bcd_1401.specs.Graphic.{graphics}
 use Rattle.core_1401.specs.Address.{addresses}
 use Rattle.core_1401.specs.Field.{next_mark_from}
 use Rattle.core_1401.specs.Storage.{cell_at, is_in_core}
-use Rattle.machine_operations.specs.Operation.{has_length, is_unfitted, is_unfitted_length, operation_of}
-use Rattle.machine_operations.specs.declared.operation.Operation.{Operation}
-use Rattle.machine_panel.specs.Features.{no_features}
-use Rattle.machine_panel.specs.declared.features.Features.{Features}
-use Rattle.machine_panel.specs.declared.stop.Stop.{Stop}
-use Rattle.machine_panel.specs.declared.stop.Stop.TheVariants as stop
+use Rattle.machine_tables.specs.Operation.{has_length, is_unfitted, is_unfitted_length, operation_of}
+use Rattle.machine_tables.specs.declared.operation.Operation.{Operation}
+use Rattle.machine_tables.specs.Features.{no_features}
+use Rattle.machine_tables.specs.declared.features.Features.{Features}
+use Rattle.machine_tables.specs.declared.stop.Stop.{Stop}
+use Rattle.machine_tables.specs.declared.stop.Stop.TheVariants as stop
 use Rattle.cpu_1401.specs.Chaining.{is_by_cell, keeping, kept, perform_keeping}
 use Rattle.cpu_1401.specs.Decoded.{Says, Serve}
 use Rattle.cpu_1401.specs.Fetched.{cells_at, longest_of}
-use Rattle.machine_operations.specs.Fitted.{fitted_in}
+use Rattle.machine_tables.specs.Fitted.{fitted_in}
 use Rattle.cpu_1401.specs.Fitting.{fitted_at, fitted_instruction, fitted_step, perform_fitted, step_as}
 use Rattle.cpu_1401.specs.FittingLaw.{FittingLaw, IsAlike, IsCarriedOut}
 use Rattle.cpu_1401.specs.Instruction.{begins_at, instruction_of, length_at}
@@ -25,8 +25,8 @@ use Rattle.cpu_1401.specs.State.{State}
 use Rattle.cpu_1401.specs.Step.{check_length, check_operation, perform, step}
 use Rattle.cpu_1401.specs.Stepped.{Stepped, stopped}
 use Rattle.cpu_1401.specs.declared.decoded.Decoded.{Decoded}
-use Rattle.machine_operations.specs.declared.fitted.Fitted.{Fitted}
-use Rattle.machine_operations.specs.declared.fitted.Fitted.TheVariants.{OnCell}
+use Rattle.machine_tables.specs.declared.fitted.Fitted.{Fitted}
+use Rattle.machine_tables.specs.declared.fitted.Fitted.TheVariants.{OnCell}
 use Rattle.cpu_1401.specs.declared.instruction.Instruction.{Instruction}
 use Rattle.cpu_1401.proofs.DecodedLemmas.{says_step}
 use Rattle.cpu_1401.proofs.FeatureLemmas.{fitted_step_features, perform_features, step_features}

@@ -4,7 +4,7 @@ use Rattle.std.proofs.Common.{◌≡◌, List, [], ◌∷◌, replicate, None, S
 use Rattle.bcd_1401.specs.Graphic.{graphics}
 use Rattle.devices_1401.specs.Devices.{no_cards}
 use Rattle.devices_1401.specs.declared.card.Card.{Card}
-use Rattle.machine_panel.specs.declared.stop.Stop.TheVariants as stop
+use Rattle.machine_tables.specs.declared.stop.Stop.TheVariants as stop
 use Rattle.cpu_1401.specs.CardsAndPrinter.{with_devices}
 use Rattle.cpu_1401.specs.Frame.{Frame, framed, around}
 use Rattle.cpu_1401.specs.State.{State}

@@ -1,15 +1,19 @@
 pub mod AreaLemmas
 mod BranchExamples
-mod CompareExamples
-mod CardsExamples
+mod CardExamples
 pub mod CardsAndPrinterLemmas
+mod CardsExamples
+mod CarryOutExamples
+pub mod CellsLemmas
 pub mod ChainingLemmas
+mod CompareExamples
+pub mod DecodeCacheLemmas
 pub mod DecodedFittedLemmas
 pub mod DecodedLemmas
 pub mod ExampleCells
-mod FetchedExamples
 pub mod FairLemmas
 pub mod FeatureLemmas
+mod FetchedExamples
 pub mod FetchedLemmas
 pub mod FittedFrameLemmas
 pub mod FittedLemmas
@@ -18,7 +22,6 @@ pub mod FittingExamples
 pub mod FittingLemmas
 mod FrameExamples
 pub mod FrameLemmas
-pub mod DecodeCacheLemmas
 pub mod NeededPlacesLemmas
 mod ProductExamples
 mod RegisterExamples

@@ -13,14 +13,14 @@ use Rattle.fields_1401.specs.Move.{move_at, move_by}
 use Rattle.fields_1401.specs.Refusal.{needed_at, lengths_at, refuse, used_len_of}
 use Rattle.fields_1401.specs.declared.done.FieldStop.TheVariants.{Address}
 use Rattle.cpu_1401.specs.FieldStep.{after_comparison, after_field}
-use Rattle.machine_operations.specs.Operation.{needs_places}
+use Rattle.machine_tables.specs.Operation.{needs_places}
 use Rattle.cpu_1401.specs.State.{State}
 use Rattle.cpu_1401.specs.Step.{perform}
 use Rattle.cpu_1401.specs.Stepped.{stopped}
 use Rattle.cpu_1401.specs.declared.instruction.Instruction.{Instruction}
-use Rattle.machine_operations.specs.declared.operation.Operation.{Operation}
-use Rattle.machine_operations.specs.declared.operation.Operation.TheVariants as op
-use Rattle.machine_panel.specs.declared.stop.Stop.TheVariants as stop
+use Rattle.machine_tables.specs.declared.operation.Operation.{Operation}
+use Rattle.machine_tables.specs.declared.operation.Operation.TheVariants as op
+use Rattle.machine_tables.specs.declared.stop.Stop.TheVariants as stop
 
 -- one of two addresses isn't that of a place
 abbrev Outside : Storage → ℕ → ℕ → Type 0

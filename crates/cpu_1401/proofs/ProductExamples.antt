@@ -6,15 +6,15 @@ use Rattle.bcd_1401.specs.Graphic.{graphics}
 use Rattle.core_1401.specs.Storage.{Storage}
 use Rattle.fields_1401.specs.Number.{places_down}
 use Rattle.fields_1401.specs.Places.{with_cells, with_chars}
-use Rattle.machine_panel.specs.Features.{no_features, with_feature}
-use Rattle.machine_panel.specs.declared.features.Feature.TheVariants.{ModifyAddress, MoveRecord, Multiply}
-use Rattle.machine_panel.specs.declared.features.Features.{Features}
-use Rattle.machine_panel.specs.declared.stop.Stop.{Stop}
-use Rattle.machine_panel.specs.declared.stop.Stop.TheVariants as stop
-use Rattle.machine_products.specs.AddressSums.{address_sum_at}
-use Rattle.machine_products.specs.Products.{factor_lengths_at, product_at, with_product}
-use Rattle.machine_products.specs.Quotients.{dividend_len_of, quotient_at, with_quotient}
-use Rattle.machine_products.specs.Records.{record_at, record_len_of, record_moved, with_chars_up}
+use Rattle.machine_tables.specs.Features.{no_features, with_feature}
+use Rattle.machine_tables.specs.declared.features.Feature.TheVariants.{ModifyAddress, MoveRecord, Multiply}
+use Rattle.machine_tables.specs.declared.features.Features.{Features}
+use Rattle.machine_tables.specs.declared.stop.Stop.{Stop}
+use Rattle.machine_tables.specs.declared.stop.Stop.TheVariants as stop
+use Rattle.fields_1401.specs.AddressSums.{address_sum_at}
+use Rattle.fields_1401.specs.Products.{factor_lengths_at, product_at, with_product}
+use Rattle.fields_1401.specs.Quotients.{dividend_len_of, quotient_at, with_quotient}
+use Rattle.fields_1401.specs.Records.{record_at, record_len_of, record_moved, with_chars_up}
 use Rattle.cpu_1401.specs.Fitting.{fitted_step}
 use Rattle.cpu_1401.specs.Run.{Finished, run_for}
 use Rattle.cpu_1401.specs.Step.{step}

@@ -2,7 +2,7 @@
 use Rattle.std.proofs.Common.{◌≡◌, [], ◌∷◌, None, Some, refl}
 use Rattle.bcd_1401.specs.Graphic.{graphics}
 use Rattle.core_1401.specs.Storage.{Storage}
-use Rattle.machine_panel.specs.declared.stop.Stop.TheVariants as stop
+use Rattle.machine_tables.specs.declared.stop.Stop.TheVariants as stop
 use Rattle.cpu_1401.specs.RegisterStep.{stored}
 use Rattle.cpu_1401.specs.Step.{step}
 use Rattle.cpu_1401.proofs.ExampleCells.{plain, marked, with_program}

@@ -7,7 +7,7 @@ use Rattle.fields_1401.specs.Marks.{cleared}
 use Rattle.fields_1401.specs.Load.{load_at, loaded}
 use Rattle.fields_1401.specs.Move.{move_at, moved}
 use Rattle.fields_1401.specs.Places.{with_cells, with_chars}
-use Rattle.machine_panel.specs.declared.stop.Stop.TheVariants as stop
+use Rattle.machine_tables.specs.declared.stop.Stop.TheVariants as stop
 use Rattle.cpu_1401.specs.Fitting.{fitted_step}
 use Rattle.cpu_1401.specs.Run.{run_for}
 use Rattle.cpu_1401.specs.State.{power_on, regs_of}

@@ -1,7 +1,7 @@
 -- Which register an only address is for (own).
 use Rattle.std.specs.Prelude.{ℕ, ◌&&◌, ◌||◌, nat_le, Bool}
-use Rattle.machine_operations.specs.declared.operation.Operation.{Operation}
-use Rattle.machine_operations.specs.Operation.{form_of}
+use Rattle.machine_tables.specs.declared.operation.Operation.{Operation}
+use Rattle.machine_tables.specs.Operation.{form_of}
 
 -- whether an instruction of this length has an address for the B register: a second one, or an only one for both
 -- registers

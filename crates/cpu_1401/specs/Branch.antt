@@ -12,12 +12,12 @@ use Rattle.cpu_1401.specs.declared.condition.Condition.{Condition}
 use Rattle.cpu_1401.specs.declared.condition.Condition.TheVariants.{Unequal, Equal, Low, High, Overflow, LastCard}
 use Rattle.cpu_1401.specs.declared.condition.Condition.TheVariants.{SwitchOn, ChannelNine, ChannelTwelve}
 use Rattle.cpu_1401.specs.declared.instruction.Instruction.{Instruction}
-use Rattle.machine_panel.specs.declared.stop.Stop.TheVariants as stop
-use Rattle.machine_panel.specs.declared.switch_name.SwitchName.TheVariants.{B, C, D, E, F, G}
-use Rattle.machine_operations.specs.Rows.{meaning_in, row}
+use Rattle.machine_tables.specs.declared.stop.Stop.TheVariants as stop
+use Rattle.machine_tables.specs.declared.switch_name.SwitchName.TheVariants.{B, C, D, E, F, G}
+use Rattle.machine_tables.specs.Rows.{meaning_in, row}
 use Rattle.cpu_1401.specs.State.{State}
 use Rattle.cpu_1401.specs.Stepped.{Stepped, step_to, stopped}
-use Rattle.machine_panel.specs.SwitchName.{switch_number}
+use Rattle.machine_tables.specs.SwitchName.{switch_number}
 
 -- a branch that is taken: its address goes into the A register, and the next instruction's place into the B register
 abbrev pub branch_to : Instruction → State → State

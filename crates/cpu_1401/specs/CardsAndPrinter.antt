@@ -16,8 +16,8 @@ use Rattle.devices_1401.specs.declared.fault.ControlFault.TheVariants as fault
 use Rattle.cpu_1401.specs.declared.io_request.IoRequest.{IoRequest}
 use Rattle.cpu_1401.specs.declared.io_request.CardWork.{CardWork}
 use Rattle.cpu_1401.specs.declared.instruction.Instruction.{Instruction}
-use Rattle.machine_panel.specs.declared.stop.Stop.{Stop}
-use Rattle.machine_panel.specs.declared.stop.Stop.TheVariants as stop
+use Rattle.machine_tables.specs.declared.stop.Stop.{Stop}
+use Rattle.machine_tables.specs.declared.stop.Stop.TheVariants as stop
 use Rattle.cpu_1401.specs.Branch.{branch_to, go_on}
 use Rattle.cpu_1401.specs.State.{State}
 use Rattle.cpu_1401.specs.Stepped.{Stepped, step_to, stopped}

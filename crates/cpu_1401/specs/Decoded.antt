@@ -7,7 +7,7 @@ use Rattle.core_1401.specs.Storage.{Storage, cell_at}
 use Rattle.cpu_1401.specs.declared.decoded.Address.{Address}
 use Rattle.cpu_1401.specs.declared.decoded.Decoded.{Decoded}
 use Rattle.cpu_1401.specs.Instruction.{instruction_of, length_at, longest_at}
-use Rattle.machine_operations.specs.Operation.{operation_of, has_length, is_unfitted_length}
+use Rattle.machine_tables.specs.Operation.{operation_of, has_length, is_unfitted_length}
 use Rattle.cpu_1401.specs.State.{State}
 use Rattle.cpu_1401.specs.Step.{perform}
 

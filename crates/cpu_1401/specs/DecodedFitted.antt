@@ -8,9 +8,9 @@ use Rattle.cpu_1401.specs.declared.decoded_fitted.DecodedFitted.{DecodedFitted}
 use Rattle.cpu_1401.specs.declared.fitted_entry.FittedEntry.{FittedEntry}
 use Rattle.cpu_1401.specs.Decoded.{IsAddress}
 use Rattle.cpu_1401.specs.Fetched.{cells_at, longest_of}
-use Rattle.machine_operations.specs.Fitted.{fitted_in}
-use Rattle.machine_operations.specs.Operation.{operation_of}
-use Rattle.machine_panel.specs.declared.features.Features.{Features}
+use Rattle.machine_tables.specs.Fitted.{fitted_in}
+use Rattle.machine_tables.specs.Operation.{operation_of}
+use Rattle.machine_tables.specs.declared.features.Features.{Features}
 
 -- how many instructions of features are cached at most
 abbrev pub fitted_entry_count : ℕ

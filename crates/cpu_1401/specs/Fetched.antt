@@ -4,9 +4,9 @@ use Rattle.std.specs.Prelude.{ℕ, ◌+◌, min, if◌then◌else◌, List, [], 
 use Rattle.bcd_1401.specs.declared.cell.Cell.{Cell}
 use Rattle.core_1401.specs.Field.{next_mark_from}
 use Rattle.core_1401.specs.Storage.{Storage, cell_at, is_in_core}
-use Rattle.machine_operations.specs.declared.operation.Operation.{Operation}
+use Rattle.machine_tables.specs.declared.operation.Operation.{Operation}
 use Rattle.cpu_1401.specs.Instruction.{begins_at}
-use Rattle.machine_operations.specs.Operation.{form_of, operation_of}
+use Rattle.machine_tables.specs.Operation.{form_of, operation_of}
 use Rattle.cpu_1401.specs.State.{State}
 
 -- the most cells that an instruction has

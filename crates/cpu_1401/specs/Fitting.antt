@@ -5,25 +5,25 @@ use Rattle.bcd_1401.specs.Graphic.{graphics}
 use Rattle.core_1401.specs.Storage.{cell_at}
 use Rattle.fields_1401.specs.Load.{has_places}
 use Rattle.fields_1401.specs.Outcome.{below_by}
-use Rattle.machine_operations.specs.declared.operation.Operation.TheVariants as op
-use Rattle.machine_panel.specs.declared.stop.Stop.TheVariants as stop
-use Rattle.machine_products.specs.AddressSums.{address_sum_at}
-use Rattle.machine_products.specs.Products.{product_at}
-use Rattle.machine_products.specs.Quotients.{quotient_at}
-use Rattle.machine_products.specs.Records.{record_at}
+use Rattle.machine_tables.specs.declared.operation.Operation.TheVariants as op
+use Rattle.machine_tables.specs.declared.stop.Stop.TheVariants as stop
+use Rattle.fields_1401.specs.AddressSums.{address_sum_at}
+use Rattle.fields_1401.specs.Products.{product_at}
+use Rattle.fields_1401.specs.Quotients.{quotient_at}
+use Rattle.fields_1401.specs.Records.{record_at}
 use Rattle.cpu_1401.specs.Branch.{go_on}
 use Rattle.cpu_1401.specs.Chaining.{again, keeping, on_bits, on_cell, on_character}
 use Rattle.cpu_1401.specs.FieldStep.{after_field}
 use Rattle.cpu_1401.specs.Fetched.{cells_at}
-use Rattle.machine_operations.specs.Fitted.{fitted_in}
+use Rattle.machine_tables.specs.Fitted.{fitted_in}
 use Rattle.cpu_1401.specs.Instruction.{begins_at, instruction_of}
 use Rattle.cpu_1401.specs.RegisterStep.{after_store, stored}
 use Rattle.cpu_1401.specs.State.{State}
 use Rattle.cpu_1401.specs.Step.{step}
 use Rattle.cpu_1401.specs.Stepped.{Stepped, step_to, stopped}
 use Rattle.cpu_1401.specs.Tape.{control_letters, tape_stop, transfer_letters}
-use Rattle.machine_operations.specs.declared.fitted.Fitted.{Fitted}
-use Rattle.machine_operations.specs.declared.fitted.Fitted.TheVariants as fitted
+use Rattle.machine_tables.specs.declared.fitted.Fitted.{Fitted}
+use Rattle.machine_tables.specs.declared.fitted.Fitted.TheVariants as fitted
 use Rattle.cpu_1401.specs.declared.instruction.Instruction.{Instruction}
 
 -- the second address stored at the first: it is in the B register afterwards

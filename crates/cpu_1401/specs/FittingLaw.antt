@@ -1,8 +1,8 @@
 -- What features leave as it was (own).
 use Rattle.std.specs.Prelude.{ℕ, ◌≡◌, ◌≢◌, ◌⊎◌, false, None, Some}
-use Rattle.machine_panel.specs.Features.{no_features}
-use Rattle.machine_panel.specs.declared.stop.Stop.{Stop}
-use Rattle.machine_panel.specs.declared.stop.Stop.TheVariants.{Halt, Length, NotFitted}
+use Rattle.machine_tables.specs.Features.{no_features}
+use Rattle.machine_tables.specs.declared.stop.Stop.{Stop}
+use Rattle.machine_tables.specs.declared.stop.Stop.TheVariants.{Halt, Length, NotFitted}
 use Rattle.cpu_1401.specs.Fitting.{fitted_step}
 use Rattle.cpu_1401.specs.Run.{plain_run_for, run_for}
 use Rattle.cpu_1401.specs.State.{State}

@@ -5,8 +5,8 @@ use Rattle.core_1401.specs.Address.{addresses, effective_at}
 use Rattle.core_1401.specs.Field.{next_mark_from}
 use Rattle.core_1401.specs.Storage.{Storage, is_in_core, cell_at}
 use Rattle.cpu_1401.specs.declared.instruction.Instruction.{Instruction}
-use Rattle.machine_operations.specs.declared.operation.Operation.{Operation}
-use Rattle.machine_operations.specs.Operation.{form_of}
+use Rattle.machine_tables.specs.declared.operation.Operation.{Operation}
+use Rattle.machine_tables.specs.Operation.{form_of}
 use Rattle.cpu_1401.specs.State.{State}
 
 -- whether an instruction begins at a place

@@ -1,6 +1,9 @@
+pub mod Addressing
 pub mod Branch
 pub mod CardsAndPrinter
+pub mod CarryOut
 pub mod Chaining
+pub mod DecodeCache
 pub mod Decoded
 pub mod DecodedFitted
 pub mod Fetched
@@ -9,11 +12,9 @@ pub mod Fitting
 pub mod FittingLaw
 pub mod Frame
 pub mod Instruction
-pub mod DecodeCache
 pub mod NeededPlaces
 pub mod RegisterStep
 pub mod Run
-pub mod Addressing
 pub mod State
 pub mod Step
 pub mod Stepped

@@ -5,9 +5,9 @@ use Rattle.core_1401.specs.Address.{addresses}
 use Rattle.core_1401.specs.Storage.{Storage, blanks}
 use Rattle.devices_1401.specs.Carriage.{form_of, line_of, forms, lines_of_form}
 use Rattle.devices_1401.specs.Devices.{Devices, no_cards, most_held}
-use Rattle.machine_panel.specs.Features.{no_features}
-use Rattle.machine_panel.specs.declared.features.Features.{Features}
-use Rattle.machine_panel.specs.declared.regs.Regs.{Regs}
+use Rattle.machine_tables.specs.Features.{no_features}
+use Rattle.machine_tables.specs.declared.features.Features.{Features}
+use Rattle.machine_tables.specs.declared.regs.Regs.{Regs}
 
 -- Storage by address, the I, A and B registers, the indicators, the sense switches A to G, and the devices. Then what
 -- the machine is fitted with, and the d-character by which a branch of one character goes on.

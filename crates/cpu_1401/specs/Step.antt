@@ -12,16 +12,16 @@ use Rattle.fields_1401.specs.Move.{move_at}
 use Rattle.fields_1401.specs.Parts.{digit_moved_at, zone_moved_at}
 use Rattle.fields_1401.specs.Suppress.{suppress_at}
 use Rattle.cpu_1401.specs.declared.instruction.Instruction.{Instruction}
-use Rattle.machine_operations.specs.declared.operation.Operation.{Operation}
-use Rattle.machine_operations.specs.declared.operation.Operation.TheVariants as op
-use Rattle.machine_panel.specs.declared.stop.Stop.TheVariants as stop
+use Rattle.machine_tables.specs.declared.operation.Operation.{Operation}
+use Rattle.machine_tables.specs.declared.operation.Operation.TheVariants as op
+use Rattle.machine_tables.specs.declared.stop.Stop.TheVariants as stop
 use Rattle.cpu_1401.specs.Branch.{after_branch, branch_on_cell, go_on, passes}
 use Rattle.cpu_1401.specs.CardsAndPrinter.{after_write, after_control, after_work}
 use Rattle.cpu_1401.specs.CardsAndPrinter.{punching, reading, reading_and_punching}
 use Rattle.cpu_1401.specs.CardsAndPrinter.{writing_and_punching, writing_and_reading, all_three}
 use Rattle.cpu_1401.specs.FieldStep.{after_field, after_comparison, after_clear}
 use Rattle.cpu_1401.specs.Instruction.{begins_at, instruction_of, length_at}
-use Rattle.machine_operations.specs.Operation.{operation_of, is_unfitted, is_unfitted_length, has_length}
+use Rattle.machine_tables.specs.Operation.{operation_of, is_unfitted, is_unfitted_length, has_length}
 use Rattle.cpu_1401.specs.RegisterStep.{after_store}
 use Rattle.cpu_1401.specs.State.{State}
 use Rattle.cpu_1401.specs.Stepped.{Stepped, step_to, stopped}

@@ -1,6 +1,6 @@
 -- What a step leaves (own).
 use Rattle.std.specs.Prelude.{Option, None, Some}
-use Rattle.machine_panel.specs.declared.stop.Stop.{Stop}
+use Rattle.machine_tables.specs.declared.stop.Stop.{Stop}
 use Rattle.cpu_1401.specs.State.{State}
 
 -- what a step leaves: the machine, and why it stops, if it does

@@ -4,10 +4,10 @@ use Rattle.std.specs.Prelude.{slice_index}
 use Rattle.std.specs.List.{list_any}
 use Rattle.bcd_1401.specs.Graphic.{graphics}
 use Rattle.core_1401.specs.Storage.{Storage, cell_at}
-use Rattle.machine_operations.specs.TapeUnit.{unit_named}
-use Rattle.machine_operations.specs.declared.tape_unit.TapeUnit.{TapeUnit}
-use Rattle.machine_panel.specs.declared.stop.Stop.{Stop}
-use Rattle.machine_panel.specs.declared.stop.Stop.TheVariants as stop
+use Rattle.machine_tables.specs.TapeUnit.{unit_named}
+use Rattle.machine_tables.specs.declared.tape_unit.TapeUnit.{TapeUnit}
+use Rattle.machine_tables.specs.declared.stop.Stop.{Stop}
+use Rattle.machine_tables.specs.declared.stop.Stop.TheVariants as stop
 use Rattle.cpu_1401.specs.State.{State}
 use Rattle.cpu_1401.specs.declared.instruction.Instruction.{Instruction}
 

@@ -9,7 +9,7 @@ use crate::condition::{Condition, passes};
 use crate::instruction::Instruction;
 use crate::machine::Machine;
 use fields_1401::step_down;
-use machine_panel::Stop;
+use machine_tables::Stop;
 
 impl Machine {
     /// Carries out a `B`: of four characters it branches always, of five on a condition, and of eight if the character

@@ -4,7 +4,7 @@ ghost use Rattle.cpu_1401.specs.Decoded.{AlwaysSay};
 
 use crate::decoded::{Address, Addressing, Decoded};
 use bcd_1401::Char;
-use machine_operations::Operation;
+use machine_tables::Operation;
 
 /// The place of an entry that keeps nothing: no address has it.
 pub(crate) const NO_PLACE: u16 = u16::MAX;

@@ -3,7 +3,7 @@ ghost use Rattle.std.specs.Prelude.{◌≡◌};
 ghost use Rattle.cpu_1401.specs.Branch.{condition_of, passes};
 
 use bcd_1401::{Cell, Char};
-use machine_panel::SwitchName;
+use machine_tables::SwitchName;
 
 /// What a branch of five characters looks at (A24-1403, "Branch if Indicator On").
 #[derive(Clone, Copy)]

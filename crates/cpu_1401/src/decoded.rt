@@ -3,10 +3,10 @@ ghost use Rattle.std.specs.Prelude.{◌≡◌, ◌≢◌, ◌<◌, ◌≤◌, fa
 ghost use Rattle.core_1401.specs.Address.{addresses};
 ghost use Rattle.cpu_1401.specs.Addressing.{has_b};
 ghost use Rattle.cpu_1401.specs.declared.decoded.Addressing.{Addressing};
-ghost use Rattle.machine_operations.specs.declared.operation.Operation.{Operation};
+ghost use Rattle.machine_tables.specs.declared.operation.Operation.{Operation};
 
 use bcd_1401::Char;
-use machine_operations::Operation;
+use machine_tables::Operation;
 
 /// An address as it is spelled.
 #[derive(Clone, Copy)]

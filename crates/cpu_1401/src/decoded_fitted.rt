@@ -3,7 +3,7 @@ ghost use Rattle.std.specs.Prelude.{◌≡◌, ◌<◌, ◌≤◌, ◌&&◌, nat
 
 use crate::decoded::Address;
 use bcd_1401::Char;
-use machine_operations::Fitted;
+use machine_tables::Fitted;
 
 /// What an instruction that a feature claims says by itself.
 #[derive(Clone, Copy)]

@@ -9,8 +9,7 @@ ghost use Rattle.cpu_1401.specs.Stepped.{stopped};
 use crate::decoded::{Address, Decoded, is_ready, source_of};
 use crate::machine::Machine;
 use bcd_1401::Char;
-use machine_operations::{Operation, is_unfitted};
-use machine_panel::Stop;
+use machine_tables::{Operation, Stop, is_unfitted};
 
 impl Machine {
     /// Decodes the instruction at the I register, or says why it can't be carried out.

@@ -17,7 +17,7 @@ use crate::machine::Machine;
 use bcd_1401::Char;
 use core_1401::{Core, LEAST_SIZE};
 use devices_1401::{ControlFault, MOST_HELD};
-use machine_panel::Stop;
+use machine_tables::Stop;
 
 /// The code of the lozenge, which asks for word marks to be printed.
 const LOZENGE: u8 = 60;

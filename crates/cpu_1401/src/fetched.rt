@@ -3,12 +3,12 @@ ghost use Rattle.std.specs.Prelude.{◌≡◌, ◌+◌, ◌<◌, ◌≤◌, leng
 ghost use Rattle.core_1401.specs.Address.{addresses};
 ghost use Rattle.core_1401.specs.Storage.{cell_at};
 ghost use Rattle.cpu_1401.specs.Fetched.{cells_at, instruction_at, longest_instruction, longest_of, next_instruction};
-ghost use Rattle.machine_operations.specs.Operation.{operation_of};
+ghost use Rattle.machine_tables.specs.Operation.{operation_of};
 
 use crate::machine::Machine;
 use bcd_1401::{Cell, Char};
 use core_1401::Core;
-use machine_operations::Operation;
+use machine_tables::Operation;
 use std::marker::Model;
 
 /// The most cells that an instruction has.

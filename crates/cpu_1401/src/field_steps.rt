@@ -11,7 +11,7 @@ use crate::instruction::Instruction;
 use crate::machine::Machine;
 use crate::marking::clear_down_there;
 use fields_1401::{Done, FieldStop, compare_within};
-use machine_panel::Stop;
+use machine_tables::Stop;
 
 impl Machine {
     /// Takes the registers that an operation on fields left, turns the overflow indicator on if a sum was too large,

@@ -3,13 +3,13 @@
 ghost use Rattle.std.specs.Prelude.{◌≡◌, ◌≢◌, ◌+◌, ◌%◌, ◌<◌, ◌≤◌, IfOk, IfSome, length, nat_lt, true};
 ghost use Rattle.core_1401.specs.Address.{addresses};
 ghost use Rattle.cpu_1401.specs.DecodedFitted.{SaysFitted, fitted_entry_count};
-ghost use Rattle.machine_operations.specs.declared.fitted.Fitted.{Fitted};
-ghost use Rattle.machine_panel.specs.Features.{no_features};
+ghost use Rattle.machine_tables.specs.declared.fitted.Fitted.{Fitted};
+ghost use Rattle.machine_tables.specs.Features.{no_features};
 
 use crate::decoded_fitted::DecodedFitted;
 use crate::fitted_entry::FittedEntry;
 use core_1401::Core;
-use machine_panel::Features;
+use machine_tables::Features;
 use std::alloc::{AllocError, Global};
 use std::marker::Model;
 
@@ -31,7 +31,7 @@ pub(crate) struct FittedCache {
 impl Model for FittedCache {
     ghost use Rattle.std.specs.Prelude.{◌≡◌, length};
     ghost use Rattle.cpu_1401.specs.DecodedFitted.{AreSaying, fitted_entry_count};
-    ghost use Rattle.machine_panel.specs.declared.features.Features.{Features};
+    ghost use Rattle.machine_tables.specs.declared.features.Features.{Features};
 
     ghost Value = { Features };
 

@@ -1,11 +1,11 @@
 //! An entry of the cache of instructions that features claim.
 ghost use Rattle.std.specs.Prelude.{◌≡◌, ◌≢◌, ◌-◌, ◌^◌};
-ghost use Rattle.machine_operations.specs.declared.fitted.Fitted.{Fitted};
+ghost use Rattle.machine_tables.specs.declared.fitted.Fitted.{Fitted};
 
 use crate::decoded::Address;
 use crate::decoded_fitted::DecodedFitted;
 use bcd_1401::Char;
-use machine_operations::Fitted;
+use machine_tables::Fitted;
 
 /// The codes and the word marks of eight cells, and what features make of the instruction that they are.
 #[derive(Clone, Copy)]

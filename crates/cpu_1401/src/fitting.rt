@@ -9,7 +9,7 @@ ghost use Rattle.cpu_1401.specs.Fitting.{after_second, fitted_at, fitted_instruc
 ghost use Rattle.cpu_1401.specs.FittingLaw.{FittingLaw};
 ghost use Rattle.cpu_1401.specs.Step.{step};
 ghost use Rattle.cpu_1401.specs.Stepped.{stopped};
-ghost use Rattle.machine_operations.specs.declared.fitted.Fitted.{Fitted};
+ghost use Rattle.machine_tables.specs.declared.fitted.Fitted.{Fitted};
 
 use crate::decoded::Address;
 use crate::decoded_fitted::{DecodedFitted, are_plain};
@@ -21,10 +21,8 @@ use crate::register_steps::put_address;
 use crate::tape::{CONTROL_LETTERS, TRANSFER_LETTERS};
 use bcd_1401::Char;
 use core_1401::ADDRESSES;
-use fields_1401::step_down;
-use machine_operations::{Fitted, fitted_in};
-use machine_panel::Stop;
-use machine_products::{modify_address, move_record};
+use fields_1401::{modify_address, move_record, step_down};
+use machine_tables::{Fitted, Stop, fitted_in};
 
 impl Machine {
     /// Carries out the instruction at the I register, which a feature claims.

@@ -5,6 +5,14 @@
 //! machine.put(0, halt);
 //! machine.run(1)                          // Ran { steps: 1, stop: Stop::Halt }
 //! ```
+//!
+//! What an operator asks of it is carried out on the machine.
+//!
+//! ```text
+//! let mut machine = Machine::power_on(alloc, 4000)?;
+//! carry_out(&mut machine, &Command::SetI { address: 500 })   // Answer::Done
+//! carry_out(&mut machine, &Command::SetI { address: 4000 })  // Answer::Refused(Refusal::Address)
+//! ```
 #![tactic(auto)]
 
 // the machine's parts, and what an operator does at them
@@ -35,6 +43,8 @@ pub mod stepping;
 
 // what each kind of operation does
 mod branch_steps;
+// what an operator asks of it
+pub mod carrying;
 mod device_steps;
 mod field_steps;
 mod io_request;
@@ -42,10 +52,12 @@ mod marking;
 mod register_steps;
 pub mod tape;
 
+pub use carrying::carry_out;
 pub use fetched::{InstructionCells, instruction_cells};
 pub use fitting::fitting_law;
 pub use frame::step_law;
 pub use machine::Machine;
-pub use machine_panel::{Feature, Features, Regs, Stop, SwitchName};
+pub use machine_commands::{Answer, Command, Refusal};
+pub use machine_tables::{Feature, Features, Regs, Stop, SwitchName};
 pub use running::Ran;
 pub use tape::{CONTROL_LETTERS, TRANSFER_LETTERS, is_tape_letter, tape_unit_at};

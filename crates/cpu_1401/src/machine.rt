@@ -10,7 +10,7 @@ use crate::fitted_cache::FittedCache;
 use bcd_1401::{Cell, Char};
 use core_1401::{Core, CoreFault};
 use devices_1401::{Devices, Movement};
-use machine_panel::{Features, Regs};
+use machine_tables::{Features, Regs};
 use std::alloc::Global;
 use std::marker::Model;
 

@@ -9,16 +9,15 @@ ghost use Rattle.fields_1401.specs.Marks.{clear_down_at, clear_marks_at, set_mar
 ghost use Rattle.fields_1401.specs.Outcome.{CarriesOut};
 ghost use Rattle.fields_1401.specs.Places.{marks_of};
 ghost use Rattle.fields_1401.specs.Suppress.{suppress_at};
-ghost use Rattle.machine_products.specs.Products.{product_at};
-ghost use Rattle.machine_products.specs.Quotients.{quotient_at};
+ghost use Rattle.fields_1401.specs.Products.{product_at};
+ghost use Rattle.fields_1401.specs.Quotients.{quotient_at};
 
 use crate::decode_cache::DecodeCache;
 use core_1401::Core;
 use fields_1401::{
-    Done, FieldStop, clear_down, clear_marks_within, edit, load_chars, set_marks_within, step_down,
-    suppress,
+    Done, FieldStop, clear_down, clear_marks_within, divide, dividend_len, edit, load_chars,
+    multiply, set_marks_within, step_down, suppress,
 };
-use machine_products::{divide, dividend_len, multiply};
 
 /// Sets the word marks at both addresses. What is cached there is forgotten last: fewer values have to outlast that call.
 #[inline(always)]

@@ -8,7 +8,7 @@ use crate::instruction::Instruction;
 use crate::machine::Machine;
 use core_1401::{Core, encode};
 use fields_1401::step_down;
-use machine_panel::Stop;
+use machine_tables::Stop;
 
 impl Machine {
     /// Stores an address in the three places that end at the A address. The word marks there stay, and so does the zone

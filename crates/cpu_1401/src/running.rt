@@ -3,7 +3,7 @@ ghost use Rattle.std.specs.Prelude.{◌≡◌, ◌<◌, ◌≤◌, length};
 ghost use Rattle.cpu_1401.specs.Run.{carried_out_by, most_steps, run_for};
 
 use crate::machine::Machine;
-use machine_panel::Stop;
+use machine_tables::Stop;
 
 /// How a run ended.
 #[derive(Clone, Copy, Debug, PartialEq, Eq)]

@@ -9,7 +9,7 @@ ghost use Rattle.cpu_1401.specs.NeededPlaces.{HasPlaces};
 ghost use Rattle.cpu_1401.specs.Step.{perform, step};
 ghost use Rattle.cpu_1401.specs.Decoded.{Says, Serve};
 ghost use Rattle.cpu_1401.specs.Stepped.{stopped};
-ghost use Rattle.machine_panel.specs.Features.{no_features};
+ghost use Rattle.machine_tables.specs.Features.{no_features};
 
 use crate::decoded::{Addressing, Decoded, has_b};
 use crate::instruction::Instruction;
@@ -21,8 +21,7 @@ use fields_1401::{
     add_within, move_chars_within, move_digit_within, move_zone_within, subtract_within,
     zero_add_within, zero_subtract_within,
 };
-use machine_operations::{Fitted, Operation};
-use machine_panel::Stop;
+use machine_tables::{Fitted, Operation, Stop};
 
 impl Machine {
     /// Carries out the instruction at the I register, as far as the machine is fitted for it, or says why it can't. A

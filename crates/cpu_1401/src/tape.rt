@@ -7,8 +7,7 @@ use crate::instruction::Instruction;
 use crate::machine::Machine;
 use bcd_1401::Char;
 use core_1401::Core;
-use machine_operations::{TapeUnit, tape_unit_named};
-use machine_panel::Stop;
+use machine_tables::{Stop, TapeUnit, tape_unit_named};
 
 /// The graphics of the d-characters by which a record is read or written.
 pub const TRANSFER_LETTERS: &[u8] = b"RW";

@@ -2,7 +2,7 @@
 ghost use Rattle.std.specs.Prelude.{◌≡◌};
 ghost use Rattle.fields_1401.specs.Outcome.{field_stop_number, stop_of};
 
-use machine_panel::Stop;
+use machine_tables::Stop;
 use thiserror::Error;
 
 /// What an operation on fields leaves beside the core.

@@ -1,9 +1,9 @@
 -- How a run of the program ends (own).
 use Rattle.std.specs.Prelude.{ℕ, ⊤, Result, Ok, Err}
-use Rattle.program_assemble.specs.declared.fault.AssembleFault.{AssembleFault}
-use Rattle.program_assemble.specs.declared.fault.AssembleFault.TheVariants as assemble
-use Rattle.program_reel.specs.declared.fault.ReelFault.{ReelFault}
-use Rattle.program_reel.specs.declared.fault.ReelFault.TheVariants as reel
+use Rattle.program_convert.specs.declared.fault.AssembleFault.{AssembleFault}
+use Rattle.program_convert.specs.declared.fault.AssembleFault.TheVariants as assemble
+use Rattle.program_convert.specs.declared.reel_fault.ReelFault.{ReelFault}
+use Rattle.program_convert.specs.declared.reel_fault.ReelFault.TheVariants as reel
 use Rattle.program_run.specs.declared.fault.RunFault.{RunFault}
 use Rattle.program_run.specs.declared.fault.RunFault.TheVariants as job
 use Rattle.ibm1401.specs.declared.fault.Fault.{Fault}

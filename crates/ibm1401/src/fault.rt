@@ -3,12 +3,10 @@ ghost use Rattle.std.specs.Prelude.{◌≡◌};
 ghost use Rattle.ibm1401.specs.Status.{run_status, status_of};
 
 use clap::Error as Refusal;
-use program_assemble::AssembleFault;
+use program_convert::{AssembleFault, ReelFault};
 use program_operate::OperateFault;
-use program_reel::ReelFault;
-use program_rooms::OpenFault;
+use program_rooms::{HoldFault, OpenFault};
 use program_run::RunFault;
-use program_sessions::HoldFault;
 use thiserror::Error;
 
 /// The status of a command line that can't be read, or that names one file twice.

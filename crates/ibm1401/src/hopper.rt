@@ -1,8 +1,8 @@
 //! The cards that are in the hopper before operators come.
 
 use crate::fault::Fault;
+use bcd_1401::Graphics;
 use devices_1401::{Card, MOST_HELD};
-use machine_graphics::Graphics;
 use program_run::{list_cards, read_cards};
 use std::rt::Files;
 

@@ -18,16 +18,17 @@ use crate::fault::{Fault, report};
 use crate::help::tell;
 use crate::hopper::cards_of;
 use crate::terminal::FromTerminal;
-use bytes_files::hold_closed_streams;
-use machine_graphics::Graphics;
+use bcd_1401::Graphics;
+use bytes_descriptors::hold_closed_streams;
 use program_arguments::read_call;
-use program_assemble::{assemble_file, check_size, disassemble_deck, disassemble_file};
 use program_call::{Call, Operating, Parity, ReelTask, Reeling, Seating};
+use program_convert::{
+    assemble_file, check_names, check_size, disassemble_deck, disassemble_file, list_reel,
+    write_reel, write_reel_deck,
+};
 use program_operate::operate_at;
-use program_reel::{check_names, list_reel, write_reel, write_reel_deck};
-use program_rooms::{machine_of, open_room, open_seats};
+use program_rooms::{hold_session, journal_file, machine_of, open_room, open_seats};
 use program_run::{read_cards, run_file};
-use program_sessions::{hold_session, journal_file};
 use std::fs::File;
 use std::io::{IsTerminal, StdinLock};
 use std::net::{Net, TcpListener, TcpStream};

@@ -2,7 +2,7 @@
 ghost use Rattle.std.specs.Prelude.{◌≡◌, ◌⊎◌, OnErr};
 
 use crate::fault::Fault;
-use bytes_files::{FileFault, read_whole};
+use bytes_descriptors::{FileFault, read_whole};
 use clap::Error;
 use std::rt::Files;
 use std::str;

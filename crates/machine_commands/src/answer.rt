@@ -4,7 +4,7 @@ ghost use Rattle.machine_commands.specs.RefusalText.{refusal_number, refusal_tex
 
 use core_1401::Cells;
 use devices_1401::{Card, PrintLine};
-use machine_panel::{Regs, Stop};
+use machine_tables::{Regs, Stop};
 use std::fmt;
 use thiserror::Error;
 

@@ -2,7 +2,7 @@
 
 use core_1401::Cells;
 use devices_1401::Card;
-use machine_panel::{Features, SwitchName};
+use machine_tables::{Features, SwitchName};
 
 /// What an operator asks of the machine. An address may be any number; one that isn't in core is refused.
 #[derive(Clone, Copy, Debug, PartialEq, Eq)]

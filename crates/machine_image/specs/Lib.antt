@@ -1,7 +1,9 @@
 pub mod Fault
 pub mod Image
 pub mod ImageText
+pub mod Left
 pub mod Lent
+pub mod Loading
 pub mod Reading
 pub mod Refusal
 pub mod Version

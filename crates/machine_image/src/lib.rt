@@ -8,6 +8,16 @@
 //! write_image(alloc, &image)?             // the same text
 //! put_segment(&mut text, Version::Two, &segment)?     // one line of it
 //! ```
+//!
+//! An operator fits the machine with features, and loads an image, by commands:
+//!
+//! ```text
+//! let mut commands = LoadCommands::of_lent(&lend_image(b"IMAGE2 04000\n00400 02 ~HI\nEND 00400\n")?);
+//! commands.next()   // Command::Deposit { address: 400, cells }: H with a word mark, and I
+//! commands.next()   // Command::SetI { address: 400 }
+//! commands.next()   // None
+//! fit_command(Features::NONE)   // None
+//! ```
 #![tactic(auto)]
 
 // an image, the version of its text, and why a text is none
@@ -19,7 +29,13 @@ pub mod version;
 pub mod reading;
 pub mod writing;
 
+// the commands that fit a machine, and load an image
+pub mod commands;
+pub mod fitting;
+
+pub use commands::LoadCommands;
 pub use fault::ImageFault;
+pub use fitting::fit_command;
 pub use image::{Image, Segment, Segments};
 pub use reading::{LentImage, lend_image, read_image};
 pub use version::Version;

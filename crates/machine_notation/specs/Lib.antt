@@ -1,6 +1,10 @@
+pub mod Address
 pub mod Bytes
 pub mod Cells
 pub mod Characters
 pub mod Digits
+pub mod InstructionText
+pub mod Mnemonic
 pub mod Prefix
 pub mod Room
+pub mod ShownText

@@ -8,9 +8,9 @@ use Rattle.std.proofs.lemmas.Bool.Decides.{nat_tests}
 use Rattle.std.proofs.lemmas.List.{get_or-set_same, take_more}
 use Rattle.bcd_1401.specs.declared.cell.Cell.{Cell}
 use Rattle.core_1401.specs.Storage.{Storage, blank, cell_at, is_in_core}
-use Rattle.machine_panel.specs.declared.stop.Stop.TheVariants as stop
-use Rattle.machine_products.specs.Records.{above_by}
-use Rattle.machine_reels.specs.Reel.{after_write, room_in}
+use Rattle.machine_tables.specs.declared.stop.Stop.TheVariants as stop
+use Rattle.fields_1401.specs.Records.{above_by}
+use Rattle.machine_tapes.specs.Reel.{after_write, room_in}
 use Rattle.cpu_1401.specs.State.{State}
 use Rattle.machine_tapes.specs.TapeText.{cells_read, text_of}
 use Rattle.machine_tapes.specs.TapesLaw.{IsCopied}

@@ -8,22 +8,22 @@ use Rattle.std.proofs.lemmas.List.Sums.{prefix_len-le-length}
 use Rattle.bcd_1401.specs.declared.cell.Cell.{Cell}
 use Rattle.bcd_1401.specs.Graphic.{graphics}
 use Rattle.core_1401.specs.Storage.{Storage, cell_at, is_in_core}
-use Rattle.machine_operations.specs.Rows.{meaning_in}
-use Rattle.machine_operations.specs.declared.fitted.Fitted.{Fitted}
-use Rattle.machine_operations.specs.declared.fitted.Fitted.TheVariants as fitted
-use Rattle.machine_operations.specs.Fitted.{fitted_in}
-use Rattle.machine_panel.specs.declared.features.Features.{Features}
-use Rattle.machine_panel.specs.declared.stop.Stop.{Stop}
-use Rattle.machine_panel.specs.declared.stop.Stop.TheVariants.{Tape}
+use Rattle.machine_tables.specs.Rows.{meaning_in}
+use Rattle.machine_tables.specs.declared.fitted.Fitted.{Fitted}
+use Rattle.machine_tables.specs.declared.fitted.Fitted.TheVariants as fitted
+use Rattle.machine_tables.specs.Fitted.{fitted_in}
+use Rattle.machine_tables.specs.declared.features.Features.{Features}
+use Rattle.machine_tables.specs.declared.stop.Stop.{Stop}
+use Rattle.machine_tables.specs.declared.stop.Stop.TheVariants.{Tape}
 use Rattle.cpu_1401.specs.Fetched.{cells_at, instruction_at, next_instruction}
 use Rattle.cpu_1401.specs.Fitting.{fitted_at, fitted_instruction, fitted_step, perform_fitted}
 use Rattle.cpu_1401.specs.Instruction.{begins_at}
 use Rattle.cpu_1401.specs.State.{State}
 use Rattle.cpu_1401.specs.Stepped.{Stepped, stopped}
 use Rattle.cpu_1401.specs.Tape.{control_letters, graphic_at, is_letter, tape_stop_by, transfer_letters, unit_at}
-use Rattle.machine_operations.specs.TapeUnit.{unit_named}
+use Rattle.machine_tables.specs.TapeUnit.{unit_named}
 use Rattle.cpu_1401.specs.declared.instruction.Instruction.{Instruction}
-use Rattle.machine_operations.specs.declared.tape_unit.TapeUnit.{TapeUnit}
+use Rattle.machine_tables.specs.declared.tape_unit.TapeUnit.{TapeUnit}
 use Rattle.cpu_1401.proofs.FittingLemmas.{claimed_step}
 use Rattle.machine_tapes.specs.Instruction.{asking, asking_as, controls, tape_instruction, transfers, work_of}
 use Rattle.machine_tapes.specs.TapedStep.{branch_graphic, file_graphic, graphic_in, is_file_branch}

@@ -1,11 +1,25 @@
+pub mod AddLemmas
+pub mod BlockLemmas
+pub mod BodyLemmas
 pub mod CellLemmas
 pub mod CopyLemmas
+pub mod FrontLemmas
+pub mod GrammarLemmas
+pub mod HeldLemmas
 pub mod InstructionLemmas
 pub mod LawLemmas
 pub mod LoadLemmas
+pub mod MoveLemmas
+pub mod PassedLemmas
 pub mod ReadLemmas
+pub mod RecordLemmas
+pub mod ReelExamples
+pub mod ReelLemmas
 pub mod RunLemmas
 pub mod StopLemmas
+pub mod TapExamples
+pub mod TapReadLemmas
+pub mod TapWriteLemmas
 mod TapeExamples
 pub mod TapedFrameLemmas
 pub mod TextLemmas

@@ -1,7 +1,7 @@
 -- The key that loads from tape, if there is no unit or no record.
 use Rattle.std.proofs.Common.{◌≡◌, ℕ, Option, None, Some, Ok, Err, refl, ap}
-use Rattle.machine_panel.specs.declared.stop.Stop.{Stop}
-use Rattle.machine_panel.specs.declared.stop.Stop.TheVariants.{Tape}
+use Rattle.machine_tables.specs.declared.stop.Stop.{Stop}
+use Rattle.machine_tables.specs.declared.stop.Stop.TheVariants.{Tape}
 use Rattle.machine_tapes.specs.Drive.{no_reel}
 use Rattle.machine_tapes.specs.TapeLoading.{loaded_from, loading}
 use Rattle.machine_tapes.specs.TapedStep.{TapedStepped, after_work}

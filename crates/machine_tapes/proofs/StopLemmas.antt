@@ -11,13 +11,13 @@ use Rattle.fields_1401.specs.declared.done.Done.{Done}
 use Rattle.fields_1401.specs.declared.done.FieldStop.{FieldStop}
 use Rattle.fields_1401.specs.Load.{has_places}
 use Rattle.fields_1401.specs.Outcome.{Outcome}
-use Rattle.machine_operations.specs.Operation.{operation_of, is_unfitted_length, has_length}
-use Rattle.machine_operations.specs.declared.fitted.Fitted.{Fitted}
-use Rattle.machine_operations.specs.declared.fitted.Fitted.TheVariants as fitted
-use Rattle.machine_operations.specs.declared.operation.Operation.{Operation}
-use Rattle.machine_operations.specs.declared.operation.Operation.TheVariants as op
-use Rattle.machine_panel.specs.declared.stop.Stop.{Stop}
-use Rattle.machine_panel.specs.declared.stop.Stop.TheVariants.{Tape}
+use Rattle.machine_tables.specs.Operation.{operation_of, is_unfitted_length, has_length}
+use Rattle.machine_tables.specs.declared.fitted.Fitted.{Fitted}
+use Rattle.machine_tables.specs.declared.fitted.Fitted.TheVariants as fitted
+use Rattle.machine_tables.specs.declared.operation.Operation.{Operation}
+use Rattle.machine_tables.specs.declared.operation.Operation.TheVariants as op
+use Rattle.machine_tables.specs.declared.stop.Stop.{Stop}
+use Rattle.machine_tables.specs.declared.stop.Stop.TheVariants.{Tape}
 use Rattle.cpu_1401.specs.Branch.{after_branch, branch_on_cell, has_char, passes}
 use Rattle.cpu_1401.specs.CardsAndPrinter.{after_cards, after_control, after_write, after_work, all_three, asks}
 use Rattle.cpu_1401.specs.CardsAndPrinter.{beyond_last, beyond_print_area, first_io_stop, has_d, line_alone, lozenge}

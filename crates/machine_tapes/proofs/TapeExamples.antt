@@ -5,11 +5,11 @@ use Rattle.std.specs.Prelude.{codes}
 use Rattle.bcd_1401.specs.Graphic.{graphics}
 use Rattle.bcd_1401.specs.declared.cell.Cell.{Cell}
 use Rattle.core_1401.specs.Storage.{Storage, blanks}
-use Rattle.machine_panel.specs.Features.{no_features, with_feature}
-use Rattle.machine_panel.specs.declared.features.Feature.TheVariants as feature
-use Rattle.machine_panel.specs.declared.stop.Stop.{Stop}
-use Rattle.machine_panel.specs.declared.stop.Stop.TheVariants as stop
-use Rattle.machine_reels.specs.Reel.{mounted, records_of, tape_mark}
+use Rattle.machine_tables.specs.Features.{no_features, with_feature}
+use Rattle.machine_tables.specs.declared.features.Feature.TheVariants as feature
+use Rattle.machine_tables.specs.declared.stop.Stop.{Stop}
+use Rattle.machine_tables.specs.declared.stop.Stop.TheVariants as stop
+use Rattle.machine_tapes.specs.Reel.{mounted, records_of, tape_mark}
 use Rattle.cpu_1401.specs.Fetched.{instruction_at}
 use Rattle.cpu_1401.specs.Fitting.{fitted_step}
 use Rattle.cpu_1401.specs.State.{State, fitted_with}

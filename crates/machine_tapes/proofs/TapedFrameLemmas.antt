@@ -3,11 +3,11 @@ use Rattle.std.proofs.Common.{◌≡◌, ℕ, ◌+◌, ◌==◌, Bool, true, fal
 use Rattle.std.proofs.Common.{refl, sym, ◌∙◌, ap, subst, arith, length, take, drop}
 use Rattle.std.specs.Prelude.{if◌then◌else◌, nat_le, slice_get}
 use Rattle.devices_1401.specs.Devices.{Devices}
-use Rattle.machine_panel.specs.declared.stop.Stop.TheVariants as stop
-use Rattle.machine_products.specs.Records.{above_by}
+use Rattle.machine_tables.specs.declared.stop.Stop.TheVariants as stop
+use Rattle.fields_1401.specs.Records.{above_by}
 use Rattle.core_1401.specs.Storage.{Storage}
-use Rattle.machine_reels.specs.Reel.{after_write, room_in}
-use Rattle.machine_operations.specs.declared.fitted.Fitted.{Fitted}
+use Rattle.machine_tapes.specs.Reel.{after_write, room_in}
+use Rattle.machine_tables.specs.declared.fitted.Fitted.{Fitted}
 use Rattle.cpu_1401.specs.Fitting.{fitted_at, fitted_instruction, fitted_step}
 use Rattle.cpu_1401.specs.CardsAndPrinter.{with_devices}
 use Rattle.cpu_1401.specs.Frame.{Frame, IsUnseen, StepLaw, UsesOne, framed}

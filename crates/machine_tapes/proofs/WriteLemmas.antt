@@ -12,8 +12,8 @@ use Rattle.std.proofs.lemmas.List.Sums.{position_or_len_is, sum_by-cons}
 use Rattle.bcd_1401.specs.declared.cell.Cell.{Cell}
 use Rattle.core_1401.specs.Places.{chars_of}
 use Rattle.core_1401.specs.Storage.{Storage, blank, cell_at}
-use Rattle.machine_reels.specs.Reel.{Reel, after_write, characters_in, room_in}
-use Rattle.machine_products.specs.Records.{group_mark}
+use Rattle.machine_tapes.specs.Reel.{Reel, after_write, characters_in, room_in}
+use Rattle.fields_1401.specs.Records.{group_mark}
 use Rattle.machine_tapes.specs.TapeText.{has_marks, separator, text_of, text_of_cell, written_char}
 use Rattle.machine_tapes.specs.Transfer.{ends_record, record_len_at}
 use Rattle.machine_tapes.specs.declared.work.TapeMode.{TapeMode}

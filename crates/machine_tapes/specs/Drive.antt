@@ -1,7 +1,7 @@
 -- Tape units: the reel on each, and what the machine asks of it (A24-1403, "Magnetic Tape", from memory; own is a reel
 -- without room in place of none).
 use Rattle.std.specs.Prelude.{Bool, true, false, []}
-use Rattle.machine_reels.specs.Reel.{Reel, mounted}
+use Rattle.machine_tapes.specs.Reel.{Reel, mounted}
 use Rattle.machine_tapes.specs.declared.drive.Drive.{Drive}
 
 -- a unit without a reel

@@ -1,14 +1,14 @@
 -- The tape instruction at the I register (A24-1403, "Magnetic Tape", from memory).
 use Rattle.std.specs.Prelude.{ℕ, ◌+◌, List, [], ◌∷◌, Option, None, Some, codes, slice_index}
 use Rattle.bcd_1401.specs.Graphic.{graphics}
-use Rattle.machine_operations.specs.Rows.{meaning_in, row}
-use Rattle.machine_operations.specs.declared.fitted.Fitted.{Fitted}
-use Rattle.machine_operations.specs.declared.fitted.Fitted.TheVariants as fitted
+use Rattle.machine_tables.specs.Rows.{meaning_in, row}
+use Rattle.machine_tables.specs.declared.fitted.Fitted.{Fitted}
+use Rattle.machine_tables.specs.declared.fitted.Fitted.TheVariants as fitted
 use Rattle.cpu_1401.specs.Fitting.{fitted_at, fitted_instruction}
 use Rattle.cpu_1401.specs.State.{State}
 use Rattle.cpu_1401.specs.Tape.{unit_at}
 use Rattle.cpu_1401.specs.declared.instruction.Instruction.{Instruction}
-use Rattle.machine_operations.specs.declared.tape_unit.TapeUnit.{TapeUnit}
+use Rattle.machine_tables.specs.declared.tape_unit.TapeUnit.{TapeUnit}
 use Rattle.machine_tapes.specs.declared.work.TapeInstruction.{TapeInstruction}
 use Rattle.machine_tapes.specs.declared.work.TapeMode.{TapeMode}
 use Rattle.machine_tapes.specs.declared.work.TapeMode.TheVariants.{Move, Load}

@@ -1,5 +1,11 @@
 pub mod Drive
+pub mod Front
+pub mod Held
 pub mod Instruction
+pub mod Reel
+pub mod TapGrammar
+pub mod TapReading
+pub mod TapText
 pub mod TapeLoading
 pub mod TapeText
 pub mod TapedFrame

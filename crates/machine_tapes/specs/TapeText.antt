@@ -3,7 +3,7 @@
 use Rattle.std.specs.Prelude.{ℕ, ◌==◌, ◌&&◌, ◌||◌, not, Bool, true, false, List, [], ◌∷◌, slice_index_or, if◌then◌else◌}
 use Rattle.std.specs.List.{flat_map}
 use Rattle.bcd_1401.specs.declared.cell.Cell.{Cell}
-use Rattle.machine_reels.specs.Reel.{is_tape_mark, mark_char}
+use Rattle.machine_tapes.specs.Reel.{is_tape_mark, mark_char}
 use Rattle.machine_tapes.specs.declared.work.TapeMode.{TapeMode}
 use Rattle.machine_tapes.specs.declared.work.TapeMode.TheVariants.{Move, Load}
 

@@ -1,7 +1,7 @@
 -- Steps until a machine with tape units stops (own).
 use Rattle.std.specs.Prelude.{ℕ, ◌+◌, zero, suc, option_map, unwrap_or}
-use Rattle.machine_panel.specs.declared.stop.Stop.{Stop}
-use Rattle.machine_panel.specs.declared.stop.Stop.TheVariants as stop
+use Rattle.machine_tables.specs.declared.stop.Stop.{Stop}
+use Rattle.machine_tables.specs.declared.stop.Stop.TheVariants as stop
 use Rattle.cpu_1401.specs.Run.{Finished, carried_out_by}
 use Rattle.machine_tapes.specs.TapedStep.{TapedStepped, taped_step}
 use Rattle.machine_tapes.specs.Tapes.{Tapes}

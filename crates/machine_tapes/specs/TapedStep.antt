@@ -4,8 +4,8 @@ use Rattle.std.specs.Prelude.{slice_index, slice_index_or, if◌then◌else◌}
 use Rattle.bcd_1401.specs.Graphic.{graphics}
 use Rattle.bcd_1401.specs.declared.cell.Cell.{Cell}
 use Rattle.core_1401.specs.Storage.{blank}
-use Rattle.machine_operations.specs.declared.operation.Operation.TheVariants.{Branch}
-use Rattle.machine_panel.specs.declared.stop.Stop.{Stop}
+use Rattle.machine_tables.specs.declared.operation.Operation.TheVariants.{Branch}
+use Rattle.machine_tables.specs.declared.stop.Stop.{Stop}
 use Rattle.cpu_1401.specs.Branch.{branch_to}
 use Rattle.cpu_1401.specs.Fetched.{next_instruction}
 use Rattle.cpu_1401.specs.Fitting.{fitted_step}

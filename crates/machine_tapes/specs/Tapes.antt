@@ -1,6 +1,6 @@
 -- The tape units of a machine (A24-1403, "Magnetic Tape", from memory).
 use Rattle.std.specs.Prelude.{ℕ, ◌-◌, ◌==◌, ◌&&◌, Bool, false, List, replicate, slice_index_or, slice_set, if◌then◌else◌}
-use Rattle.machine_operations.specs.TapeUnit.{tape_units}
+use Rattle.machine_tables.specs.TapeUnit.{tape_units}
 use Rattle.machine_tapes.specs.Drive.{no_reel}
 use Rattle.machine_tapes.specs.declared.drive.Drive.{Drive}
 

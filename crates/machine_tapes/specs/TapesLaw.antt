@@ -4,7 +4,7 @@ use Rattle.std.specs.Prelude.{slice_index_or}
 use Rattle.std.specs.List.{list_all}
 use Rattle.bcd_1401.specs.declared.cell.Cell.{Cell}
 use Rattle.core_1401.specs.Storage.{cell_at}
-use Rattle.machine_reels.specs.Reel.{after_write, room_in}
+use Rattle.machine_tapes.specs.Reel.{after_write, room_in}
 use Rattle.cpu_1401.specs.Run.{run_for}
 use Rattle.cpu_1401.specs.State.{State}
 use Rattle.machine_tapes.specs.TapeText.{cells_read, even_blank, separator, text_of}

@@ -4,10 +4,10 @@ use Rattle.std.specs.Prelude.{ℕ, ◌+◌, ◌==◌, ◌&&◌, ◌||◌, nat_le
 use Rattle.std.specs.Prelude.{Some, Result, Ok, Err, position, slice_get, slice_set, if◌then◌else◌}
 use Rattle.bcd_1401.specs.declared.cell.Cell.{Cell}
 use Rattle.core_1401.specs.Storage.{Storage, cell_at, is_in_core}
-use Rattle.machine_panel.specs.declared.stop.Stop.{Stop}
-use Rattle.machine_panel.specs.declared.stop.Stop.TheVariants as stop
-use Rattle.machine_products.specs.Records.{above_by, group_mark}
-use Rattle.machine_reels.specs.Reel.{Reel, after_backspace, after_pass, after_rewind, after_write, room_in, tape_mark}
+use Rattle.machine_tables.specs.declared.stop.Stop.{Stop}
+use Rattle.machine_tables.specs.declared.stop.Stop.TheVariants as stop
+use Rattle.fields_1401.specs.Records.{above_by, group_mark}
+use Rattle.machine_tapes.specs.Reel.{Reel, after_backspace, after_pass, after_rewind, after_write, room_in, tape_mark}
 use Rattle.cpu_1401.specs.State.{State}
 use Rattle.machine_tapes.specs.TapeText.{cells_read, ends_file, text_of}
 use Rattle.machine_tapes.specs.declared.drive.Drive.{Drive}

@@ -2,7 +2,7 @@
 ghost use Rattle.std.specs.Prelude.{◌≡◌, IfOk};
 ghost use Rattle.machine_tapes.specs.Drive.{no_reel};
 
-use machine_reels::Reel;
+use crate::Reel;
 use std::alloc::{AllocError, Global};
 
 /// A tape unit, and the reel that was mounted on it (A24-1403, "Magnetic Tape", from memory).

@@ -6,9 +6,9 @@ ghost use Rattle.core_1401.specs.Storage.{cell_at};
 ghost use Rattle.cpu_1401.specs.Fetched.{cells_at};
 ghost use Rattle.cpu_1401.specs.Fitting.{fitted_at};
 ghost use Rattle.cpu_1401.specs.Instruction.{begins_at, instruction_of};
-ghost use Rattle.machine_operations.specs.TapeUnit.{tape_units};
-ghost use Rattle.machine_operations.specs.Rows.{meaning_in};
-ghost use Rattle.machine_operations.specs.declared.operation.Operation.TheVariants.{Add};
+ghost use Rattle.machine_tables.specs.TapeUnit.{tape_units};
+ghost use Rattle.machine_tables.specs.Rows.{meaning_in};
+ghost use Rattle.machine_tables.specs.declared.operation.Operation.TheVariants.{Add};
 ghost use Rattle.machine_tapes.specs.Instruction.{asking_as, controls, tape_instruction, transfers, work_of};
 
 use crate::registers::step_up;
@@ -16,7 +16,7 @@ use crate::work::{TapeInstruction, TapeMode, TapeWork};
 use bcd_1401::Char;
 use core_1401::Core;
 use cpu_1401::{Machine, instruction_cells, tape_unit_at};
-use machine_operations::{Fitted, fitted_in};
+use machine_tables::{Fitted, fitted_in};
 
 /// The tape instruction at the I register; `None` if there is no good one, or the machine isn't fitted for it.
 #[tactic(auto, unfolding(crate::specs::Instruction::tape_instruction))]

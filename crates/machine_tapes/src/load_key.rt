@@ -5,7 +5,7 @@ ghost use Rattle.machine_tapes.specs.TapeLoading.{loaded_from, loading};
 use crate::taped_machine::TapedMachine;
 use crate::work::{TapeInstruction, TapeMode, TapeWork};
 use cpu_1401::Stop;
-use machine_operations::TapeUnit;
+use machine_tables::TapeUnit;
 
 /// Where a record is loaded, and where the next instruction is then.
 const LOADED_AT: u16 = 1;

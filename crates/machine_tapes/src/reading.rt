@@ -10,10 +10,10 @@ use crate::drive::Drive;
 use crate::registers::{go_on, step_up};
 use crate::tape_text::{GROUP_MARK, char_of, ends_file, ends_record, read_char};
 use crate::work::{TapeInstruction, TapeMode};
+use crate::{Reel, TapeRecord};
 use bcd_1401::Cell;
 use core_1401::Core;
 use cpu_1401::{Machine, Stop};
-use machine_reels::{Reel, TapeRecord};
 
 /// Reads the next record into the places from b up.
 pub(crate) fn read_record(

@@ -1,7 +1,7 @@
 //! The registers after a tape instruction.
 ghost use Rattle.std.specs.Prelude.{◌≡◌, ◌<◌, ◌≤◌};
 ghost use Rattle.core_1401.specs.Address.{addresses};
-ghost use Rattle.machine_products.specs.Records.{above_by};
+ghost use Rattle.fields_1401.specs.Records.{above_by};
 
 use core_1401::ADDRESSES;
 use cpu_1401::Machine;

@@ -3,9 +3,9 @@ ghost use Rattle.std.specs.Prelude.{◌≡◌, ◌<◌, length};
 ghost use Rattle.machine_tapes.specs.TapeText.{ends_file, has_marks, is_separator, read_char, written_char};
 ghost use Rattle.machine_tapes.specs.Transfer.{ends_record};
 
+use crate::TapeRecord;
 use crate::work::TapeMode;
 use bcd_1401::{Cell, Char};
-use machine_reels::TapeRecord;
 
 /// The code of the A bit alone, which is a blank in even parity.
 const EVEN_BLANK: u8 = 16;

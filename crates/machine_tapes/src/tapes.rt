@@ -2,19 +2,19 @@
 ghost use Rattle.std.specs.Prelude.{◌≡◌, ◌≢◌, ◌<◌, ◌≤◌, IfOk, IfSome, false, length, true};
 ghost use Rattle.core_1401.specs.Address.{addresses};
 ghost use Rattle.cpu_1401.specs.Run.{carried_out_by};
-ghost use Rattle.machine_operations.specs.TapeUnit.{tape_units};
+ghost use Rattle.machine_tables.specs.TapeUnit.{tape_units};
 ghost use Rattle.machine_tapes.specs.Drive.{mounted_on, no_reel};
 ghost use Rattle.machine_tapes.specs.TapedStep.{after_work};
 ghost use Rattle.machine_tapes.specs.Tapes.{is_latched, no_tapes, unit_of, with_unit, without_latch};
 ghost use Rattle.machine_tapes.specs.Transfer.{work_at};
 ghost use Rattle.machine_tapes.specs.declared.taped_machine.TapedMachine.{TapedMachine};
 
+use crate::Reel;
 use crate::drive::Drive;
 use crate::work::TapeInstruction;
 use crate::working::work_at;
 use cpu_1401::{Machine, Stop};
-use machine_operations::TAPE_UNITS;
-use machine_reels::Reel;
+use machine_tables::TAPE_UNITS;
 use std::alloc::{AllocError, Global};
 use std::marker::Model;
 
@@ -27,7 +27,7 @@ pub struct Tapes {
 
 impl Model for Tapes {
     ghost use Rattle.std.specs.Prelude.{◌≡◌, ◌≤◌, length};
-    ghost use Rattle.machine_operations.specs.TapeUnit.{tape_units};
+    ghost use Rattle.machine_tables.specs.TapeUnit.{tape_units};
     ghost use Rattle.machine_tapes.specs.Tapes.{Tapes};
 
     ghost Value = { Tapes };

@@ -1,6 +1,6 @@
 //! What a tape instruction asks of a unit.
 
-use machine_operations::TapeUnit;
+use machine_tables::TapeUnit;
 
 /// How cells are on tape (A24-1403, "Magnetic Tape", from memory).
 #[derive(Clone, Copy, Debug, PartialEq, Eq)]

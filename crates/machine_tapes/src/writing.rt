@@ -4,11 +4,12 @@ ghost use Rattle.std.specs.Prelude.{false, if◌then◌else◌};
 ghost use Rattle.core_1401.specs.Address.{addresses};
 ghost use Rattle.core_1401.specs.Storage.{cell_at};
 ghost use Rattle.cpu_1401.specs.Run.{carried_out_by};
-ghost use Rattle.machine_reels.specs.Reel.{after_write, room_in};
+ghost use Rattle.machine_tapes.specs.Reel.{after_write, room_in};
 ghost use Rattle.machine_tapes.specs.TapeText.{has_marks, text_of, text_of_cell};
 ghost use Rattle.machine_tapes.specs.Transfer.{drive_after, ends_record, machine_after, record_len_at, stop_after};
 ghost use Rattle.machine_tapes.specs.Transfer.{write_from};
 
+use crate::Reel;
 use crate::drive::Drive;
 use crate::registers::{go_on, step_up};
 use crate::tape_text::{GROUP_MARK, ends_record, separator, written_char};
@@ -16,7 +17,6 @@ use crate::work::{TapeInstruction, TapeMode};
 use bcd_1401::{Cell, Char};
 use core_1401::Core;
 use cpu_1401::{Machine, Stop};
-use machine_reels::Reel;
 
 /// Writes the cells from b up to the first group mark with a word mark as a record.
 pub(crate) fn write_record(

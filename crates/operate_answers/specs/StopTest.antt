@@ -1,11 +1,11 @@
 -- What a break or a watch remembers, and whether the last step met it (own).
 use Rattle.std.specs.Prelude.{◌==◌, ◌&&◌, Bool, false, not, if◌then◌else◌}
 use Rattle.cpu_1401.specs.State.{State}
-use Rattle.operate_scout.specs.Breaks.{arrives, is_met_at, only_after}
-use Rattle.operate_scout.specs.DeviceWatch.{held_by}
-use Rattle.operate_scout.specs.PlaceWatch.{watch_begun, watch_seen}
-use Rattle.operate_scout.specs.declared.breaks.Break.{Break}
-use Rattle.operate_scout.specs.declared.device_watch.DeviceWatch.{DeviceWatch}
+use Rattle.operate_sitting.specs.Breaks.{arrives, is_met_at, only_after}
+use Rattle.operate_sitting.specs.DeviceWatch.{held_by}
+use Rattle.operate_sitting.specs.PlaceWatch.{watch_begun, watch_seen}
+use Rattle.operate_sitting.specs.declared.breaks.Break.{Break}
+use Rattle.operate_sitting.specs.declared.device_watch.DeviceWatch.{DeviceWatch}
 use Rattle.operate_answers.specs.Asked.{is_asked}
 use Rattle.operate_answers.specs.declared.asked.Asked.{Asked}
 use Rattle.operate_answers.specs.declared.stop_test.StopTest.{StopTest}

@@ -18,10 +18,10 @@ use Rattle.operate_program.specs.Value.{address_of}
 use Rattle.operate_program.specs.declared.comparison.Comparison.{Comparison}
 use Rattle.operate_program.specs.declared.fault.PlaceFault.{PlaceFault}
 use Rattle.operate_program.specs.declared.field.Field.{Field}
-use Rattle.operate_scout.specs.PlaceWatch.{watch_begun}
-use Rattle.operate_scout.specs.PlaceWatch as place_watch
-use Rattle.operate_scout.specs.declared.device_watch.Device.{Device}
-use Rattle.operate_scout.specs.declared.device_watch.Device.TheVariants.{Reader, Punch, Printer}
+use Rattle.operate_sitting.specs.PlaceWatch.{watch_begun}
+use Rattle.operate_sitting.specs.PlaceWatch as place_watch
+use Rattle.operate_sitting.specs.declared.device_watch.Device.{Device}
+use Rattle.operate_sitting.specs.declared.device_watch.Device.TheVariants.{Reader, Punch, Printer}
 use Rattle.operate_views.specs.declared.fault.FieldFault.TheVariants.{NoMark}
 use Rattle.operate_answers.specs.StopTest.{is_test_met, test_begun, test_seen}
 use Rattle.operate_answers.specs.declared.asked.Asked.{Asked}

@@ -7,7 +7,7 @@ use cpu_1401::Machine;
 use devices_1401::{Devices, PrintLine};
 use operate_orders::Text;
 use operate_program::Comparison;
-use operate_scout::Condition;
+use operate_sitting::Condition;
 
 /// What must hold where a break is come to, or after a step that uses a device.
 #[derive(Clone, Copy)]

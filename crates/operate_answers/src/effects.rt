@@ -7,7 +7,7 @@ use bytes_text::Text;
 use core_1401::{ADDRESSES, Core};
 use cpu_1401::Machine;
 use devices_1401::{Card, Movement};
-use job_trace::next_change;
+use job_steps::next_change;
 use operate_program::Program;
 use operate_views::{cells_down, put_change, put_comparison, put_labelled};
 use std::alloc::Global;

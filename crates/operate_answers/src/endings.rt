@@ -6,7 +6,7 @@ use crate::stops::{Said, Stops};
 use crate::there::{put_address, put_next};
 use bytes_text::Text;
 use cpu_1401::{Machine, Stop};
-use job_stops::{Reason, halt_address, reason_told};
+use job_steps::{Reason, halt_address, reason_told};
 use operate_program::Program;
 use std::alloc::Global;
 

@@ -13,7 +13,7 @@ use autocoder_statements::word_in;
 use bytes_text::Text;
 use core_1401::{ADDRESSES, encode};
 use cpu_1401::Machine;
-use machine_panel::Feature;
+use machine_tables::Feature;
 use operate_orders::Look;
 use operate_program::Program;
 use operate_views::{put_core, put_paper, put_registers};

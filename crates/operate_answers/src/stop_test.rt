@@ -4,7 +4,7 @@ ghost use Rattle.operate_answers.specs.StopTest.{is_test_met};
 
 use crate::asked::Asked;
 use cpu_1401::Machine;
-use operate_scout::{Break, DeviceWatch, PlaceWatch, Test};
+use operate_sitting::{Break, DeviceWatch, PlaceWatch, Test};
 
 /// The test of a break or a watch.
 #[derive(Drop)]

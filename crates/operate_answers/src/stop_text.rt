@@ -15,7 +15,7 @@ use bytes_text::Text;
 use core_1401::Core;
 use operate_orders::{Condition, Watched};
 use operate_program::Program;
-use operate_scout::PlaceWatch;
+use operate_sitting::PlaceWatch;
 use operate_views::put_labelled;
 use std::alloc::Global;
 

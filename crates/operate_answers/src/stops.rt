@@ -15,7 +15,7 @@ use crate::stop_test::StopTest;
 use cpu_1401::Machine;
 use operate_orders::{Condition, MOST_LISTED, Place, Range, Watched};
 use operate_program::Program;
-use operate_scout::{Break, Device, DeviceWatch, PlaceWatch, Test, begin_each, see_by_each};
+use operate_sitting::{Break, Device, DeviceWatch, PlaceWatch, Test, begin_each, see_by_each};
 use operate_views::FieldFault;
 use std::alloc::Global;
 use std::marker::Model;

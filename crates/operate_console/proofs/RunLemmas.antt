@@ -2,9 +2,9 @@
 use Rattle.std.proofs.Common.{◌≡◌, ℕ, ◌+◌, List, [], ◌∷◌, ◌++◌, refl, sym, ◌∙◌, ap, subst, inl, inr, Option, None}
 use Rattle.std.proofs.Common.{Bool, true, false, ◌||◌}
 use Rattle.std.proofs.lemmas.List.{append-nil}
-use Rattle.operate_scout.specs.RunOf.{answer_of, run_of}
-use Rattle.operate_scout.specs.Search.{search}
-use Rattle.operate_scout.specs.declared.search.Found.{Found}
+use Rattle.operate_sitting.specs.RunOf.{answer_of, run_of}
+use Rattle.operate_sitting.specs.Search.{search}
+use Rattle.operate_sitting.specs.declared.search.Found.{Found}
 use Rattle.operate_sitting.specs.Notes.{Noted, hand_of}
 use Rattle.operate_sitting.specs.Sitting.{SittingAccount, journal_of, machine_of, tending_of, watching}
 use Rattle.operate_sitting.specs.Tending.{CarriedAll, CarriedPart}

@@ -17,7 +17,7 @@ use Rattle.operate_orders.specs.declared.orders.Order.TheVariants as order
 use Rattle.operate_orders.specs.declared.orders.Past.{Past}
 use Rattle.operate_orders.specs.declared.orders.Past.TheVariants as past
 use Rattle.operate_orders.specs.OrderLine.{order_of}
-use Rattle.operate_past.specs.Back.{back_of}
+use Rattle.operate_sitting.specs.Back.{back_of}
 use Rattle.operate_program.specs.Act.{card_in, commands_of}
 use Rattle.operate_program.specs.Known.{Known}
 use Rattle.operate_program.specs.Value.{address_of}

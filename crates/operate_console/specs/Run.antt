@@ -4,16 +4,16 @@ use Rattle.std.specs.Prelude.{◌≡◌, ◌⊎◌, ℕ, ◌+◌, ◌-◌, min, 
 use Rattle.std.specs.Prelude.{Option, None, Some, unwrap_or, Result, Ok, Err}
 use Rattle.cpu_1401.specs.Run.{most_steps}
 use Rattle.cpu_1401.specs.State.{State}
-use Rattle.operate_scout.specs.FullDevices.{wants_hands}
-use Rattle.operate_scout.specs.RunOf.{answer_of, run_of}
-use Rattle.operate_scout.specs.Search.{search}
-use Rattle.operate_scout.specs.declared.breaks.Always.{Always}
-use Rattle.operate_scout.specs.declared.breaks.Break.{Break}
-use Rattle.operate_scout.specs.declared.full_devices.FullDevices.{FullDevices}
-use Rattle.operate_scout.specs.declared.one_of.OneOf.{OneOf}
-use Rattle.operate_scout.specs.declared.search.Found.{Found}
-use Rattle.operate_scout.specs.declared.search.SearchEnd.{SearchEnd}
-use Rattle.operate_scout.specs.declared.search.SearchEnd.TheVariants as end
+use Rattle.operate_sitting.specs.FullDevices.{wants_hands}
+use Rattle.operate_sitting.specs.RunOf.{answer_of, run_of}
+use Rattle.operate_sitting.specs.Search.{search}
+use Rattle.operate_sitting.specs.declared.breaks.Always.{Always}
+use Rattle.operate_sitting.specs.declared.breaks.Break.{Break}
+use Rattle.operate_sitting.specs.declared.full_devices.FullDevices.{FullDevices}
+use Rattle.operate_sitting.specs.declared.one_of.OneOf.{OneOf}
+use Rattle.operate_sitting.specs.declared.search.Found.{Found}
+use Rattle.operate_sitting.specs.declared.search.SearchEnd.{SearchEnd}
+use Rattle.operate_sitting.specs.declared.search.SearchEnd.TheVariants as end
 use Rattle.operate_answers.specs.StopTest.{break_begun, break_seen}
 use Rattle.operate_answers.specs.Stops.{AllStops, is_any_met, stops_begun, stops_counted, stops_seen}
 use Rattle.operate_answers.specs.declared.endings.Ended.{Ended}

@@ -4,7 +4,7 @@ ghost use Rattle.operate_sitting.specs.Sitting.{journal_of};
 ghost use Rattle.operate_sitting.specs.Tending.{carried_on};
 ghost use Rattle.operate_console.specs.Line.{CarriedFirst};
 
-use machine_execution::Command;
+use cpu_1401::Command;
 use operate_sitting::Sitting;
 use room_alone::{Carried, Keeper, RoomFault};
 

@@ -6,7 +6,7 @@ ghost use Rattle.operate_console.specs.Run.{faulted};
 use crate::desk::{FileFault, put_file_fault};
 use crate::ends::OperateEnd;
 use crate::notebook::Notebook;
-use machine_execution::Refusal;
+use cpu_1401::Refusal;
 use operate_answers::{LookFault, put_look_fault, put_order_fault};
 use operate_orders::OrderFault;
 use operate_program::{ActFault, PlaceFault, Program, put_act_fault, put_place_fault};

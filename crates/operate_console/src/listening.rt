@@ -7,7 +7,7 @@ use crate::terminal::Terminal;
 use crate::typed::{Typed, read_line};
 use crate::waiting::Waiting;
 use bytes_streams::Source;
-use operate_past::Interrupter;
+use operate_sitting::Interrupter;
 use std::alloc::{AllocError, Global};
 
 /// How many lines are read at a time.

@@ -12,9 +12,9 @@ use cpu_1401::Machine;
 use operate_answers::{LookFault, Seen, put_help, put_look, put_not_so, put_saved, put_set};
 use operate_orders::{Condition, Look, MOST_LISTED, Note, Place, Text, Watched};
 use operate_program::Program;
-use operate_scout::Condition as _;
+use operate_sitting::Condition as _;
 use room_alone::Room;
-use room_journal::write_journal;
+use room_files::write_journal;
 use std::alloc::{AllocError, Global};
 
 /// Ends a line that shows something: a fault is in place of what was added from a place on.

@@ -12,8 +12,7 @@ use crate::run_stops::RunStops;
 use cpu_1401::Machine;
 use operate_answers::{Ended, put_steps};
 use operate_program::Program;
-use operate_scout::{Found, FullDevices, MOST_STEPS, OneOf, SearchEnd};
-use operate_sitting::Sitting;
+use operate_sitting::{Found, FullDevices, MOST_STEPS, OneOf, SearchEnd, Sitting};
 use room_alone::{Keeper, RoomFault};
 use std::alloc::{AllocError, Global};
 

@@ -4,7 +4,7 @@ ghost use Rattle.operate_console.specs.Run.{IsUntil};
 
 use cpu_1401::Machine;
 use operate_answers::Stops;
-use operate_scout::{Always, Break, Test};
+use operate_sitting::{Always, Break, Test};
 
 /// An address at which no instruction is.
 const NOWHERE: u16 = u16::MAX;

@@ -2,7 +2,7 @@
 use Rattle.std.proofs.Common.{ℕ, true, false, [], ◌∷◌, ◌++◌, replicate, Some, None, refl}
 use Rattle.std.specs.Prelude.{Ok, Err, codes}
 use Rattle.bcd_1401.specs.declared.cell.Cell.{Cell}
-use Rattle.machine_panel.specs.declared.switch_name.SwitchName.TheVariants.{A, G}
+use Rattle.machine_tables.specs.declared.switch_name.SwitchName.TheVariants.{A, G}
 use Rattle.operate_orders.proofs.Says.{says, AllSay, adjusted, at, label, line}
 use Rattle.operate_orders.specs.declared.fault.OrderFault.TheVariants as fault
 use Rattle.operate_orders.specs.declared.orders.Act.TheVariants.{Deposit, Set, Mark, Unmark, Start, Switch}

@@ -9,7 +9,7 @@ use Rattle.devices_1401.specs.Card.{card_columns}
 use Rattle.machine_notation.specs.Cells.{cells_of, spelled}
 use Rattle.machine_notation.specs.declared.fault.CellsFault.{CellsFault}
 use Rattle.machine_notation.specs.declared.fault.CellsFault.TheVariants as cells_fault
-use Rattle.machine_panel.specs.declared.switch_name.SwitchName.{SwitchName}
+use Rattle.machine_tables.specs.declared.switch_name.SwitchName.{SwitchName}
 use Rattle.operate_orders.specs.Kind.{equals}
 use Rattle.operate_orders.specs.Operands.{Said, ◌>>=◌, place_operand, lone_place}
 use Rattle.operate_orders.specs.Parts.{first_of, before_byte, from_byte, operand_in, beyond_operand, is_end, has_graphics}

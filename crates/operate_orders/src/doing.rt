@@ -14,7 +14,7 @@ use crate::text::Text;
 use crate::values::value_operand;
 use crate::words::Keyword;
 use machine_notation::{CellsFault, read_cells};
-use machine_panel::SwitchName;
+use machine_tables::SwitchName;
 
 /// The columns of a card.
 const COLUMNS: usize = 80;

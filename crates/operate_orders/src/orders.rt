@@ -6,7 +6,7 @@ use crate::text::Text;
 use crate::values::{Condition, Value};
 use crate::words::Keyword;
 use core_1401::Cells;
-use machine_panel::SwitchName;
+use machine_tables::SwitchName;
 
 /// The most fields that `print` names, and the most numbers that `delete` does.
 pub const MOST_LISTED: usize = 8;

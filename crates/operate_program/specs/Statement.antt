@@ -26,7 +26,7 @@ use Rattle.bytes_text.specs.Piece.{padded}
 use Rattle.machine_commands.specs.declared.command.Command.{Command}
 use Rattle.machine_image.specs.declared.image.Image.{Image}
 use Rattle.machine_image.specs.declared.image.Segment.{Segment}
-use Rattle.machine_loading.specs.Loading.{deposit_of}
+use Rattle.machine_image.specs.Loading.{deposit_of}
 use Rattle.machine_notation.specs.Digits.{digits_in}
 use Rattle.operate_program.specs.Known.{Known}
 use Rattle.operate_program.specs.Value.{place_of}

@@ -2,7 +2,7 @@
 ghost use Rattle.std.specs.Prelude.{◌≡◌, ◌+◌, ◌*◌, ◌<◌, ◌≤◌, ◌∷◌, [], ◌++◌, length, map, take, drop, option_map, IfOk, OnOk};
 ghost use Rattle.core_1401.specs.Address.{addresses};
 ghost use Rattle.core_1401.specs.Cells.{most_cells};
-ghost use Rattle.machine_loading.specs.Loading.{deposit_of};
+ghost use Rattle.machine_image.specs.Loading.{deposit_of};
 ghost use Rattle.console_text.specs.CardText.{card_of};
 ghost use Rattle.operate_program.specs.Act.{card_in, chars_in, piece, pieces};
 

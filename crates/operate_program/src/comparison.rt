@@ -295,7 +295,7 @@ fn compared_at(core: &Core, field: Field, relation: Relation, value: &Value) -> 
     }
 }
 
-impl operate_scout::Condition for Comparison {
+impl operate_sitting::Condition for Comparison {
     ghost use Rattle.operate_program.specs.Comparison.{compared_at};
 
     ghost is_so = { λ it s. compared_at s.storage it.field it.relation it.value };

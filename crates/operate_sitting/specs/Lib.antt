@@ -1,3 +1,11 @@
+pub mod Back
+pub mod Breaks
+pub mod DeviceWatch
+pub mod FullDevices
+pub mod Machines
 pub mod Notes
+pub mod PlaceWatch
+pub mod RunOf
+pub mod Search
 pub mod Sitting
 pub mod Tending

@@ -7,10 +7,10 @@ use Rattle.room_alone.specs.Account.{Account}
 use Rattle.room_alone.specs.Journal.{state_of}
 use Rattle.room_alone.specs.Kept.{KeptAccount}
 use Rattle.room_alone.specs.declared.entry.Entry.{Entry}
-use Rattle.operate_scout.specs.declared.full_devices.FullDevices.{FullDevices}
-use Rattle.operate_past.specs.declared.again.BackFault.{BackFault}
-use Rattle.operate_past.specs.declared.again.BackFault.TheVariants as back
-use Rattle.operate_past.specs.Back.{whole_of}
+use Rattle.operate_sitting.specs.declared.full_devices.FullDevices.{FullDevices}
+use Rattle.operate_sitting.specs.declared.again.BackFault.{BackFault}
+use Rattle.operate_sitting.specs.declared.again.BackFault.TheVariants as back
+use Rattle.operate_sitting.specs.Back.{whole_of}
 use Rattle.operate_sitting.specs.declared.earlier.Origin.{Origin}
 use Rattle.operate_sitting.specs.declared.earlier.PastFault.{PastFault}
 use Rattle.operate_sitting.specs.declared.earlier.PastFault.TheVariants as past

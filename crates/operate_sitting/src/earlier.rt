@@ -3,8 +3,8 @@ ghost use Rattle.std.specs.Prelude.{◌≡◌, IfOk, IfErr};
 ghost use Rattle.room_alone.specs.Journal.{state_of};
 ghost use Rattle.operate_sitting.specs.Sitting.{past_fault};
 
+use crate::BackFault;
 use cpu_1401::Machine;
-use operate_past::BackFault;
 use room_alone::Room;
 use std::alloc::Global;
 use std::marker::Model;

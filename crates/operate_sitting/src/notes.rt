@@ -5,8 +5,8 @@ ghost use Rattle.operate_sitting.specs.Notes.{is_before, lines_in, no_notes, not
 ghost use Rattle.operate_sitting.specs.Tending.{feed_at};
 
 use crate::earlier::Origin;
+use cpu_1401::Command;
 use devices_1401::Card;
-use machine_execution::Command;
 use std::alloc::{AllocError, Global};
 use std::marker::Model;
 

@@ -5,9 +5,9 @@ ghost use Rattle.std.specs.Io.KnownBytes.{Appends};
 ghost use Rattle.cpu_1401.specs.Run.{most_steps};
 ghost use Rattle.room_alone.specs.Journal.{IsLegal, answer_to, entry, is_full, most_entries, pairs_of, refusal_of};
 ghost use Rattle.room_alone.specs.Kept.{kept_text};
-ghost use Rattle.operate_scout.specs.RunOf.{answer_of, run_of};
-ghost use Rattle.operate_scout.specs.Search.{memory_after, search};
-ghost use Rattle.operate_past.specs.Back.{back_of};
+ghost use Rattle.operate_sitting.specs.RunOf.{answer_of, run_of};
+ghost use Rattle.operate_sitting.specs.Search.{memory_after, search};
+ghost use Rattle.operate_sitting.specs.Back.{back_of};
 ghost use Rattle.operate_sitting.specs.Notes.{begun, hand_of, held, no_notes, notes_after};
 ghost use Rattle.operate_sitting.specs.Sitting.{cards_back, cards_loaded, journal_of, lines_of, machine_of, tending_of};
 ghost use Rattle.operate_sitting.specs.Sitting.{undone_at, watching};
@@ -17,11 +17,12 @@ use crate::cutter::Cutter;
 use crate::earlier::{Earlier, Origin, PastFault, past_fault};
 use crate::notes::{Mark, Notes};
 use crate::tending::tend;
-use cpu_1401::Machine;
+use crate::{
+    FullDevices, Interrupter, OneOf, Paired, RunEnd, SearchEnd, Test, carry_back, carry_entries,
+    whole_entries,
+};
+use cpu_1401::{Command, Machine};
 use devices_1401::Card;
-use machine_execution::Command;
-use operate_past::{Interrupter, carry_back, carry_entries, whole_entries};
-use operate_scout::{FullDevices, OneOf, Paired, RunEnd, SearchEnd, Test};
 use room_alone::{Carried, Entry, Keeper, KeptRoom, Room, RoomFault, Unkept};
 use std::alloc::{AllocError, Global};
 use std::marker::Model;

@@ -4,10 +4,10 @@ ghost use Rattle.room_alone.specs.Journal.{state_of};
 ghost use Rattle.operate_sitting.specs.Notes.{hand_of};
 ghost use Rattle.operate_sitting.specs.Tending.{CarriedAll, CarriedPart, most_if, plan_of, planned, tending};
 
+use crate::Paired;
 use crate::notes::Notes;
+use cpu_1401::Command;
 use devices_1401::{Card, Devices, MOST_HELD};
-use machine_execution::Command;
-use operate_scout::Paired;
 use room_alone::{Keeper, RoomFault};
 
 /// How many lines and cards are taken, and how many cards are fed at most.

@@ -6,8 +6,8 @@ use Rattle.bcd_1401.specs.Graphic.{graphics}
 use Rattle.core_1401.specs.Storage.{blank}
 use Rattle.cpu_1401.specs.State.{power_on}
 use Rattle.devices_1401.specs.Devices.{no_cards}
-use Rattle.machine_mnemonics.specs.InstructionText.{operands_text}
-use Rattle.machine_mnemonics.specs.Mnemonic.{columns_of, operations_with_d}
+use Rattle.machine_notation.specs.InstructionText.{operands_text}
+use Rattle.machine_notation.specs.Mnemonic.{columns_of, operations_with_d}
 use Rattle.machine_notation.specs.Characters.{graphics_of, trimmed}
 use Rattle.operate_views.specs.Lines.{cells_line, front_text, instruction_columns, instruction_line, step_front}
 use Rattle.operate_views.specs.Lines.{step_line}

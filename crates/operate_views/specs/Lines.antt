@@ -8,7 +8,7 @@ use Rattle.core_1401.specs.Field.{next_mark_from}
 use Rattle.core_1401.specs.Storage.{Storage, cell_at}
 use Rattle.bytes_text.specs.Piece.{padded}
 use Rattle.cpu_1401.specs.Fetched.{instruction_at}
-use Rattle.machine_mnemonics.specs.ShownText.{shown_text}
+use Rattle.machine_notation.specs.ShownText.{shown_text}
 use Rattle.machine_notation.specs.Characters.{graphics_of, trimmed}
 use Rattle.machine_notation.specs.Digits.{digits_in}
 use Rattle.operate_views.specs.Ruler.{chars_of}

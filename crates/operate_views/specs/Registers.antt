@@ -7,7 +7,7 @@ use Rattle.cpu_1401.specs.State.{State, regs_of}
 use Rattle.devices_1401.specs.Control.{Control, Space, Skip}
 use Rattle.machine_notation.specs.Cells.{cell_text}
 use Rattle.machine_notation.specs.Digits.{digits_in}
-use Rattle.machine_panel.specs.declared.regs.Regs.{Regs}
+use Rattle.machine_tables.specs.declared.regs.Regs.{Regs}
 
 -- an address in four digits, and what is there, if anything is known of it
 unfoldable pub place_text : ℕ → List ℕ → List ℕ

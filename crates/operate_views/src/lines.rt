@@ -1,7 +1,7 @@
 //! The lines of `list` and of `step`.
 ghost use Rattle.std.specs.Prelude.{◌≡◌, ◌<◌, ◌≤◌, ◌++◌, length, IsTrue, IfOk};
 ghost use Rattle.bytes_text.specs.Written.{Adds};
-ghost use Rattle.machine_mnemonics.specs.ShownText.{shown_text};
+ghost use Rattle.machine_notation.specs.ShownText.{shown_text};
 ghost use Rattle.operate_views.specs.Lines.{cells_line, cells_to_mark, front_text, instruction_line, listed_line};
 ghost use Rattle.operate_views.specs.Lines.{listed_places, shown_cells, source_line, step_front, step_line};
 ghost use Rattle.operate_views.specs.Lines.{stepped_columns, unsourced_line, without_last_blanks};
@@ -11,7 +11,7 @@ use bcd_1401::Cell;
 use bytes_text::{Piece, Text};
 use core_1401::Core;
 use cpu_1401::instruction_cells;
-use machine_mnemonics::put_shown;
+use machine_notation::put_shown;
 use std::alloc::{AllocError, Global};
 
 /// How many digits an address has.

@@ -31,9 +31,9 @@ use Rattle.program_call.specs.declared.call.Showing.{Showing}
 use Rattle.program_call.specs.declared.call.Reported.{Reported}
 use Rattle.program_call.specs.declared.call.Reported.TheVariants as told
 use Rattle.serving_http.specs.declared.origins.Origin.{Origin}
-use Rattle.machine_graphics.specs.declared.graphics.Graphics.{Graphics}
-use Rattle.machine_panel.specs.Features.{no_features}
-use Rattle.machine_panel.specs.declared.features.Features.{Features}
+use Rattle.bcd_1401.specs.declared.graphics.Graphics.{Graphics}
+use Rattle.machine_tables.specs.Features.{no_features}
+use Rattle.machine_tables.specs.declared.features.Features.{Features}
 use Rattle.serving_http.specs.Origins.{is_text_of}
 use Rattle.program_arguments.specs.Features.{features_in}
 use Rattle.program_arguments.specs.Mounting.{AreReelsIn, IsStartIn, fitted_for, program_name}

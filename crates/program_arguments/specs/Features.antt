@@ -3,11 +3,11 @@ use Rattle.std.specs.Prelude.{ℕ, ◌||◌, Bool, List, codes}
 use Rattle.std.specs.List.{list_any}
 use Rattle.std.specs.Str.{bytes_eq}
 use Rattle.clap.specs.declared.parser.matches.Found.{Found}
-use Rattle.machine_panel.specs.Features.{feature_name}
-use Rattle.machine_panel.specs.declared.features.Feature.{Feature}
-use Rattle.machine_panel.specs.declared.features.Feature.TheVariants.{Multiply, MoveRecord, ModifyAddress, BitTest}
-use Rattle.machine_panel.specs.declared.features.Feature.TheVariants.{Lengths, ReadPunchRelease, Tapes}
-use Rattle.machine_panel.specs.declared.features.Features.{Features}
+use Rattle.machine_tables.specs.Features.{feature_name}
+use Rattle.machine_tables.specs.declared.features.Feature.{Feature}
+use Rattle.machine_tables.specs.declared.features.Feature.TheVariants.{Multiply, MoveRecord, ModifyAddress, BitTest}
+use Rattle.machine_tables.specs.declared.features.Feature.TheVariants.{Lengths, ReadPunchRelease, Tapes}
+use Rattle.machine_tables.specs.declared.features.Features.{Features}
 use Rattle.program_arguments.specs.Options.{values_in}
 
 -- a feature is named by its name, or among all

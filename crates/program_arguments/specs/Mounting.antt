@@ -5,7 +5,7 @@ use Rattle.std.specs.Prelude.{option_map}
 use Rattle.std.specs.List.{list_any, slice_get}
 use Rattle.clap.specs.Words.{first_value}
 use Rattle.clap.specs.declared.parser.matches.Found.{Found}
-use Rattle.machine_panel.specs.declared.features.Features.{Features}
+use Rattle.machine_tables.specs.declared.features.Features.{Features}
 use Rattle.program_call.specs.Mounted.{file_of}
 use Rattle.program_call.specs.declared.call.MountedReel.{MountedReel}
 use Rattle.program_call.specs.declared.call.ReelSource.{ReelSource}

@@ -8,8 +8,8 @@ use Rattle.clap.specs.Words.{first_value, matched_of, one_text, raw_values}
 use Rattle.clap.specs.declared.parser.matches.Found.{Found}
 use Rattle.clap.specs.declared.parser.matches.ValueSource.{ValueSource}
 use Rattle.clap.specs.declared.parser.matches.ValueSource.TheVariants.{CommandLine}
-use Rattle.machine_graphics.specs.declared.graphics.Graphics.{Graphics}
-use Rattle.machine_graphics.specs.declared.graphics.Graphics.TheVariants as chains
+use Rattle.bcd_1401.specs.declared.graphics.Graphics.{Graphics}
+use Rattle.bcd_1401.specs.declared.graphics.Graphics.TheVariants as chains
 use Rattle.autocoder_statements.specs.declared.language.Language.{Language}
 use Rattle.autocoder_statements.specs.declared.language.Language.TheVariants.{Ibm, Plain}
 

@@ -10,7 +10,7 @@ use crate::languages::{LANGUAGE, language_in};
 use crate::options::{Argument, FREE, Kind, TEXT, name_in};
 use crate::sizes::{SIZE, named_size_in};
 use clap::{ArgMatches, Error};
-use machine_panel::Features;
+use machine_tables::Features;
 use program_call::{Assembling, Call, Product, Reported, Tables};
 use std::alloc::{AllocError, Global};
 

@@ -3,12 +3,12 @@ ghost use Rattle.std.specs.Prelude.{◌≡◌, ◌||◌, [], ◌∷◌, IfSome, 
 ghost use Rattle.std.specs.List.{list_any};
 ghost use Rattle.std.specs.Str.{bytes_eq};
 ghost use Rattle.clap.specs.Words.{found_of, matched_of, raw_values};
-ghost use Rattle.machine_panel.specs.Features.{feature_list, feature_name};
+ghost use Rattle.machine_tables.specs.Features.{feature_list, feature_name};
 ghost use Rattle.program_arguments.specs.Features.{features_in, features_named, is_named};
 
 use crate::options::{Argument, FREE, Kind};
 use clap::ArgMatches;
-use machine_panel::{Feature, Features};
+use machine_tables::{Feature, Features};
 
 /// The name of all features at once.
 const ALL: &str = "all";

@@ -4,9 +4,9 @@ ghost use Rattle.clap.specs.Words.{first_value, found_of};
 ghost use Rattle.program_arguments.specs.Options.{graphics_by, graphics_in, graphics_named};
 
 use crate::options::{Argument, FREE, Kind};
+use bcd_1401::Graphics;
 use clap::ArgMatches;
 use clap::builder::ValueParser;
-use machine_graphics::Graphics;
 
 /// The name of this machine's chain.
 const OURS: &str = "ours";

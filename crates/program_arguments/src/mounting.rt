@@ -8,7 +8,7 @@ ghost use Rattle.program_arguments.specs.Mounting.{fitted_for, loads_tape, progr
 
 use crate::options::{Argument, FREE, Kind, TEXT};
 use clap::ArgMatches;
-use machine_panel::Features;
+use machine_tables::Features;
 use program_call::{MountedReel, ReelSource, Start};
 use std::alloc::{AllocError, Global};
 use std::fmt;

@@ -14,7 +14,7 @@ use crate::running::{LIMIT, limit_in};
 use crate::sizes::{SIZE, named_size_in};
 use crate::switches::{NO_LETTERS, SWITCHES, switches_in};
 use clap::{ArgMatches, Error};
-use machine_panel::Features;
+use machine_tables::Features;
 use program_call::{Call, Operating};
 use std::alloc::{AllocError, Global};
 

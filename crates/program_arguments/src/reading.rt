@@ -17,7 +17,7 @@ use crate::running::{run, run_call};
 use crate::serving::{operators_in, serve, serve_call};
 use crate::sizes::{SIZE, SizeTexts, size_in};
 use clap::{ArgMatches, Command, Error};
-use machine_panel::Features;
+use machine_tables::Features;
 use program_call::{Call, DEFAULT_SIZE, Opening};
 use std::alloc::{AllocError, Global};
 use std::convert::AsStr;

@@ -16,7 +16,7 @@ use crate::options::{ANY_U32, Argument, FREE, Kind, TEXT, put_name};
 use crate::sizes::{SIZE, named_size_in};
 use crate::switches::{NO_LETTERS, SWITCHES, switches_in};
 use clap::{ArgMatches, Error};
-use machine_panel::Features;
+use machine_tables::Features;
 use program_call::{Call, Job, MountedReel};
 use std::alloc::{AllocError, Global};
 

@@ -12,7 +12,7 @@ use crate::options::{Argument, FREE, Kind, TEXT, name_in};
 use crate::sizes::{SIZE, size_in};
 use clap::builder::ValueParser;
 use clap::{ArgMatches, Error};
-use machine_panel::Features;
+use machine_tables::Features;
 use program_call::{Call, Opening, Operators, PlainService, Seating};
 use serving_http::{Origin, OriginFault, read_origin};
 use std::alloc::{AllocError, Global};

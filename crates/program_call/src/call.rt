@@ -1,9 +1,9 @@
 //! What the command line asks for.
 
 use autocoder_statements::Language;
+use bcd_1401::Graphics;
 use core_1401::SIZES;
-use machine_graphics::Graphics;
-use machine_panel::Features;
+use machine_tables::Features;
 use serving_http::Origin;
 
 /// The size of core storage if none is named.

@@ -1,7 +1,7 @@
 -- What the lines of a person mean for the program (own).
 use Rattle.std.specs.Prelude.{◌≡◌, ℕ, nat_lt, not, ◌&&◌, Bool, if◌then◌else◌, Option, None, Some, Result, Ok, Err, IfSome}
-use Rattle.console_terminal.specs.declared.fault.SessionFault.{SessionFault}
-use Rattle.console_terminal.specs.declared.fault.SessionFault.TheVariants as session
+use Rattle.room_alone.specs.declared.terminal_fault.SessionFault.{SessionFault}
+use Rattle.room_alone.specs.declared.terminal_fault.SessionFault.TheVariants as session
 use Rattle.operate_console.specs.Line.{OperatedBy}
 use Rattle.operate_console.specs.declared.ends.OperateEnd.{OperateEnd}
 use Rattle.operate_console.specs.declared.ends.OperateEnd.TheVariants as end
@@ -9,7 +9,7 @@ use Rattle.operate_program.specs.Known.{Known}
 use Rattle.operate_sitting.specs.Sitting.{SittingAccount}
 use Rattle.program_operate.specs.declared.fault.OperateFault.{OperateFault}
 use Rattle.program_operate.specs.declared.fault.OperateFault.TheVariants.{Faulty, Hold}
-use Rattle.program_sessions.specs.declared.fault.HoldFault.TheVariants as hold
+use Rattle.program_rooms.specs.declared.session_fault.HoldFault.TheVariants as hold
 
 abbrev session_fault : SessionFault → OperateFault
 session_fault why = Hold (hold.Session why)

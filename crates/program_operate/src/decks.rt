@@ -3,8 +3,8 @@ ghost use Rattle.std.specs.Prelude.{◌≢◌, IfErr};
 
 use crate::beginning::Around;
 use crate::fault::{OperateFault, unready};
+use bcd_1401::Graphics;
 use devices_1401::{Card, MOST_HELD};
-use machine_graphics::Graphics;
 use operate_answers::put_deck;
 use program_run::{RunFault, list_cards, read_cards};
 use room_alone::{Command, OWN_SEAT, Room, RoomFault};

@@ -1,20 +1,19 @@
 //! The files that a person names, and that of the journal.
 
 use crate::decks::cards_of;
-use bytes_files::read_whole;
+use bcd_1401::Graphics;
+use bytes_descriptors::read_whole;
 use bytes_streams::put_all;
 use devices_1401::Card;
 use job_runner::DeckTextFault;
-use machine_graphics::Graphics;
 use operate_console::{Desk, FileFault};
 use operate_sitting::Cutter;
 use program_run::RunFault;
 use room_alone::{NoKeeper, Room, Unkept};
 use room_files::{
     Durability, JournalFile, JournalFileFault, KeepFault, MadeJournal, TextKeeper, create_journal,
-    read_room, rewrite_journal,
+    read_room, rewrite_journal, write_journal,
 };
-use room_journal::write_journal;
 use std::fs::File;
 use std::marker::Brand;
 use std::rt::Files;
@@ -112,7 +111,7 @@ impl<'a, R: Files<File = File> + Eprint + AllocGlobal> Desk for FileDesk<'a, R> 
         let name = self.name_to_read(name)?;
         match read_whole(self.rt, name.as_str()) {
             Ok(lines) => Ok(lines),
-            Err(bytes_files::FileFault::Memory) => Err(FileFault::Memory),
+            Err(bytes_descriptors::FileFault::Memory) => Err(FileFault::Memory),
             Err(_) => Err(FileFault::Unreadable),
         }
     }

@@ -2,11 +2,10 @@
 ghost use Rattle.std.specs.Prelude.{◌≡◌, ◌≢◌};
 ghost use Rattle.program_operate.specs.Outcome.{outcome};
 
-use console_terminal::SessionFault;
 use operate_console::OperateEnd;
+use program_rooms::HoldFault;
 use program_run::RunFault;
-use program_sessions::HoldFault;
-use room_alone::RoomFault;
+use room_alone::{RoomFault, SessionFault};
 use thiserror::Error;
 
 /// What a person's console may fail by.

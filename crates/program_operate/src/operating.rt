@@ -6,17 +6,17 @@ use crate::beginning::{Around, Begun, around_again, begin};
 use crate::desk::{FileDesk, FileKeeper};
 use crate::fault::{OperateFault, ended};
 use crate::opening::Reading;
-use bytes_files::{FileFault, read_whole};
+use bcd_1401::Graphics;
+use bytes_descriptors::{FileFault, read_whole};
 use bytes_streams::{Source, ToWriter};
 use devices_1401::Card;
-use machine_graphics::Graphics;
 use operate_console::{
     Beginning, Desk, Manner, OperateEnd, Operated, Script, Setting, Terminal, operate,
 };
 use operate_sitting::{Cutter, Sitting};
 use program_call::{NewJournal, Operating};
+use program_rooms::{HoldFault, durability_of, tell_cut};
 use program_run::RunFault;
-use program_sessions::{HoldFault, durability_of, tell_cut};
 use room_alone::{Keeper, KeptRoom, NoKeeper};
 use room_files::{
     Durability, FoundJournal, JournalFile, KeepFault, MadeJournal, TakenUp, create_journal,

@@ -1,3 +1,6 @@
 pub mod Beginning
+pub mod Choosing
+pub mod Ended
+pub mod Load
 pub mod Outcome
 pub mod Pages

@@ -10,8 +10,8 @@ use Rattle.serving_seats.specs.declared.fault.SeatsFault.{SeatsFault}
 use Rattle.serving_seats.specs.declared.fault.SeatsFault.TheVariants as seats
 use Rattle.serving_seats.specs.declared.giving.GiveFault.{GiveFault}
 use Rattle.serving_seats.specs.declared.giving.GiveFault.TheVariants as give
-use Rattle.console_terminal.specs.declared.fault.SessionFault.TheVariants as session
-use Rattle.program_sessions.specs.declared.fault.HoldFault.TheVariants as hold
+use Rattle.room_alone.specs.declared.terminal_fault.SessionFault.TheVariants as session
+use Rattle.program_rooms.specs.declared.session_fault.HoldFault.TheVariants as hold
 use Rattle.program_rooms.specs.declared.fault.OpenFault.{OpenFault}
 use Rattle.program_rooms.specs.declared.fault.OpenFault.TheVariants as fault
 

@@ -1,19 +1,18 @@
 //! What the seats of a room do before operators come.
 ghost use Rattle.std.specs.Prelude.{◌≡◌, ◌<◌, ◌^◌, OnOk};
 ghost use Rattle.console_1401.specs.Served.{AreAllSeats};
-ghost use Rattle.machine_loading.specs.Loading.{fit_commands, load_commands};
+ghost use Rattle.machine_image.specs.Loading.{fit_commands, load_commands};
 ghost use Rattle.program_rooms.specs.Beginning.{FirstGave, GaveAll, HasBegun, feed_commands, first_commands};
 ghost use Rattle.program_rooms.specs.Beginning.{ready_commands};
 ghost use Rattle.program_rooms.specs.Outcome.{give_fault, room_fault};
 
+use crate::HoldFault;
 use crate::fault::OpenFault;
-use console_terminal::SessionFault;
 use devices_1401::Card;
-use machine_image::LentImage;
-use machine_loading::{LoadCommands, fit_command};
-use machine_panel::Features;
-use program_sessions::HoldFault;
+use machine_image::{LentImage, LoadCommands, fit_command};
+use machine_tables::Features;
 use room_1401::{Command, Keeper, Room, RoomFault, RoomId, Seat, SharedRoom};
+use room_alone::SessionFault;
 use serving_room::{GiveFault, SeatsFault, give, give_entries};
 use std::sync::Wait;
 

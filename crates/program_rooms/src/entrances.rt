@@ -2,10 +2,10 @@
 ghost use Rattle.std.specs.Prelude.{◌≤◌, option_copied, IfOk, vec_len};
 ghost use Rattle.program_rooms.specs.Pages.{IsOutsideAt, IsPageAt};
 
+use crate::HoldFault;
 use crate::fault::{OpenFault, not_told};
-use bytes_sockets::lengthen_queue;
+use bytes_descriptors::lengthen_queue;
 use program_call::Operators;
-use program_sessions::HoldFault;
 use serving_http::{Origin, Site, origin_after};
 use serving_room::PagePort;
 use std::alloc::Global;

@@ -1,6 +1,6 @@
 //! Why no room is opened, or what went wrong in it.
 
-use program_sessions::HoldFault;
+use crate::HoldFault;
 use room_files::KeepFault;
 use serving_room::SeatsFault;
 use std::io;

@@ -1,10 +1,10 @@
 //! The names of the journals of rooms that follow each other.
 ghost use Rattle.std.specs.Prelude.{◌≡◌, false, IfOk};
 
+use crate::durability_of;
 use crate::fault::{OpenFault, not_kept};
 use bytes_streams::Sink;
 use program_call::NewJournal;
-use program_sessions::durability_of;
 use room_files::{JournalFile, JournalFileFault, KeepFault, MadeJournal, begin_journal};
 use std::alloc::{AllocError, Global};
 use std::fs::File;

@@ -1,9 +1,9 @@
 //! Rooms that operators share, and that begin with a journal.
 ghost use Rattle.std.specs.Prelude.{◌≡◌, ◌≤◌, ℕ, false, Some, Err, All, vec_len, IfOk, OnOk};
 ghost use Rattle.room_alone.specs.Journal.{state_of};
-ghost use Rattle.room_journal.specs.JournalText.{journal_text};
+ghost use Rattle.room_files.specs.JournalText.{journal_text};
 ghost use Rattle.serving_seats.specs.Giving.{IsSeated, foreign_in};
-ghost use Rattle.program_sessions.specs.Choosing.{HasChosen};
+ghost use Rattle.program_rooms.specs.Choosing.{HasChosen};
 ghost use Rattle.program_rooms.specs.Beginning.{FitsAlone};
 
 use crate::beginning::{Before, Program};
@@ -12,9 +12,9 @@ use crate::fault::{OpenFault, not_kept};
 use crate::journal_names::JournalNames;
 use crate::seating::serve_new;
 use crate::succession::{Rooms, Turn, serve_others, serve_rooms};
+use crate::{HoldFault, durability_of, read_chosen, tell_cut};
 use bytes_streams::Sink;
 use program_call::Resuming;
-use program_sessions::{HoldFault, durability_of, read_chosen, tell_cut};
 use room_1401::{Entry, Room};
 use room_files::{FoundJournal, JournalFile, TakenUp, find_journal, verify_journal};
 use serving_room::{Watch, foreign_seat};

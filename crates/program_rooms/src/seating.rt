@@ -13,15 +13,15 @@ use crate::journal_names::JournalNames;
 use crate::resuming::resume_seats;
 use crate::serving::start_fault;
 use crate::succession::{Rooms, Turn, serve_rooms};
+use crate::{HoldFault, read_file};
 use bytes_streams::{FromReader, Source};
-use console_terminal::SessionFault;
 use core_1401::Core;
 use devices_1401::Card;
 use machine_image::{LentImage, lend_image};
-use machine_panel::Features;
+use machine_tables::Features;
 use program_call::{NewJournal, Opening, Operators, Resuming};
-use program_sessions::{HoldFault, read_file};
 use room_1401::{Keeper, Opened, RoomId, Seat, SharedRoom};
+use room_alone::SessionFault;
 use room_files::MadeName;
 use serving_http::Origin;
 use serving_room::{

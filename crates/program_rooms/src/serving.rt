@@ -2,11 +2,11 @@
 ghost use Rattle.std.specs.Prelude.{◌≡◌};
 ghost use Rattle.program_rooms.specs.Outcome.{service_outcome, start_fault};
 
+use crate::HoldFault;
 use crate::ending::tell_end;
 use crate::fault::OpenFault;
 use console_1401::{ServeFault, Served, serve};
 use program_call::PlainService;
-use program_sessions::HoldFault;
 use room_1401::{Opened, RoomId, SharedRoom, StartFault};
 use serving_room::TakingTurns;
 use std::alloc::Global;

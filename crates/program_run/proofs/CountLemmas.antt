@@ -4,8 +4,8 @@ use Rattle.std.proofs.lemmas.Bool.{and_parts, leb-true}
 use Rattle.std.proofs.lemmas.List.Sums.{sum_by-cons}
 use Rattle.std.specs.Prelude.{◌&&◌, nat_le, nat_lt}
 use Rattle.std.specs.List.{list_all}
-use Rattle.machine_reels.specs.Held.{is_record}
-use Rattle.machine_reels.specs.Reel.{characters_in, most_characters}
+use Rattle.machine_tapes.specs.Held.{is_record}
+use Rattle.machine_tapes.specs.Reel.{characters_in, most_characters}
 
 -- how many records there are of so many characters
 pub fewer_records : (records : List (List ℕ)) → list_all is_record records ≡ true

@@ -5,8 +5,8 @@ use Rattle.std.specs.Prelude.{⊤, option_map}
 use Rattle.cpu_1401.specs.State.{State}
 use Rattle.devices_1401.specs.declared.card.Card.{Card}
 use Rattle.job_runner.specs.Unattended.{taped_with_deck}
-use Rattle.machine_panel.specs.declared.stop.Stop.{Stop}
-use Rattle.machine_panel.specs.declared.stop.Stop.TheVariants as stop
+use Rattle.machine_tables.specs.declared.stop.Stop.{Stop}
+use Rattle.machine_tables.specs.declared.stop.Stop.TheVariants as stop
 use Rattle.machine_tapes.specs.Tapes.{Tapes, no_tapes}
 use Rattle.machine_tapes.specs.declared.taped_machine.TapedMachine.{TapedMachine}
 use Rattle.program_call.specs.declared.call.Job.{Job}

@@ -11,7 +11,7 @@ use Rattle.devices_1401.specs.declared.card.Card.{Card}
 use Rattle.machine_image.specs.Image.{IsInCore}
 use Rattle.machine_image.specs.ImageText.{written_text}
 use Rattle.job_runner.specs.Unattended.{with_deck}
-use Rattle.machine_panel.specs.declared.features.Features.{Features}
+use Rattle.machine_tables.specs.declared.features.Features.{Features}
 use Rattle.program_run.specs.RunJob.{IsLoadedText, set_up, turned}
 
 -- one switch more is turned, and then none is left

@@ -4,8 +4,8 @@ use Rattle.std.proofs.Common.{Err, IfOk, MatchOption, OnOk, subst, sym, ◌∙�
 use Rattle.std.proofs.lemmas.Bool.{not-false, not-true}
 use Rattle.std.specs.Prelude.{if◌then◌else◌}
 use Rattle.devices_1401.specs.declared.card.Card.{Card}
-use Rattle.machine_panel.specs.declared.stop.Stop.{Stop}
-use Rattle.machine_panel.specs.declared.stop.Stop.TheVariants as stop
+use Rattle.machine_tables.specs.declared.stop.Stop.{Stop}
+use Rattle.machine_tables.specs.declared.stop.Stop.TheVariants as stop
 use Rattle.cpu_1401.specs.Frame.{Frame}
 use Rattle.machine_tapes.specs.TapeLoading.{loaded_from}
 use Rattle.machine_tapes.specs.TapedFrame.{TapedStepLaw}

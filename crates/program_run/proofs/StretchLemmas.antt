@@ -4,8 +4,8 @@ use Rattle.std.proofs.Common.{Some, refl, sym, ◌∙◌, ap, subst, arith, appe
 use Rattle.std.proofs.lemmas.List.{append-nil}
 use Rattle.devices_1401.specs.declared.card.Card.{Card}
 use Rattle.devices_1401.specs.declared.print_line.PrintLine.{PrintLine}
-use Rattle.machine_panel.specs.declared.stop.Stop.{Stop}
-use Rattle.machine_panel.specs.declared.stop.Stop.TheVariants as stop
+use Rattle.machine_tables.specs.declared.stop.Stop.{Stop}
+use Rattle.machine_tables.specs.declared.stop.Stop.TheVariants as stop
 use Rattle.machine_tapes.specs.declared.taped_machine.TapedMachine.{TapedMachine}
 use Rattle.job_runner.specs.declared.paper.PaperPlace.{PaperPlace}
 use Rattle.job_runner.specs.Paper.{place_beyond}

@@ -7,8 +7,8 @@ use Rattle.std.specs.Prelude.{nat_lt, ◌==◌, if◌then◌else◌, is_some}
 use Rattle.std.proofs.lemmas.List.{append-nil}
 use Rattle.devices_1401.specs.declared.card.Card.{Card}
 use Rattle.devices_1401.specs.declared.print_line.PrintLine.{PrintLine}
-use Rattle.machine_panel.specs.declared.stop.Stop.{Stop}
-use Rattle.machine_panel.specs.declared.stop.Stop.TheVariants as stop
+use Rattle.machine_tables.specs.declared.stop.Stop.{Stop}
+use Rattle.machine_tables.specs.declared.stop.Stop.TheVariants as stop
 use Rattle.cpu_1401.specs.Run.{carried_out_by}
 use Rattle.cpu_1401.specs.State.{State}
 use Rattle.machine_tapes.specs.Instruction.{tape_instruction}
@@ -19,9 +19,9 @@ use Rattle.machine_tapes.specs.declared.taped_machine.TapedMachine.{TapedMachine
 use Rattle.machine_tapes.specs.declared.work.TapeInstruction.{TapeInstruction}
 use Rattle.job_runner.specs.Unattended.{Job, after_output, go_on, taken_first, taped_emptied, taped_with_deck}
 use Rattle.job_runner.specs.Unattended.{unattended}
-use Rattle.job_trace.specs.declared.work.TapeMark.{TapeMark}
-use Rattle.job_trace.specs.declared.work.Work.{Work}
-use Rattle.job_trace.specs.TraceLine.{Seen, line_of, seen_of, work_of}
+use Rattle.job_steps.specs.declared.work.TapeMark.{TapeMark}
+use Rattle.job_steps.specs.declared.work.Work.{Work}
+use Rattle.job_steps.specs.TraceLine.{Seen, line_of, seen_of, work_of}
 use Rattle.program_run.specs.TraceText.{mark_after, taped_line, trace_on, trace_text}
 use Rattle.std.proofs.KnownBytes.{Appends-nil, Appends-trans}
 use Rattle.std.specs.Io.KnownBytes.{Appends}

@@ -7,9 +7,9 @@ use Rattle.std.proofs.lemmas.List.Concat.{flat_map-append}
 use Rattle.std.specs.Io.KnownBytes.{Appends, Keeps}
 use Rattle.devices_1401.specs.declared.card.Card.{Card}
 use Rattle.devices_1401.specs.declared.print_line.PrintLine.{PrintLine}
-use Rattle.machine_graphics.specs.Graphics.{ours_of, theirs_of}
-use Rattle.machine_graphics.specs.declared.graphics.Graphics.{Graphics}
-use Rattle.machine_graphics.proofs.GraphicsLemmas.{all_again}
+use Rattle.bcd_1401.specs.Graphics.{ours_of, theirs_of}
+use Rattle.bcd_1401.specs.declared.graphics.Graphics.{Graphics}
+use Rattle.bcd_1401.proofs.GraphicsLemmas.{all_again}
 use Rattle.job_runner.specs.DeckText.{card_text}
 use Rattle.job_runner.specs.declared.paper.PaperPlace.{PaperPlace}
 use Rattle.job_runner.specs.Paper.{line_text, paper_text, place_after, place_beyond}

@@ -4,13 +4,13 @@ use Rattle.std.specs.List.{starts_with}
 use Rattle.autocoder_1401.specs.Assembly.{assembly_in}
 use Rattle.autocoder_symbols.specs.Fault.{IsMemory}
 use Rattle.autocoder_1401.specs.declared.assembly.Assembly.{Assembly}
-use Rattle.machine_execution.specs.CarryOut.{carry_out}
+use Rattle.cpu_1401.specs.CarryOut.{carry_out}
 use Rattle.cpu_1401.specs.State.{State, power_on}
 use Rattle.machine_image.specs.declared.fault.ImageFault.{ImageFault}
 use Rattle.machine_image.specs.declared.image.Image.{Image}
 use Rattle.machine_image.specs.ImageText.{IsTextOf}
 use Rattle.machine_image.specs.Refusal.{IsRefused}
-use Rattle.machine_loading.specs.Loading.{load_commands}
+use Rattle.machine_image.specs.Loading.{load_commands}
 use Rattle.machine_commands.specs.declared.command.Command.{Command}
 use Rattle.autocoder_symbols.specs.declared.fault.AsmFault.{AsmFault}
 use Rattle.autocoder_statements.specs.declared.language.Language.{Language}

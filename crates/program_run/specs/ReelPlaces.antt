@@ -1,6 +1,6 @@
 -- How far reels are (own). Tape marks are counted as records.
 use Rattle.std.specs.Prelude.{ℕ, ◌==◌, List, [], ◌∷◌, length, map, Option, None, Some, if◌then◌else◌}
-use Rattle.machine_reels.specs.Reel.{records_of}
+use Rattle.machine_tapes.specs.Reel.{records_of}
 use Rattle.machine_tapes.specs.Tapes.{Tapes, unit_of}
 use Rattle.machine_tapes.specs.declared.drive.Drive.{Drive}
 use Rattle.program_run.specs.declared.ending.ReelPlace.{ReelPlace}

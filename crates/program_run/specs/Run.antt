@@ -1,7 +1,7 @@
 -- What the end of a job is for the program (own).
 use Rattle.std.specs.Prelude.{⊤, Result, Ok, Err}
-use Rattle.machine_panel.specs.declared.stop.Stop.{Stop}
-use Rattle.machine_panel.specs.declared.stop.Stop.TheVariants as stop
+use Rattle.machine_tables.specs.declared.stop.Stop.{Stop}
+use Rattle.machine_tables.specs.declared.stop.Stop.TheVariants as stop
 use Rattle.program_run.specs.declared.fault.RunFault.{RunFault}
 use Rattle.program_run.specs.declared.fault.RunFault.TheVariants as fault
 use Rattle.program_run.specs.declared.ending.Ending.{Ending}

@@ -5,10 +5,10 @@ use Rattle.std.specs.Io.KnownBytes.{Appends}
 use Rattle.std.specs.List.{flat_map}
 use Rattle.devices_1401.specs.declared.card.Card.{Card}
 use Rattle.devices_1401.specs.declared.print_line.PrintLine.{PrintLine}
-use Rattle.machine_panel.specs.declared.stop.Stop.{Stop}
-use Rattle.machine_panel.specs.declared.stop.Stop.TheVariants as stop
-use Rattle.machine_graphics.specs.Graphics.{ours_of}
-use Rattle.machine_graphics.specs.declared.graphics.Graphics.{Graphics}
+use Rattle.machine_tables.specs.declared.stop.Stop.{Stop}
+use Rattle.machine_tables.specs.declared.stop.Stop.TheVariants as stop
+use Rattle.bcd_1401.specs.Graphics.{ours_of}
+use Rattle.bcd_1401.specs.declared.graphics.Graphics.{Graphics}
 use Rattle.job_runner.specs.DeckText.{card_text}
 use Rattle.job_runner.specs.declared.paper.PaperPlace.{PaperPlace}
 use Rattle.job_runner.specs.Paper.{paper_text, place_beyond}

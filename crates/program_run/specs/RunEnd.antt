@@ -2,7 +2,7 @@
 use Rattle.std.specs.Prelude.{◌≡◌, ℕ, ⊤, List, Option, Result, Ok, Err, option_map, string_bytes}
 use Rattle.cpu_1401.specs.State.{State}
 use Rattle.devices_1401.specs.declared.card.Card.{Card}
-use Rattle.machine_panel.specs.declared.stop.Stop.TheVariants as stop
+use Rattle.machine_tables.specs.declared.stop.Stop.TheVariants as stop
 use Rattle.machine_tapes.specs.Tapes.{Tapes, no_tapes}
 use Rattle.machine_tapes.specs.declared.taped_machine.TapedMachine.{TapedMachine}
 use Rattle.program_call.specs.declared.call.Job.{Job}

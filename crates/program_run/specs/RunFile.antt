@@ -1,7 +1,7 @@
 -- What a run of files may be refused or fail by (own). Nothing is said of the files themselves. A name is the list of
 -- its bytes.
 use Rattle.std.specs.Prelude.{◌≡◌, ◌≢◌, ◌⊎◌, ℕ, ⊤, true, List, Option, Some, option_map, string_bytes}
-use Rattle.machine_panel.specs.declared.stop.Stop.TheVariants as stop
+use Rattle.machine_tables.specs.declared.stop.Stop.TheVariants as stop
 use Rattle.autocoder_deck.specs.declared.entry.LoadFault.{LoadFault}
 use Rattle.program_call.specs.declared.call.Job.{Job}
 use Rattle.program_call.specs.declared.call.Start.{Start}

@@ -8,7 +8,7 @@ use Rattle.program_call.specs.declared.call.Job.{Job}
 use Rattle.program_call.specs.declared.call.Start.{Start}
 use Rattle.program_call.specs.declared.call.Start.TheVariants as start
 use Rattle.program_call.specs.Sizes.{size_for}
-use Rattle.machine_panel.specs.declared.features.Features.{Features}
+use Rattle.machine_tables.specs.declared.features.Features.{Features}
 use Rattle.cpu_1401.specs.State.{State, fitted_with, power_on, with_switch}
 use Rattle.autocoder_deck.specs.Entry.{loaded_deck}
 use Rattle.autocoder_deck.specs.LoadedCore.{IsLoadedDeck}
@@ -20,7 +20,7 @@ use Rattle.job_runner.specs.DeckText.{deck_of}
 use Rattle.job_runner.specs.Unattended.{taped_with_deck, with_deck}
 use Rattle.machine_tapes.specs.declared.taped_machine.TapedMachine.{TapedMachine}
 use Rattle.machine_tapes.specs.Tapes.{Tapes, no_tapes}
-use Rattle.machine_panel.specs.declared.stop.Stop.TheVariants as stop
+use Rattle.machine_tables.specs.declared.stop.Stop.TheVariants as stop
 use Rattle.autocoder_statements.specs.declared.language.Language.{Language}
 use Rattle.program_run.specs.Program.{is_meant_as_image, with_image}
 use Rattle.program_run.specs.RunDeck.{report_of, started_job}

@@ -2,11 +2,11 @@
 use Rattle.std.specs.Prelude.{◌≡◌, ◌⊎◌, ◌&&◌, nat_le, ℕ, List, [], ◌∷◌, Ok, String, string_bytes}
 use Rattle.std.specs.Prelude.{if◌then◌else◌}
 use Rattle.std.specs.Global.{Global}
-use Rattle.bytes_files.specs.declared.fault.FileFault.{FileFault}
-use Rattle.machine_operations.specs.TapeUnit.{tape_units}
-use Rattle.machine_reels.specs.Reel.{Reel, mounted}
-use Rattle.machine_reels.specs.TapReading.{Gives, records_read}
-use Rattle.machine_reels.specs.declared.fault.TapFault.{TapFault}
+use Rattle.bytes_descriptors.specs.declared.fault.FileFault.{FileFault}
+use Rattle.machine_tables.specs.TapeUnit.{tape_units}
+use Rattle.machine_tapes.specs.Reel.{Reel, mounted}
+use Rattle.machine_tapes.specs.TapReading.{Gives, records_read}
+use Rattle.machine_tapes.specs.declared.fault.TapFault.{TapFault}
 use Rattle.machine_tapes.specs.Drive.{mounted_on}
 use Rattle.machine_tapes.specs.Tapes.{Tapes, with_unit}
 use Rattle.machine_tapes.specs.declared.drive.Drive.{Drive}

@@ -1,6 +1,6 @@
 -- How a job begins (own).
 use Rattle.std.specs.Prelude.{◌≡◌, ℕ, []}
-use Rattle.machine_panel.specs.declared.stop.Stop.{Stop}
+use Rattle.machine_tables.specs.declared.stop.Stop.{Stop}
 use Rattle.machine_tapes.specs.declared.taped_machine.TapedMachine.{TapedMachine}
 use Rattle.job_runner.specs.Unattended.{ended, unattended}
 use Rattle.program_call.specs.declared.call.Start.{Start}

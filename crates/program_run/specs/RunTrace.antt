@@ -2,7 +2,7 @@
 use Rattle.std.specs.Prelude.{◌≡◌, ⊤, IsTrue, ℕ, ◌-◌, ◌==◌, Bool, true, false, if◌then◌else◌, List, [], ◌++◌, length}
 use Rattle.std.specs.Prelude.{Option, None, Some}
 use Rattle.std.specs.Io.KnownBytes.{Appends}
-use Rattle.machine_panel.specs.declared.stop.Stop.{Stop}
+use Rattle.machine_tables.specs.declared.stop.Stop.{Stop}
 use Rattle.cpu_1401.specs.State.{State}
 use Rattle.machine_tapes.specs.TapeLoading.{loaded_from}
 use Rattle.machine_tapes.specs.TapedStep.{TapedStepped}
@@ -12,8 +12,8 @@ use Rattle.program_call.specs.declared.call.Start.{Start}
 use Rattle.program_call.specs.declared.call.Start.TheVariants as start
 use Rattle.program_run.specs.declared.deck_running.Broken.{Broken}
 use Rattle.program_run.specs.declared.deck_running.Broken.TheVariants as broken
-use Rattle.job_trace.specs.declared.work.Work.{Work}
-use Rattle.job_trace.specs.TraceLine.{Seen, line_of, seen_of}
+use Rattle.job_steps.specs.declared.work.Work.{Work}
+use Rattle.job_steps.specs.TraceLine.{Seen, line_of, seen_of}
 use Rattle.program_run.specs.TraceText.{trace_text}
 
 -- what is seen of a machine, if there is a trace

@@ -1,14 +1,14 @@
 -- The trace of a job (own): the lines of its steps, that of a stop included.
 use Rattle.std.specs.Prelude.{ℕ, zero, suc, List, [], ◌++◌, length, Option, None, Some}
-use Rattle.machine_panel.specs.declared.stop.Stop.{Stop}
+use Rattle.machine_tables.specs.declared.stop.Stop.{Stop}
 use Rattle.machine_tapes.specs.Instruction.{tape_instruction}
 use Rattle.machine_tapes.specs.TapedStep.{TapedStepped, taped_step}
 use Rattle.machine_tapes.specs.Tapes.{Tapes, unit_of}
 use Rattle.machine_tapes.specs.declared.taped_machine.TapedMachine.{TapedMachine}
 use Rattle.machine_tapes.specs.declared.work.TapeInstruction.{TapeInstruction}
 use Rattle.job_runner.specs.Unattended.{taped_emptied}
-use Rattle.job_trace.specs.TraceLine.{line_of, seen_of, work_of}
-use Rattle.job_trace.specs.declared.work.TapeMark.{TapeMark}
+use Rattle.job_steps.specs.TraceLine.{line_of, seen_of, work_of}
+use Rattle.job_steps.specs.declared.work.TapeMark.{TapeMark}
 
 -- how far the reel is of a unit that has carried out an instruction
 abbrev pub mark_of : Tapes → ℕ → TapeMark

@@ -2,9 +2,9 @@
 -- files have then.
 use Rattle.std.specs.Prelude.{◌≡◌, ◌&&◌, nat_le, ℕ, ⊤, Bool, true, false, List, [], ◌∷◌, ◌++◌, Option, None, Some}
 use Rattle.std.specs.Prelude.{IfSome, if◌then◌else◌, string_bytes}
-use Rattle.machine_operations.specs.TapeUnit.{tape_units}
-use Rattle.machine_reels.specs.Reel.{records_of}
-use Rattle.machine_reels.specs.TapText.{tap_text}
+use Rattle.machine_tables.specs.TapeUnit.{tape_units}
+use Rattle.machine_tapes.specs.Reel.{records_of}
+use Rattle.machine_tapes.specs.TapText.{tap_text}
 use Rattle.machine_tapes.specs.Tapes.{Tapes, unit_of}
 use Rattle.program_call.specs.declared.call.MountedReel.{MountedReel}
 use Rattle.program_call.specs.declared.call.ReelSource.{ReelSource}

@@ -6,7 +6,7 @@ ghost use Rattle.std.specs.Io.KnownBytes.{Appends};
 ghost use Rattle.bytes_streams.specs.Sink.{AppendsPart};
 ghost use Rattle.job_runner.specs.Paper.{paper_text, place_beyond};
 ghost use Rattle.job_runner.specs.Unattended.{ended, taped_emptied, taped_with_deck, unattended, with_deck};
-ghost use Rattle.machine_operations.specs.TapeUnit.{tape_units};
+ghost use Rattle.machine_tables.specs.TapeUnit.{tape_units};
 ghost use Rattle.program_run.specs.RunDeck.{HasWritten, HasWrittenPart, IsAtEndOf, IsWhyUnwritten, RanStretch};
 ghost use Rattle.program_run.specs.RunDeck.{cards_text};
 ghost use Rattle.program_run.specs.RunDeck.{failed_of, first_place, received, report_of, started_job};
@@ -23,7 +23,7 @@ use devices_1401::{Card, PrintLine};
 use job_runner::{
     CardList, Collected, Deck, PaperPlace, press_load_key, put_cards, put_paper, run_job,
 };
-use job_trace::{TapeMark, Work};
+use job_steps::{TapeMark, Work};
 use machine_tapes::{TapeInstruction, TapedMachine, Tapes, tape_instruction, taped_step_law};
 use program_call::Start;
 use std::alloc::Global;

@@ -1,6 +1,6 @@
 //! How a job ended, in a line: the stop, the instruction and why, then what was carried out, read and written.
 ghost use Rattle.std.specs.Prelude.{◌≡◌, IfSome, length};
-ghost use Rattle.job_stops.specs.Reason.{stop_named};
+ghost use Rattle.job_steps.specs.Reason.{stop_named};
 ghost use Rattle.program_run.specs.ReelPlaces.{place_of, places_of};
 
 use crate::job_report::JobReport;
@@ -8,9 +8,8 @@ use crate::stopped_at::{RunSource, instruction_text};
 use bcd_1401::Cell;
 use core_1401::Core;
 use cpu_1401::{Machine, Stop};
-use job_stops::{Reason, halt_address, load_reason_told, taped_reason_told};
-use machine_reels::TapeRecords;
-use machine_tapes::{Drive, TapedMachine, Tapes};
+use job_steps::{Reason, halt_address, load_reason_told, taped_reason_told};
+use machine_tapes::{Drive, TapeRecords, TapedMachine, Tapes};
 use program_call::Start;
 use std::alloc::Global;
 use std::fmt;

@@ -5,11 +5,11 @@ ghost use Rattle.program_run.specs.Run.{job_outcome};
 use crate::ending::Ending;
 use autocoder_1401::AsmFault;
 use autocoder_deck::LoadFault;
-use bytes_files::FileFault;
+use bytes_descriptors::FileFault;
 use cpu_1401::Stop;
 use job_runner::DeckTextFault;
 use machine_image::ImageFault;
-use machine_reels::TapFault;
+use machine_tapes::TapFault;
 use thiserror::Error;
 
 /// What a run may fail by.

@@ -11,7 +11,7 @@ use crate::outputs::file_fault;
 use crate::programs::machine_of;
 use crate::running::set_up;
 use autocoder_deck::{LOADING_STEPS, LoadFault, loaded_image};
-use bytes_files::put_whole;
+use bytes_descriptors::put_whole;
 use job_runner::CardList;
 use machine_image::write_image;
 use program_call::{DEFAULT_SIZE, Job, Start};

@@ -6,7 +6,7 @@ ghost use Rattle.program_run.specs.RunEnd.{IsNoStopOf};
 ghost use Rattle.program_run.specs.RunFile.{inputs_of, written_of};
 
 use crate::fault::RunFault;
-use bytes_files::is_one_file;
+use bytes_descriptors::is_one_file;
 use program_call::{Job, MountedReel, ReelSource, Start};
 use std::alloc::Global;
 use std::rt::Files;

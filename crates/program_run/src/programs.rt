@@ -3,7 +3,7 @@ ghost use Rattle.std.specs.Prelude.{◌≡◌, true, false, Err, IfOk, IfErr, On
 ghost use Rattle.core_1401.specs.Storage.{is_core_size};
 ghost use Rattle.cpu_1401.specs.State.{power_on};
 ghost use Rattle.machine_image.specs.Image.{IsInCore};
-ghost use Rattle.machine_loading.specs.Loading.{load_commands};
+ghost use Rattle.machine_image.specs.Loading.{load_commands};
 ghost use Rattle.program_run.specs.Program.{IsAssembled, IsImageMachine, IsNoImage, after_commands, is_meant_as_image};
 ghost use Rattle.program_run.specs.Program.{with_image};
 ghost use Rattle.program_call.specs.Sizes.{is_refused, size_for};
@@ -12,11 +12,9 @@ use crate::fault::RunFault;
 use autocoder_1401::{PackedImage, assemble_packed};
 use autocoder_statements::Language;
 use core_1401::CoreFault;
-use cpu_1401::Machine;
+use cpu_1401::{Machine, carry_out};
 use machine_commands::Command;
-use machine_execution::carry_out;
-use machine_image::{LentImage, Segment, lend_image};
-use machine_loading::LoadCommands;
+use machine_image::{LentImage, LoadCommands, Segment, lend_image};
 use program_call::size_for;
 use std::alloc::Global;
 

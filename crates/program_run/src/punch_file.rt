@@ -2,11 +2,11 @@
 ghost use Rattle.std.specs.Prelude.{◌≡◌, ◌<◌, ◌≤◌, false, IsTrue, length, map, take, IfOk, OnOk, OnErr};
 ghost use Rattle.std.specs.Prelude.{option_and_then};
 ghost use Rattle.std.specs.Io.KnownBytes.{Appends, Keeps};
-ghost use Rattle.machine_graphics.specs.Graphics.{theirs_of};
+ghost use Rattle.bcd_1401.specs.Graphics.{theirs_of};
 ghost use Rattle.program_run.specs.RunDeck.{failed_of, in_graphics};
 
+use bcd_1401::Graphics;
 use bytes_streams::{Failed, Sink};
-use machine_graphics::Graphics;
 
 /// How many bytes are put into other graphics at once.
 const AT_ONCE: usize = 4_096;

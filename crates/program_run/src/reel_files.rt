@@ -5,7 +5,7 @@ ghost use Rattle.program_run.specs.WrittenReels.{HandsOver, ReelFile, reel_file}
 
 use crate::fault::RunFault;
 use crate::outputs::unwritten_file;
-use bytes_files::{NewFault, WriteFault, put_new, put_whole};
+use bytes_descriptors::{NewFault, WriteFault, put_new, put_whole};
 use std::alloc::Global;
 use std::rt::Files;
 

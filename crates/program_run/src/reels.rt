@@ -1,7 +1,7 @@
 //! The reels of a job: read and mounted before it, and written when it has ended.
 ghost use Rattle.std.specs.Prelude.{◌≡◌, ◌⊎◌, [], Err, IfOk, IfErr, IfSome, IsOk, OnOk, Some};
-ghost use Rattle.machine_reels.specs.Reel.{mounted, records_of};
-ghost use Rattle.machine_reels.specs.TapText.{tap_text};
+ghost use Rattle.machine_tapes.specs.Reel.{mounted, records_of};
+ghost use Rattle.machine_tapes.specs.TapText.{tap_text};
 ghost use Rattle.machine_tapes.specs.Drive.{mounted_on};
 ghost use Rattle.machine_tapes.specs.Tapes.{no_tapes};
 ghost use Rattle.program_call.specs.Mounted.{has_ring};
@@ -14,10 +14,9 @@ ghost use Rattle.program_run.specs.WrittenReels.{text_on};
 use crate::fault::RunFault;
 use crate::inputs::read_reel_file;
 use crate::reel_files::{ReelFiles, exists};
-use bytes_files::is_there;
-use machine_operations::TAPE_UNITS;
-use machine_reels::{Reel, TapFault, read_tap, write_tap};
-use machine_tapes::Tapes;
+use bytes_descriptors::is_there;
+use machine_tables::TAPE_UNITS;
+use machine_tapes::{Reel, TapFault, Tapes, read_tap, write_tap};
 use program_call::{MountedReel, ReelSource};
 use std::alloc::Global;
 use std::rt::Files;

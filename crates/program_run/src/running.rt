@@ -24,7 +24,7 @@ use crate::watching::{AboveLine, Shown, Unwatched};
 use bytes_streams::{Sink, ToWriter};
 use cpu_1401::{Machine, Stop};
 use job_runner::CardList;
-use machine_panel::Features;
+use machine_tables::Features;
 use machine_tapes::{TapedMachine, Tapes};
 use program_call::{Job, is_refused};
 use std::cell::Cell;

@@ -8,9 +8,8 @@ use autocoder_statements::{Language, split_line};
 use bcd_1401::Cell;
 use core_1401::Core;
 use cpu_1401::Machine;
-use job_stops::instruction_len;
-use machine_mnemonics::put_shown;
-use machine_notation::put_named_digits;
+use job_steps::instruction_len;
+use machine_notation::{put_named_digits, put_shown};
 use std::alloc::{AllocError, Global};
 
 /// A source that was assembled.

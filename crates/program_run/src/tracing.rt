@@ -10,7 +10,7 @@ use bytes_streams::{Sink, put_all};
 use bytes_text::Text;
 use cpu_1401::{Machine, Stop};
 use job_runner::STRETCH;
-use job_trace::{Snapshot, Work};
+use job_steps::{Snapshot, Work};
 use std::alloc::Global;
 
 /// Room for most lines, in bytes; a longer one takes more.

@@ -1,6 +1,6 @@
 //! How far a run is, shown while it goes on.
 
-use machine_operations::TAPE_UNITS;
+use machine_tables::TAPE_UNITS;
 use machine_tapes::Tapes;
 use std::cell::Cell;
 use std::io;

@@ -9,7 +9,7 @@ use Rattle.machine_commands.specs.declared.command.Command.{Command}
 use Rattle.room_alone.specs.declared.entry.SeatedCommand.{SeatedCommand}
 use Rattle.room_1401.specs.declared.published.Shown.{Shown}
 use Rattle.room_1401.specs.declared.published.Change.{Change}
-use Rattle.machine_execution.specs.CarryOut.{carry_out}
+use Rattle.cpu_1401.specs.CarryOut.{carry_out}
 use Rattle.room_alone.specs.declared.entry.Entry.{Entry}
 use Rattle.room_alone.specs.Journal.{most_entries, pairs_of}
 use Rattle.room_1401.specs.Ahead.{state_ahead}

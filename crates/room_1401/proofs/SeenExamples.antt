@@ -8,7 +8,7 @@ use Rattle.machine_commands.specs.declared.command.Command.TheVariants.{Deposit,
 use Rattle.room_alone.specs.declared.entry.Entry.{Entry}
 use Rattle.room_alone.specs.declared.entry.SeatedCommand.{SeatedCommand}
 use Rattle.room_1401.specs.declared.fault.CloseFault.TheVariants.{Unreturned}
-use Rattle.machine_execution.specs.CarryOut.{carry_out}
+use Rattle.cpu_1401.specs.CarryOut.{carry_out}
 use Rattle.room_1401.specs.Closing.{ClosesBy, IsSettled, back_of}
 use Rattle.room_alone.specs.Journal.{entry}
 use Rattle.room_alone.specs.Replay.{cell_after, pair}

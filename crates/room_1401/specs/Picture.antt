@@ -4,7 +4,7 @@ use Rattle.devices_1401.specs.Devices.{last_punched, next_card}
 use Rattle.cpu_1401.specs.CardsAndPrinter.{card_at, read_area}
 use Rattle.cpu_1401.specs.Fetched.{next_instruction}
 use Rattle.cpu_1401.specs.State.{State, regs_of}
-use Rattle.machine_execution.specs.CarryOut.{examined}
+use Rattle.cpu_1401.specs.CarryOut.{examined}
 use Rattle.room_alone.specs.declared.entry.SeatedCommand.{SeatedCommand}
 use Rattle.room_1401.specs.declared.picture.Picture.{Picture}
 use Rattle.room_1401.specs.declared.picture.Window.{Window}

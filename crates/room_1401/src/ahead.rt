@@ -4,8 +4,7 @@ ghost use Rattle.std.specs.Prelude.{◌≡◌, IfSome};
 ghost use Rattle.room_1401.specs.Ahead.{IsAhead, state_ahead};
 
 use crate::heap_machine::HeapMachine;
-use cpu_1401::Machine;
-use machine_execution::{Answer, Command};
+use cpu_1401::{Answer, Command, Machine};
 use room_alone::Room;
 use std::alloc::Global;
 

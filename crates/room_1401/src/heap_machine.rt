@@ -1,11 +1,10 @@
 //! A machine on the heap, so that what may have one stays small.
 ghost use Rattle.std.specs.Prelude.{◌≡◌, ◌<◌, ◌∷◌, ◌++◌, [], false, length, IfSome};
-ghost use Rattle.machine_execution.specs.CarryOut.{carry_out};
+ghost use Rattle.cpu_1401.specs.CarryOut.{carry_out};
 ghost use Rattle.room_1401.specs.Ahead.{IsAhead};
 ghost use Rattle.room_alone.specs.Journal.{entry, is_full};
 
-use cpu_1401::Machine;
-use machine_execution::{Answer, Command, carry_out};
+use cpu_1401::{Answer, Command, Machine, carry_out};
 use room_alone::{Room, SeatedCommand};
 use std::alloc::Global;
 use std::marker::Model;

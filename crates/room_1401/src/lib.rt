@@ -35,10 +35,9 @@ pub mod picture;
 pub mod seat;
 pub mod shared_room;
 
-pub use cpu_1401::SwitchName;
+pub use cpu_1401::{Answer, Command, Refusal, SwitchName, carry_out};
 pub use fault::{CloseFault, StartFault};
 pub use history::Opened;
-pub use machine_execution::{Answer, Command, Refusal, carry_out};
 pub use naming::RoomId;
 pub use paper::{PaperLines, WINDOW_LINES};
 pub use picture::{Picture, WINDOW_CELLS, Window};

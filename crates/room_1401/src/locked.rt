@@ -14,7 +14,7 @@ use crate::history::SeenPrefix;
 use crate::naming::RoomId;
 use crate::recording::Recorder;
 use crate::seat::{Seat, Told};
-use machine_execution::Command;
+use cpu_1401::Command;
 use room_alone::{Carried, Keeper, Room, RoomFault};
 use std::marker::Model;
 use std::sync::Wait;

@@ -1,6 +1,6 @@
 //! What an operator sees of the machine at one moment.
 ghost use Rattle.std.specs.Prelude.{◌≡◌, ◌+◌, ◌≤◌, ◌^◌, ◌<◌, length};
-ghost use Rattle.machine_execution.specs.CarryOut.{examined};
+ghost use Rattle.cpu_1401.specs.CarryOut.{examined};
 ghost use Rattle.room_1401.specs.Picture.{picture_of, window_cells};
 
 use crate::paper::{PaperLines, lines_from};

@@ -5,8 +5,7 @@ ghost use Rattle.room_1401.specs.Rule.{machine_after};
 
 use crate::heap_machine::HeapMachine;
 use crate::history::Reached;
-use cpu_1401::Machine;
-use machine_execution::{Command, carry_out};
+use cpu_1401::{Command, Machine, carry_out};
 
 /// What readers are shown.
 #[derive(Drop)]

@@ -14,7 +14,7 @@ use crate::history::{Head, SeenPrefix};
 use crate::naming::RoomId;
 use crate::published::Change;
 use crate::publisher::Publisher;
-use machine_execution::{Answer, Command};
+use cpu_1401::{Answer, Command};
 use room_alone::{Carried, Entry, Keeper, Room, RoomFault, SeatedCommand};
 use std::marker::Model;
 use std::sync::Wait;

@@ -6,17 +6,17 @@ use Rattle.bcd_1401.specs.declared.cell.Cell.{Cell}
 use Rattle.bcd_1401.specs.Graphic.{graphics}
 use Rattle.machine_commands.specs.declared.command.Command.TheVariants.{Deposit, Examine}
 use Rattle.machine_commands.specs.declared.fault.GlanceFault.TheVariants.{Range, Gone}
-use Rattle.machine_execution.specs.CarryOut.{carry_out}
+use Rattle.cpu_1401.specs.CarryOut.{carry_out}
 use Rattle.console_text.specs.declared.line.Line.TheVariants.{Command, Glance}
 use Rattle.console_text.specs.declared.line.LineFault.TheVariants.{Number, Extra, Word}
-use Rattle.console_lines.specs.declared.reply.Reply.{Reply}
-use Rattle.console_lines.specs.declared.reply.Reply.TheVariants as reply
+use Rattle.room_alone.specs.declared.reply.Reply.{Reply}
+use Rattle.room_alone.specs.declared.reply.Reply.TheVariants as reply
 use Rattle.console_text.specs.Words.{word_in, beyond_word, keyword_of, number_of, address_of}
 use Rattle.console_text.specs.ConsoleLine.{Said, said_by, said_in_words, said_with, ended, glance_of}
 use Rattle.console_text.specs.LineText.{IsLineOf}
 use Rattle.console_text.specs.AnswerText.{answer_text, glance_text}
 use Rattle.machine_notation.specs.Cells.{cells_text}
-use Rattle.console_lines.specs.ReplyText.{text_of_reply}
+use Rattle.room_alone.specs.ReplyText.{text_of_reply}
 use Rattle.room_alone.specs.Turns.{Turn, replies_to, journal_after}
 
 -- what a line says, with all that its grammar consists of open

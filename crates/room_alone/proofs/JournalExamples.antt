@@ -8,7 +8,7 @@ use Rattle.machine_commands.specs.declared.answer.Refusal.TheVariants.{Address}
 use Rattle.machine_commands.specs.declared.command.Command.TheVariants.{Deposit, Examine, SetI}
 use Rattle.room_alone.specs.declared.entry.Entry.{Entry}
 use Rattle.room_alone.specs.Account.{IsExplained}
-use Rattle.machine_execution.specs.CarryOut.{carry_out}
+use Rattle.cpu_1401.specs.CarryOut.{carry_out}
 use Rattle.room_alone.specs.Journal.{IsLegal, entry}
 
 -- K with a word mark

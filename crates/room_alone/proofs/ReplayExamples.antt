@@ -5,9 +5,9 @@ use Rattle.bcd_1401.specs.Graphic.{graphics}
 use Rattle.bcd_1401.specs.declared.cell.Cell.{Cell}
 use Rattle.core_1401.specs.Places.{with_cells}
 use Rattle.core_1401.specs.Storage.{blank}
-use Rattle.machine_panel.specs.Features.{no_features, with_feature}
-use Rattle.machine_panel.specs.declared.features.Feature.TheVariants.{Lengths}
-use Rattle.machine_panel.specs.declared.stop.Stop.TheVariants as stop
+use Rattle.machine_tables.specs.Features.{no_features, with_feature}
+use Rattle.machine_tables.specs.declared.features.Feature.TheVariants.{Lengths}
+use Rattle.machine_tables.specs.declared.stop.Stop.TheVariants as stop
 use Rattle.cpu_1401.specs.Fitting.{fitted_step}
 use Rattle.cpu_1401.specs.Run.{run_for}
 use Rattle.cpu_1401.specs.Step.{step}
@@ -16,7 +16,7 @@ use Rattle.machine_commands.specs.declared.answer.Answer.TheVariants.{Done, Cell
 use Rattle.machine_commands.specs.declared.answer.Refusal.TheVariants as refusal
 use Rattle.machine_commands.specs.declared.command.Command.TheVariants.{Deposit, Examine, SetI, Feed, LoadKey, Run}
 use Rattle.machine_commands.specs.declared.command.Command.TheVariants.{Fit}
-use Rattle.machine_execution.specs.CarryOut.{carry_out}
+use Rattle.cpu_1401.specs.CarryOut.{carry_out}
 use Rattle.room_alone.specs.declared.entry.SeatedCommand.{SeatedCommand}
 use Rattle.room_alone.specs.Replay.{pair, answers_of, replay}
 

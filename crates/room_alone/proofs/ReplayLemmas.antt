@@ -8,7 +8,7 @@ use Rattle.machine_commands.specs.declared.command.Command.{Command}
 use Rattle.room_alone.specs.declared.entry.Entry.{Entry}
 use Rattle.room_alone.specs.declared.entry.SeatedCommand.{SeatedCommand}
 use Rattle.room_alone.specs.Account.{IsExplained}
-use Rattle.machine_execution.specs.CarryOut.{carry_out}
+use Rattle.cpu_1401.specs.CarryOut.{carry_out}
 use Rattle.room_alone.specs.Replay.{pair, state_after, answers_after, replay, answers_of}
 use Rattle.room_alone.specs.Journal.{entry, pair_of, answer_in, pairs_of, state_of, IsLegal, answer_to, most_entries}
 

@@ -12,12 +12,12 @@ use Rattle.room_alone.specs.Account.{Account}
 use Rattle.room_alone.specs.Journal.{entry}
 use Rattle.console_text.specs.declared.line.Line.TheVariants.{Command, Quit}
 use Rattle.console_text.specs.ConsoleLine.{Said}
-use Rattle.console_lines.specs.declared.session_end.SessionEnd.TheVariants as end
+use Rattle.room_alone.specs.declared.session_end.SessionEnd.TheVariants as end
 use Rattle.machine_notation.specs.Bytes.{line_feed}
-use Rattle.console_lines.specs.Session.{NoQuit, SessionDid}
+use Rattle.room_alone.specs.Session.{NoQuit, SessionDid}
 use Rattle.room_alone.specs.Turns.{Turn, Answered, NoneRefused}
-use Rattle.console_lines.specs.Limits.{most_bytes}
-use Rattle.console_lines.specs.Text.{Cut, in_front, cut_of, said_finished, lines_of}
+use Rattle.room_alone.specs.Limits.{most_bytes}
+use Rattle.room_alone.specs.Text.{Cut, in_front, cut_of, said_finished, lines_of}
 use Rattle.room_alone.proofs.SessionExamples.{lines_in, replies_in, good}
 
 -- a text and a line feed

@@ -4,16 +4,16 @@ use Rattle.std.specs.Prelude.{Ok, Err, codes}
 use Rattle.bcd_1401.specs.declared.cell.Cell.{Cell}
 use Rattle.bcd_1401.specs.Graphic.{graphics}
 use Rattle.machine_commands.specs.declared.command.Command.TheVariants.{Deposit, Examine}
-use Rattle.machine_execution.specs.CarryOut.{carry_out}
+use Rattle.cpu_1401.specs.CarryOut.{carry_out}
 use Rattle.console_text.specs.declared.line.Line.TheVariants.{Empty, Command, Quit}
 use Rattle.console_text.specs.declared.line.LineFault.TheVariants.{Word, Length}
 use Rattle.console_text.specs.Words.{word_in, beyond_word, keyword_of, number_of, address_of, count_of}
 use Rattle.console_text.specs.ConsoleLine.{Said, said_by, said_in_words, said_with, ended, examine_of}
 use Rattle.console_text.specs.AnswerText.{answer_text}
 use Rattle.machine_notation.specs.Cells.{cells_text}
-use Rattle.console_lines.specs.ReplyText.{text_of_reply}
+use Rattle.room_alone.specs.ReplyText.{text_of_reply}
 use Rattle.room_alone.specs.Turns.{Turn, replies_to, journal_after}
-use Rattle.console_lines.specs.Text.{cut_of, without_return, lines_of}
+use Rattle.room_alone.specs.Text.{cut_of, without_return, lines_of}
 
 -- the lines of a text, with all that they consist of open
 unfoldable pub lines_in : Bool → List ℕ → List Said

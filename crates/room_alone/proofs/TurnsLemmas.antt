@@ -7,16 +7,16 @@ use Rattle.std.specs.Prelude.{All, Ok, Err}
 use Rattle.room_alone.specs.declared.entry.Entry.{Entry}
 use Rattle.room_alone.specs.Account.{Account}
 use Rattle.room_alone.specs.Kept.{KeptAccount}
-use Rattle.console_lines.specs.declared.reply.Reply.{Reply}
-use Rattle.console_lines.specs.declared.session_end.SessionEnd.{SessionEnd}
-use Rattle.console_lines.specs.declared.session_end.SessionEnd.TheVariants as end
+use Rattle.room_alone.specs.declared.reply.Reply.{Reply}
+use Rattle.room_alone.specs.declared.session_end.SessionEnd.{SessionEnd}
+use Rattle.room_alone.specs.declared.session_end.SessionEnd.TheVariants as end
 use Rattle.console_text.specs.ConsoleLine.{Said}
-use Rattle.console_lines.specs.ReplyText.{bytes_of}
+use Rattle.room_alone.specs.ReplyText.{bytes_of}
 use Rattle.console_text.specs.declared.line.Line.TheVariants as line
 use Rattle.room_alone.specs.Turns.{Turn, RoomResponds, Answered, NoneRefused, entries_of, commands_in, reply_of}
 use Rattle.room_alone.specs.Turns.{AnsweredKept, KeptResponds, journal_after, replies_to}
-use Rattle.console_lines.specs.Session.{HasEnded, SessionDid}
-use Rattle.console_lines.specs.Answering.{AnsweredAll}
+use Rattle.room_alone.specs.Session.{HasEnded, SessionDid}
+use Rattle.room_alone.specs.Answering.{AnsweredAll}
 
 -- of fewer commands none was refused either
 none_of_fewer : (fewer many : ℕ) (turns : List Turn) → fewer ≤ many → NoneRefused (take many turns)

@@ -1,5 +1,13 @@
 pub mod Account
+pub mod Answering
+pub mod Bytes
+pub mod Console
 pub mod Journal
 pub mod Kept
+pub mod Limits
 pub mod Replay
+pub mod ReplyText
+pub mod Session
+pub mod SessionEnd
+pub mod Text
 pub mod Turns

@@ -6,7 +6,7 @@ use Rattle.cpu_1401.specs.State.{State, power_on}
 use Rattle.machine_commands.specs.declared.answer.Answer.{Answer}
 use Rattle.machine_commands.specs.declared.command.Command.{Command}
 use Rattle.room_alone.specs.declared.entry.SeatedCommand.{SeatedCommand}
-use Rattle.machine_execution.specs.CarryOut.{carry_out}
+use Rattle.cpu_1401.specs.CarryOut.{carry_out}
 
 -- a command of a seat
 abbrev pub pair : ℕ → Command → SeatedCommand

@@ -10,10 +10,10 @@ use Rattle.room_alone.specs.Kept.{KeptAccount}
 use Rattle.room_alone.specs.Journal.{entry, answer_to, is_full, pairs_of}
 use Rattle.room_alone.specs.Replay.{cell_after}
 use Rattle.console_text.specs.declared.line.Line.TheVariants as line
-use Rattle.console_lines.specs.declared.reply.Reply.{Reply}
-use Rattle.console_lines.specs.declared.reply.Reply.TheVariants as reply
+use Rattle.room_alone.specs.declared.reply.Reply.{Reply}
+use Rattle.room_alone.specs.declared.reply.Reply.TheVariants as reply
 use Rattle.console_text.specs.ConsoleLine.{Said}
-use Rattle.console_lines.specs.ReplyText.{bytes_of}
+use Rattle.room_alone.specs.ReplyText.{bytes_of}
 
 -- a line, and whether memory for the journal was refused at it
 pub record Turn : Type 0 where

@@ -1,7 +1,7 @@
 //! A line of the journal, and the command in it with its seat.
 ghost use Rattle.std.specs.Prelude.{◌≡◌};
 
-use machine_execution::{Answer, Command};
+use cpu_1401::{Answer, Command};
 
 /// A command with the seat that gave it.
 #[derive(Clone, Copy)]

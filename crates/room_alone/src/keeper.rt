@@ -4,7 +4,7 @@ ghost use Rattle.std.specs.Io.KnownBytes.{Appends};
 ghost use Rattle.room_alone.specs.Kept.{AppendsPart, Form};
 
 use crate::entry::Entry;
-use machine_execution::Answer;
+use cpu_1401::Answer;
 use thiserror::Error;
 
 /// An entry wasn't kept, or only a part of its line was.

@@ -2,16 +2,15 @@
 ghost use Rattle.std.specs.Prelude.{◌≡◌, ◌+◌, ◌<◌, ◌≤◌, ◌↔◌, [], ◌∷◌, ◌++◌, true, false, length, IsOk, IfOk, IfErr};
 ghost use Rattle.std.specs.Prelude.{OnOk, OnErr};
 ghost use Rattle.std.specs.Io.KnownBytes.{Appends};
-ghost use Rattle.machine_execution.specs.CarryOut.{carry_out};
+ghost use Rattle.cpu_1401.specs.CarryOut.{carry_out};
 ghost use Rattle.room_alone.specs.Journal.{answer_to, entry, is_full, refusal_of, state_of};
 ghost use Rattle.room_alone.specs.Kept.{IsKeptAs, LacksLast, kept_text};
 
 use crate::entry::Entry;
 use crate::keeper::{Carried, Keeper};
 use crate::room::Room;
-use cpu_1401::Machine;
+use cpu_1401::{Answer, Command, Machine};
 use machine_commands::RoomFault;
-use machine_execution::{Answer, Command};
 use std::marker::Model;
 
 /// A room and its keeper. What is kept is the text of the room's journal. After a write that failed it breaks off in

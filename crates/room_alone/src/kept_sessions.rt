@@ -2,13 +2,13 @@
 ghost use Rattle.std.specs.Prelude.{◌≡◌, ◌≢◌, true, false, IsTrue};
 ghost use Rattle.room_alone.specs.Kept.{IsKeptAs};
 ghost use Rattle.room_alone.specs.Turns.{AnsweredKept, KeptResponds};
-ghost use Rattle.console_lines.specs.Session.{SessionDid};
+ghost use Rattle.room_alone.specs.Session.{SessionDid};
 
 use crate::keeper::Keeper;
 use crate::kept_room::KeptRoom;
 use crate::sessions::{OWN_SEAT, glance_at};
+use crate::{Reply, Responder, SessionEnd, answer_lines};
 use bytes_streams::{Sink, Source};
-use console_lines::{Reply, Responder, SessionEnd, answer_lines};
 use console_text::{Line, LineFault};
 use std::alloc::Global;
 

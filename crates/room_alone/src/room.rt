@@ -2,14 +2,13 @@
 ghost use Rattle.std.specs.Prelude.{◌≡◌, ◌+◌, ◌<◌, ◌≤◌, ◌↔◌, [], ◌∷◌, ◌++◌, true, false, length, vec_len, vec_capacity};
 ghost use Rattle.std.specs.Prelude.{IsOk, IfOk, IfErr, OnOk, OnErr};
 ghost use Rattle.core_1401.specs.Storage.{is_core_size};
-ghost use Rattle.machine_execution.specs.CarryOut.{carry_out};
+ghost use Rattle.cpu_1401.specs.CarryOut.{carry_out};
 ghost use Rattle.room_alone.specs.Journal.{IsLegal, answer_to, entry, is_full, most_entries, refusal_of, state_of};
 
 use crate::entry::Entry;
 use core_1401::CoreFault;
-use cpu_1401::Machine;
+use cpu_1401::{Answer, Command, Machine, carry_out};
 use machine_commands::RoomFault;
-use machine_execution::{Answer, Command, carry_out};
 use std::alloc::Global;
 use std::marker::Model;
 use std::mem::swap;

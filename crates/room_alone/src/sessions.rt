@@ -1,11 +1,11 @@
 //! A session at the console of a room.
 ghost use Rattle.std.specs.Prelude.{◌≡◌, ◌≢◌, false, IsTrue};
 ghost use Rattle.room_alone.specs.Turns.{Answered, RoomResponds, glance_reply};
-ghost use Rattle.console_lines.specs.Session.{SessionDid};
+ghost use Rattle.room_alone.specs.Session.{SessionDid};
 
 use crate::room::Room;
+use crate::{Reply, Responder, SessionEnd, answer_lines};
 use bytes_streams::{Sink, Source};
-use console_lines::{Reply, Responder, SessionEnd, answer_lines};
 use console_text::{Line, LineFault};
 use machine_commands::{Glance, GlanceFault};
 use std::alloc::Global;

@@ -1,2 +1,7 @@
+pub mod ChoiceLemmas
+pub mod EntryLemmas
+pub mod ReadsLemmas
 mod ShowingLemmas
+pub mod TabLemmas
+pub mod TextLemmas
 mod VerifyingLemmas

@@ -3,12 +3,12 @@ use Rattle.std.proofs.Common.{◌≡◌, ℕ, List, [], ◌∷◌, Option, arith
 use Rattle.std.specs.Prelude.{IfErr}
 use Rattle.std.specs.Io.KnownBytes.{Appends}
 use Rattle.room_alone.specs.declared.entry.Entry.{Entry}
-use Rattle.room_journal.specs.declared.fault.Wrong.{Wrong}
-use Rattle.room_journal.specs.declared.fault.Wrong.TheVariants as wrong
-use Rattle.room_journal.specs.declared.listing.View.{View}
-use Rattle.room_journal.specs.Reading.{IsCut, IsRefusedIn, IsTextOf}
-use Rattle.room_journal.specs.Reading.IsCut.{in_entry, in_header}
-use Rattle.room_journal.specs.Listing.{listing_text}
+use Rattle.room_files.specs.declared.journal_fault.Wrong.{Wrong}
+use Rattle.room_files.specs.declared.journal_fault.Wrong.TheVariants as wrong
+use Rattle.room_files.specs.declared.listing.View.{View}
+use Rattle.room_files.specs.Reading.{IsCut, IsRefusedIn, IsTextOf}
+use Rattle.room_files.specs.Reading.IsCut.{in_entry, in_header}
+use Rattle.room_files.specs.Listing.{listing_text}
 use Rattle.room_files.specs.Showing.{IsNotShown, IsRefusedShown, IsShownUpTo, unfinished}
 use Rattle.room_files.specs.Showing.IsShownUpTo.{up_to_entry, up_to_header}
 

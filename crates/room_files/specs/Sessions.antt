@@ -1,12 +1,12 @@
 -- What a session did at a room whose journal is kept as a text (own).
 use Rattle.std.specs.Prelude.{◌≡◌, ◌≢◌, ℕ, true, false, List, Option}
-use Rattle.console_lines.specs.declared.session_end.SessionEnd.{SessionEnd}
-use Rattle.console_lines.specs.declared.session_end.SessionEnd.TheVariants.{Unkept}
-use Rattle.console_lines.specs.Session.{SessionDid}
+use Rattle.room_alone.specs.declared.session_end.SessionEnd.{SessionEnd}
+use Rattle.room_alone.specs.declared.session_end.SessionEnd.TheVariants.{Unkept}
+use Rattle.room_alone.specs.Session.{SessionDid}
 use Rattle.room_alone.specs.Account.{Account}
 use Rattle.room_alone.specs.Kept.{IsKeptAs, KeptAccount}
 use Rattle.room_alone.specs.Turns.{AnsweredKept}
-use Rattle.room_journal.specs.JournalText.{journal_form}
+use Rattle.room_files.specs.JournalText.{journal_form}
 
 -- A session was held at a room that is kept, from this room on. What is kept at its end is the text of the journal; or,
 -- if and only if the session ended as Unkept, it breaks off in the last line.

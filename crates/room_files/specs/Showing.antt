@@ -3,11 +3,11 @@ use Rattle.std.specs.Prelude.{◌≡◌, ◌+◌, ◌<◌, ℕ, ⊤, false, List
 use Rattle.std.specs.Io.KnownBytes.{Appends}
 use Rattle.bytes_streams.specs.Sink.{AppendsPart}
 use Rattle.room_alone.specs.declared.entry.Entry.{Entry}
-use Rattle.room_journal.specs.declared.fault.Wrong.{Wrong}
-use Rattle.room_journal.specs.declared.fault.Wrong.TheVariants as wrong
-use Rattle.room_journal.specs.declared.listing.View.{View}
-use Rattle.room_journal.specs.Listing.{listing_text}
-use Rattle.room_journal.specs.Reading.{IsRefusedIn, IsTextOf, has_line}
+use Rattle.room_files.specs.declared.journal_fault.Wrong.{Wrong}
+use Rattle.room_files.specs.declared.journal_fault.Wrong.TheVariants as wrong
+use Rattle.room_files.specs.declared.listing.View.{View}
+use Rattle.room_files.specs.Listing.{listing_text}
+use Rattle.room_files.specs.Reading.{IsRefusedIn, IsTextOf, has_line}
 use Rattle.room_files.specs.declared.showing.ShowFault.{ShowFault}
 use Rattle.room_files.specs.declared.showing.ShowFault.TheVariants as fault
 

@@ -1,7 +1,7 @@
 //! Why a journal isn't kept, or isn't taken up.
 ghost use Rattle.std.specs.Prelude.{◌≡◌, ◌≢◌};
 
-use room_journal::{JournalFault, Wrong};
+use crate::{JournalFault, Wrong};
 use thiserror::Error;
 
 /// Why the file of a journal can't be had.

@@ -1,12 +1,12 @@
 //! The files of journals.
 ghost use Rattle.std.specs.Prelude.{◌≡◌, false, IfOk};
-ghost use Rattle.room_journal.specs.JournalText.{journal_text};
+ghost use Rattle.room_files.specs.JournalText.{journal_text};
 
 use crate::fault::{JournalFileFault, KeepFault};
 use crate::journal_file::{Durability, JournalFile};
+use crate::recover_journal;
 use bytes_streams::Sink;
 use room_alone::{Entry, Room};
-use room_journal::recover_journal;
 use std::alloc::Global;
 use std::fs::{File, OpenFile, OpenOptions};
 use std::io::{ErrorKind, Read};

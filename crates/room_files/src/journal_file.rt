@@ -3,7 +3,7 @@ ghost use Rattle.std.specs.Prelude.{◌≡◌, ◌<◌, ◌≤◌, false, length
 
 use crate::fault::JournalFileFault;
 use crate::files::{bytes_of, file_fault};
-use bytes_files::size_limit;
+use bytes_descriptors::size_limit;
 use bytes_streams::{Failed, Sink, ToWriter};
 use std::alloc::Global;
 use std::fs::{File, OpenFile};

@@ -2,16 +2,16 @@
 ghost use Rattle.std.specs.Prelude.{◌≡◌, [], false, length, Err, IsTrue, IfOk, OnOk};
 ghost use Rattle.std.specs.Io.KnownBytes.{Appends};
 ghost use Rattle.std.specs.Option.{ForSome};
-ghost use Rattle.room_journal.specs.JournalText.{journal_text};
+ghost use Rattle.room_files.specs.JournalText.{journal_text};
 ghost use Rattle.room_alone.specs.Kept.{BeginsWith};
 ghost use Rattle.room_files.specs.Verifying.{emptied, verified};
 
 use crate::fault::TextFault;
 use crate::text_keeper::{Beginning, TextKeeper};
 use crate::verifier::Verifier;
+use crate::write_journal;
 use bytes_streams::{Sink, put_all};
 use room_alone::{Entry, Keeper, KeptRoom, Room};
-use room_journal::write_journal;
 use std::alloc::{AllocError, Global};
 
 /// Writes the first line of the journal of a machine of this size.

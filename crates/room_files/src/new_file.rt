@@ -5,7 +5,9 @@ use crate::fault::{JournalFileFault, KeepFault};
 use crate::files::{file_fault, keep_name, lock};
 use crate::journal_file::{Durability, JournalFile};
 use crate::keeping::begin_text;
-use bytes_files::{create_beside, create_new, end_of_links, is_named, keep_rights, remove_own};
+use bytes_descriptors::{
+    create_beside, create_new, end_of_links, is_named, keep_rights, remove_own,
+};
 use bytes_streams::{Sink, put_all};
 use std::fs;
 use std::fs::File;

@@ -1,15 +1,14 @@
 //! A session at the console of a room whose journal is kept as a text.
 ghost use Rattle.std.specs.Prelude.{◌≡◌, false, Ok, IsTrue, IfOk, OnErr};
 ghost use Rattle.std.specs.Io.KnownBytes.{Appends};
-ghost use Rattle.room_journal.specs.JournalText.{journal_text};
+ghost use Rattle.room_files.specs.JournalText.{journal_text};
 ghost use Rattle.room_files.specs.Sessions.{IsHeld};
 
 use crate::fault::TextFault;
 use crate::keeping::{keep_room, take_up_room};
 use crate::text_keeper::Beginning;
 use bytes_streams::{Sink, Source};
-use console_lines::SessionEnd;
-use room_alone::{Room, session_kept};
+use room_alone::{Room, SessionEnd, session_kept};
 use std::alloc::Global;
 
 /// Keeps a room by a sink from here on, and holds a session at its console.

@@ -1,13 +1,13 @@
 //! A journal's text, shown or checked.
 ghost use Rattle.std.specs.Prelude.{◌≡◌, ℕ, List, Err, IsTrue, IfOk, IfErr, OnOk};
-ghost use Rattle.room_journal.specs.Reading.{IsRefused, IsTextOf};
+ghost use Rattle.room_files.specs.Reading.{IsRefused, IsTextOf};
 ghost use Rattle.std.specs.Io.KnownBytes.{Appends};
-ghost use Rattle.room_journal.specs.Listing.{listing_text};
+ghost use Rattle.room_files.specs.Listing.{listing_text};
 ghost use Rattle.room_files.specs.Showing.{IsNotShown, IsOfEntries, IsShown, IsUnput, unfinished};
 
+use crate::{JournalFault, View, Wrong, list_journal, read_journal, recover_journal};
 use bytes_streams::{Sink, put_all};
 use room_alone::{Entry, Room};
-use room_journal::{JournalFault, View, Wrong, list_journal, read_journal, recover_journal};
 use std::alloc::Global;
 use thiserror::Error;
 

@@ -1,10 +1,10 @@
 //! A keeper that writes the text of a journal to a sink.
 ghost use Rattle.std.specs.Prelude.{◌≡◌, List, Option, ℕ, IfOk};
-ghost use Rattle.room_journal.specs.JournalText.{entry_text};
+ghost use Rattle.room_files.specs.JournalText.{entry_text};
 
+use crate::put_entry;
 use bytes_streams::{Sink, put_all};
 use room_alone::{Entry, Keeper, Unkept};
-use room_journal::put_entry;
 use std::alloc::{AllocError, Global};
 use std::marker::{Brand, PhantomData};
 
@@ -58,7 +58,7 @@ impl<J: Beginning, S: Sink + Drop> TextKeeper<J, S> {
 }
 
 impl<J: Beginning, S: Sink + Drop> Keeper for TextKeeper<J, S> {
-    ghost use Rattle.room_journal.specs.JournalText.{journal_form};
+    ghost use Rattle.room_files.specs.JournalText.{journal_form};
 
     ghost kept = { λ keeper. S.received keeper.sink };
 

@@ -27,7 +27,7 @@ pub mod sites;
 pub mod responses;
 pub mod taken;
 
-pub use bytes_sockets::{has_begun, linger};
+pub use bytes_descriptors::{has_begun, linger};
 pub use exchange::answer;
 pub use fields::{has_field, is_ambiguous, is_for, is_for_room, is_next};
 pub use listening::{MOST_LINE_BYTES, Requests, answer_bytes, answer_each, page_config};

@@ -8,7 +8,7 @@ use crate::listening::page_config;
 use crate::route::{Route, route_of};
 use crate::sites::{Site, is_from_site};
 use bytes::Bytes;
-use bytes_sockets::{Patient, linger};
+use bytes_descriptors::{Patient, linger};
 use http::Request;
 use http_server::{Connection, Response, Service};
 use std::alloc::{AllocError, AllocGlobal};

@@ -8,7 +8,7 @@ use Rattle.machine_notation.specs.Cells.{cells_text}
 use Rattle.machine_notation.specs.Digits.{digits_in}
 use Rattle.devices_1401.specs.declared.card.Card.{Card}
 use Rattle.devices_1401.specs.declared.print_line.PrintLine.{PrintLine}
-use Rattle.machine_mnemonics.specs.InstructionText.{instruction_text}
+use Rattle.machine_notation.specs.InstructionText.{instruction_text}
 use Rattle.machine_commands.specs.declared.answer.Answer.{Answer}
 use Rattle.machine_commands.specs.declared.answer.Answer.TheVariants as answer
 use Rattle.room_1401.specs.declared.picture.Picture.{Picture}

@@ -8,11 +8,9 @@ ghost use Rattle.serving_page.specs.PictureLines.{room_line, seat_line};
 use bcd_1401::Cell;
 use console_text::{put_characters, reply_text};
 use core_1401::{Cells, MOST_CELLS};
-use cpu_1401::InstructionCells;
+use cpu_1401::{Answer, InstructionCells};
 use devices_1401::{Card, PrintLine};
-use machine_execution::Answer;
-use machine_mnemonics::put_instruction;
-use machine_notation::{put_cells, put_named_digits};
+use machine_notation::{put_cells, put_instruction, put_named_digits};
 use room_1401::{Picture, WINDOW_CELLS};
 use std::alloc::{AllocError, Global};
 

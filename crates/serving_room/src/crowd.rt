@@ -1,7 +1,7 @@
 //! The connections of a page that have a thread: at most 64. For one more the oldest is closed that doesn't wait for
 //! its answer.
 
-use bytes_sockets::has_unread;
+use bytes_descriptors::has_unread;
 use std::alloc::{AllocError, Global};
 use std::net::{Shutdown, TcpStream};
 use std::sync::{Arc, Condvar, Mutex, MutexGuard, Wait};

@@ -9,7 +9,7 @@ ghost use Rattle.serving_room.specs.Accounted.{IsAccounted};
 use crate::paging::{PagePort, start_pages};
 use crate::room_pages::{RoomPages, Serving};
 use crate::watch::Watch;
-use bytes_sockets::shut_down;
+use bytes_descriptors::shut_down;
 use bytes_streams::Source;
 use console_1401::Door;
 use room_1401::{Keeper, Room, RoomId, Seat, SharedRoom};

@@ -9,8 +9,8 @@ use Rattle.std.proofs.lemmas.List.Elements.{All-nil, All-push}
 use Rattle.std.specs.Option.{option_to_list}
 use Rattle.std.proofs.KnownBytes.{Consumes-kept, Consumes-nil, Consumes-trans, Keeps-refl}
 use Rattle.std.specs.Io.KnownBytes.{Consumes, Keeps}
-use Rattle.console_lines.specs.Text.{Cut, cut_of}
-use Rattle.console_lines.proofs.TextLemmas.{cut_of-byte, cut_of-feed}
+use Rattle.room_alone.specs.Text.{Cut, cut_of}
+use Rattle.room_alone.proofs.TextLemmas.{cut_of-byte, cut_of-feed}
 use Rattle.serving_seats.specs.Input.{IsPassedOver, SaysClose, SaysNoQuit, SaysQuit, has_quit, match_more, quit_return}
 
 -- a line of which this much is matched, if anything is

@@ -2,7 +2,7 @@
 use Rattle.std.specs.Prelude.{◌≡◌, ℕ, ◌+◌, nat_lt, nat_le, ◌==◌, Bool, false, ◌&&◌, if◌then◌else◌, List, [], ◌∷◌, ◌++◌}
 use Rattle.std.specs.Prelude.{◌⊎◌, All, codes, get_or, Option, Some, None}
 use Rattle.std.specs.Io.KnownBytes.{Consumes}
-use Rattle.console_lines.specs.Text.{cut_of}
+use Rattle.room_alone.specs.Text.{cut_of}
 
 -- QUIT, and the carriage return that may follow it
 abbrev pub quit_return : List ℕ

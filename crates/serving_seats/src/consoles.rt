@@ -6,7 +6,7 @@ use crate::desk::Admission;
 use crate::service::SeatService;
 use crate::until_closing::UntilClosing;
 use crate::while_open::WhileOpen;
-use bytes_sockets::linger;
+use bytes_descriptors::linger;
 use bytes_streams::{FromReader, ToWriter, put_all};
 use console_1401::{Door, ahead_of, attend};
 use room_1401::{Keeper, RoomId, Seat, SharedRoom};

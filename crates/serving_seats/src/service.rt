@@ -7,7 +7,7 @@ ghost use Rattle.serving_seats.specs.Input.{SaysNoQuit, SaysQuit};
 use crate::desk::Desk;
 use crate::fault::SeatsFault;
 use crate::input::{InputEnd, read_to_quit};
-use bytes_sockets::{Pause, passes, shut_down};
+use bytes_descriptors::{Pause, passes, shut_down};
 use bytes_streams::Source;
 use room_1401::{RoomId, Seat};
 use std::alloc::{AllocError, Global};

@@ -7,7 +7,7 @@ use core_1401::CoreFault;
 use devices_1401::{ControlFault, FormsFull, HopperFull, ReaderEmpty, StackerFull};
 use fields_1401::FieldStop;
 use job_runner::DeckTextFault;
-use job_stops::Reason;
+use job_steps::Reason;
 use room_1401::{CloseFault, GlanceFault, RoomFault, StartFault, SwitchName, Unkept};
 use std::fmt::Display;
 

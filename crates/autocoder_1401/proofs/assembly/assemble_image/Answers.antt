@@ -6,7 +6,7 @@ use Rattle.autocoder_statements.specs.declared.statement.Line.{Line}
 use Rattle.autocoder_symbols.specs.Chains.{chains_of}
 use Rattle.autocoder_symbols.specs.Reading.{lines_in}
 use Rattle.autocoder_symbols.specs.Symbols.{sites_of}
-use Rattle.autocoder_faults.specs.FirstFault.{first_fault}
+use Rattle.autocoder_diagnostics.specs.FirstFault.{first_fault}
 use Rattle.autocoder_placing.proofs.PlacementLawLemmas.{placed_in_turn}
 use Rattle.autocoder_1401.proofs.AssemblyLemmas.{not_read, fault_of_read, made, made_in_core, made_cut}
 use Rattle.autocoder_1401.proofs.AssemblyLemmas.{made_fault, on_made}

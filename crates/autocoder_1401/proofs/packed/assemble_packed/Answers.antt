@@ -9,7 +9,7 @@ use Rattle.machine_image.specs.declared.version.Version.TheVariants.{Two}
 use Rattle.autocoder_statements.specs.declared.statement.Line.{Line}
 use Rattle.autocoder_symbols.specs.Chains.{chains_of}
 use Rattle.autocoder_symbols.specs.Symbols.{sites_of}
-use Rattle.autocoder_faults.specs.FirstFault.{first_fault}
+use Rattle.autocoder_diagnostics.specs.FirstFault.{first_fault}
 use Rattle.autocoder_symbols.specs.declared.fault.AsmFault.{AsmFault}
 use Rattle.autocoder_1401.proofs.AssemblyLemmas.{not_read, made, made_in_core}
 use Rattle.autocoder_1401.proofs.LanguagesLemmas.{agrees_with_plain}

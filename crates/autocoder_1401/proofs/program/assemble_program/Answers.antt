@@ -4,7 +4,7 @@ use Rattle.std.proofs.lemmas.Result.{err_from_is_err_and}
 use Rattle.autocoder_statements.specs.declared.statement.Line.{Line}
 use Rattle.autocoder_symbols.specs.Chains.{chains_of}
 use Rattle.autocoder_symbols.specs.Symbols.{sites_of}
-use Rattle.autocoder_faults.specs.FirstFault.{first_fault}
+use Rattle.autocoder_diagnostics.specs.FirstFault.{first_fault}
 use Rattle.autocoder_listing.specs.Rows.{rows_of}
 use Rattle.autocoder_listing.specs.SymbolTable.{symbols_in}
 use Rattle.autocoder_1401.specs.declared.program.AssemblyProgram.{AssemblyProgram as Made}

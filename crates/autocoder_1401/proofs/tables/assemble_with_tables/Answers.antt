@@ -5,7 +5,7 @@ use Rattle.autocoder_statements.specs.SourceLine.{lines_of}
 use Rattle.autocoder_statements.specs.declared.statement.Line.{Line}
 use Rattle.autocoder_symbols.specs.Chains.{chains_of}
 use Rattle.autocoder_symbols.specs.Symbols.{sites_of}
-use Rattle.autocoder_faults.specs.FirstFault.{first_fault}
+use Rattle.autocoder_diagnostics.specs.FirstFault.{first_fault}
 use Rattle.autocoder_listing.specs.CrossReference.{references_text}
 use Rattle.autocoder_listing.specs.Listing.{listing_text, listing_with}
 use Rattle.autocoder_listing.specs.SymbolTable.{symbols_text}

@@ -2,7 +2,7 @@
 use Rattle.std.proofs.Common.{rules, ◌≡◌, ◌∙◌, false, sym, subst, arith}
 use Rattle.std.specs.Prelude.{Err}
 use Rattle.job_runner.specs.Unattended.{taped_with_deck}
-use Rattle.machine_panel.specs.declared.stop.Stop.TheVariants as stop
+use Rattle.machine_tables.specs.declared.stop.Stop.TheVariants as stop
 use Rattle.autocoder_deck.specs.Entry.{IsWhyUnloaded, is_at_entry, none_carried, stopped, until_entry}
 use Rattle.autocoder_deck.proofs.EntryLemmas.{no_step}
 use Rattle.autocoder_deck.proofs.entry.until_entry.Goals as goal

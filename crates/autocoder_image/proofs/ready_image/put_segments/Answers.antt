@@ -4,8 +4,8 @@ use Rattle.machine_image.specs.ImageText.{line_of, segment_text, segments_text}
 use Rattle.machine_image.specs.declared.version.Version.TheVariants.{Two}
 use Rattle.machine_notation.proofs.RoomLemmas.{if_so}
 use Rattle.bytes_streams.specs.Sink.{AppendsPart}
-use Rattle.bytes_pages.specs.Page.{Sent}
-use Rattle.bytes_pages.proofs.SentLemmas.{part_before, sent_before, sent_more, sent_part}
+use Rattle.bytes_streams.specs.Page.{Sent}
+use Rattle.bytes_streams.proofs.SentLemmas.{part_before, sent_before, sent_more, sent_part}
 use Rattle.autocoder_image.specs.Pages.{unwritten}
 use Rattle.autocoder_image.proofs.PagesLemmas.{no_line, one_line}
 use Rattle.autocoder_image.proofs.ready_image.put_segments.Goals as goal

@@ -1,6 +1,6 @@
 -- What was written, what isn't written yet, and the lines of the segments that are left, are those of all segments.
 use Rattle.std.proofs.Common.{◌++◌, length}
-use Rattle.bytes_pages.specs.Page.{Sent}
+use Rattle.bytes_streams.specs.Page.{Sent}
 use Rattle.machine_image.specs.ImageText.{segments_text}
 use Rattle.machine_image.specs.declared.version.Version.TheVariants.{Two}
 use Rattle.autocoder_image.specs.Pages.{unwritten, HasRoom}

@@ -7,7 +7,7 @@ use Rattle.machine_image.specs.ImageText.{line_of, header_text, end_text, segmen
 use Rattle.machine_image.specs.declared.version.Version.TheVariants.{Two}
 use Rattle.machine_notation.proofs.RoomLemmas.{if_so}
 use Rattle.bytes_streams.specs.Sink.{AppendsPart}
-use Rattle.bytes_pages.proofs.SentLemmas.{part_before, part_then, sent_part, sent_rest, sent_then}
+use Rattle.bytes_streams.proofs.SentLemmas.{part_before, part_then, sent_part, sent_rest, sent_then}
 use Rattle.autocoder_image.specs.Pages.{unwritten}
 use Rattle.autocoder_image.proofs.PagesLemmas.{before_two, whole_text}
 use Rattle.autocoder_image.proofs.ready_image.write_packed.Goals as goal

@@ -4,8 +4,8 @@ use Rattle.std.proofs.lemmas.Result.{on_ok_weaker, on_err_weaker}
 use Rattle.std.specs.Prelude.{codes}
 use Rattle.machine_notation.proofs.RoomLemmas.{if_so}
 use Rattle.bytes_streams.specs.Sink.{AppendsPart}
-use Rattle.bytes_pages.specs.Page.{Sent}
-use Rattle.bytes_pages.proofs.SentLemmas.{part_then, sent_then}
+use Rattle.bytes_streams.specs.Page.{Sent}
+use Rattle.bytes_streams.proofs.SentLemmas.{part_then, sent_then}
 use Rattle.autocoder_listing.proofs.PageLemmas.{after_one, after_two, after_three, four_parts}
 use Rattle.autocoder_listing.proofs.writing.put_line.Goals as goal
 

@@ -2,8 +2,8 @@
 use Rattle.std.proofs.Common.{ℕ, List, ◌+◌, ◌++◌, length, refl, ap, subst, arith}
 use Rattle.machine_notation.proofs.RoomLemmas.{if_so}
 use Rattle.bytes_streams.specs.Sink.{AppendsPart}
-use Rattle.bytes_pages.specs.Page.{Sent}
-use Rattle.bytes_pages.proofs.SentLemmas.{part_before, sent_before, sent_more, sent_part}
+use Rattle.bytes_streams.specs.Page.{Sent}
+use Rattle.bytes_streams.proofs.SentLemmas.{part_before, sent_before, sent_more, sent_part}
 use Rattle.autocoder_statements.specs.SourceLine.{lines_of}
 use Rattle.autocoder_listing.specs.Heads.{heads_after, literals_after, written}
 use Rattle.autocoder_listing.proofs.PageLemmas.{more_written}

@@ -1,6 +1,6 @@
 -- What was written, what isn't written yet, and the lines that are left, are those of the whole source.
 use Rattle.std.proofs.Common.{◌≡◌, ◌+◌, ◌++◌, ◌≤◌, length, vec_capacity}
-use Rattle.bytes_pages.specs.Page.{most_in_page, Sent}
+use Rattle.bytes_streams.specs.Page.{most_in_page, Sent}
 use Rattle.autocoder_statements.specs.SourceLine.{lines_of}
 use Rattle.autocoder_listing.specs.Heads.{written}
 use Rattle.autocoder_listing.specs.Writing.{most_in_front}

@@ -2,7 +2,7 @@
 use Rattle.std.proofs.Common.{ℕ, List, ◌++◌, ap, subst}
 use Rattle.std.proofs.lemmas.Result.{on_err_weaker}
 use Rattle.bytes_streams.specs.Sink.{AppendsPart}
-use Rattle.bytes_pages.proofs.SentLemmas.{sent_part}
+use Rattle.bytes_streams.proofs.SentLemmas.{sent_part}
 use Rattle.autocoder_listing.specs.Writing.{text_for}
 use Rattle.autocoder_listing.proofs.writing.write_listing.Goals as goal
 

@@ -1,7 +1,7 @@
 -- The warnings are those of the source, those of what the plain language takes are carried out, and features add none.
 use Rattle.std.proofs.Common.{List, ◌∙◌, ap, sym, subst}
 use Rattle.std.specs.Prelude.{All, Contains}
-use Rattle.machine_panel.specs.Features.{no_features}
+use Rattle.machine_tables.specs.Features.{no_features}
 use Rattle.autocoder_statements.specs.declared.statement.Line.{Line}
 use Rattle.autocoder_symbols.specs.Reading.{lines_in}
 use Rattle.autocoder_warnings.specs.Warnings.{all_warnings, PlainIsCarriedOut}

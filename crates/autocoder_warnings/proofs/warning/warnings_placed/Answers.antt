@@ -1,7 +1,7 @@
 -- The warnings are those by what is known of all lines.
 use Rattle.std.proofs.Common.{◌≡◌, ℕ, List, [], ◌++◌, IfOk, replicate, ◌∙◌, ap, subst}
 use Rattle.bcd_1401.specs.declared.cell.Cell.{Cell}
-use Rattle.machine_panel.specs.declared.features.Features.{Features}
+use Rattle.machine_tables.specs.declared.features.Features.{Features}
 use Rattle.autocoder_diagnostics.specs.Noted.{known_of}
 use Rattle.autocoder_diagnostics.specs.Notes.{Known}
 use Rattle.autocoder_placing.specs.Filling.{addresses_from, filled, filled_from}

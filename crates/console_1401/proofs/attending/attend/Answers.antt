@@ -3,13 +3,13 @@ use Rattle.std.proofs.Common.{◌≡◌, ℕ, List, Option, sym, subst}
 use Rattle.room_alone.specs.declared.entry.SeatedCommand.{SeatedCommand}
 use Rattle.room_1401.specs.Keeping.{HasFailed}
 use Rattle.room_1401.specs.Seen.{SeatView}
-use Rattle.console_lines.specs.declared.session_end.SessionEnd.{SessionEnd}
-use Rattle.console_lines.specs.Answering.{AnsweredAll}
+use Rattle.room_alone.specs.declared.session_end.SessionEnd.{SessionEnd}
+use Rattle.room_alone.specs.Answering.{AnsweredAll}
 use Rattle.console_1401.specs.Attended.{Attended}
 use Rattle.console_1401.specs.SeatTurns.{KeptResponds}
-use Rattle.console_lines.specs.Session.{SessionDid}
+use Rattle.room_alone.specs.Session.{SessionDid}
 use Rattle.console_1401.proofs.AttendedLemmas.{attended_when_kept, number_stays}
-use Rattle.console_lines.proofs.SessionLemmas.{session_as}
+use Rattle.room_alone.proofs.SessionLemmas.{session_as}
 use Rattle.console_1401.proofs.attending.attend.Goals as goal
 
 at_seat : (size : ℕ) (has_kept has_failed : List SeatedCommand → Type 0) (last : SessionEnd)

@@ -2,7 +2,7 @@
 use Rattle.std.proofs.Common.{◌∙◌, sym, subst}
 use Rattle.cpu_1401.specs.DecodeCache.{CacheView, IsApart, IsCurrent, lowest_written}
 use Rattle.fields_1401.specs.Places.{marks_of}
-use Rattle.machine_products.specs.Quotients.{dividend_at}
+use Rattle.fields_1401.specs.Quotients.{dividend_at}
 use Rattle.cpu_1401.proofs.DecodeCacheLemmas.{current_divided, current_part, undivided}
 use Rattle.cpu_1401.proofs.marking.divide_there.Goals.{in-Some, in-None}
 use Rattle.cpu_1401.proofs.marking.divide_there.Goals as goal

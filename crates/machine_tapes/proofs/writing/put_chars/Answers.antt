@@ -2,7 +2,7 @@
 use Rattle.std.proofs.Common.{◌≡◌, ℕ, ◌+◌, ◌==◌, Bool, List, length, take, drop, is_ok, ap, sym, ◌∙◌}
 use Rattle.std.specs.Prelude.{if◌then◌else◌, nat_le, slice_range}
 use Rattle.std.proofs.lemmas.List.{length-map}
-use Rattle.machine_reels.specs.Reel.{after_write, room_in}
+use Rattle.machine_tapes.specs.Reel.{after_write, room_in}
 use Rattle.machine_tapes.specs.TapeText.{text_of}
 use Rattle.machine_tapes.proofs.WriteLemmas.{text_lent}
 use Rattle.machine_tapes.proofs.writing.put_chars.Goals as goal

@@ -2,7 +2,7 @@
 use Rattle.std.proofs.Common.{◌≡◌, ℕ, ◌+◌, List, ◌++◌, arith, ap, sym, ◌∙◌, length, take, drop}
 use Rattle.bcd_1401.specs.declared.cell.Cell.{Cell}
 use Rattle.core_1401.specs.Storage.{cell_at}
-use Rattle.machine_reels.specs.Reel.{Reel, after_write, room_in}
+use Rattle.machine_tapes.specs.Reel.{Reel, after_write, room_in}
 use Rattle.machine_tapes.specs.TapeText.{text_of, text_of_cell}
 use Rattle.machine_tapes.proofs.WriteLemmas.{room_after, text_first, text_more, text_within}
 use Rattle.machine_tapes.proofs.writing.put_text.Goals as goal

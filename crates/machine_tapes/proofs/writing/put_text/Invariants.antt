@@ -1,6 +1,6 @@
 -- The text so far is written.
 use Rattle.std.proofs.Common.{◌≡◌, take, drop}
-use Rattle.machine_reels.specs.Reel.{after_write}
+use Rattle.machine_tapes.specs.Reel.{after_write}
 use Rattle.machine_tapes.specs.TapeText.{text_of}
 use Rattle.machine_tapes.proofs.writing.put_text.Given as goal
 

@@ -1,6 +1,6 @@
 -- One more is counted.
 use Rattle.std.proofs.Common.{arith}
-use Rattle.operate_scout.proofs.AnyOfLemmas.{changed-more}
+use Rattle.operate_sitting.proofs.AnyOfLemmas.{changed-more}
 use Rattle.operate_answers.specs.Stops.{stop_counted}
 use Rattle.operate_answers.specs.declared.stops.NumberedStop.{NumberedStop}
 use Rattle.operate_answers.proofs.stops.count_each.Goals as goal

@@ -1,5 +1,5 @@
 use Rattle.std.proofs.Common.{rules, codes}
-use Rattle.machine_panel.specs.Features.{feature_name}
+use Rattle.machine_tables.specs.Features.{feature_name}
 use Rattle.program_arguments.proofs.NameLemmas.{named}
 use Rattle.program_arguments.proofs.features.is_named.Goals as goal
 

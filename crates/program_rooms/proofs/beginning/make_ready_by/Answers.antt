@@ -1,7 +1,7 @@
 -- The image is loaded, and then the cards are fed.
 use Rattle.std.proofs.Common.{sym, subst}
 use Rattle.std.proofs.lemmas.Result.{on_ok_weaker}
-use Rattle.machine_loading.specs.Loading.{load_commands}
+use Rattle.machine_image.specs.Loading.{load_commands}
 use Rattle.program_rooms.specs.Beginning.{GaveAll, feed_commands, ready_commands}
 use Rattle.program_rooms.proofs.BeginningLemmas.{gave_both}
 use Rattle.program_rooms.proofs.beginning.make_ready_by.Goals as goal

@@ -1,6 +1,6 @@
 -- The commands so far were given by this seat, and with those that are left they load the image.
 use Rattle.std.proofs.Common.{◌≡◌, ◌++◌}
-use Rattle.machine_loading.specs.Loading.{load_commands}
+use Rattle.machine_image.specs.Loading.{load_commands}
 use Rattle.program_rooms.specs.Beginning.{GaveAll}
 use Rattle.program_rooms.proofs.beginning.put_image_by.Given as goal
 

@@ -1,7 +1,7 @@
 -- A journal's text begins with its first line.
 use Rattle.std.proofs.Common.{◌≡◌, ℕ, List, ◌++◌, append-nil, sym, ap, ◌∙◌, rules}
 use Rattle.room_alone.specs.Kept.{lines_by}
-use Rattle.room_journal.specs.JournalText.{entry_text, header_text}
+use Rattle.room_files.specs.JournalText.{entry_text, header_text}
 use Rattle.program_rooms.proofs.resuming.verify_room.Goals as goal
 
 pub verify_journal-requires-clause-head :

@@ -3,8 +3,8 @@ use Rattle.std.proofs.Common.{Bool, Option, length, subst, sym, ap, ◌∙◌, �
 use Rattle.std.specs.Prelude.{is_some, nat_lt, option_and_then}
 use Rattle.std.specs.Io.KnownBytes.{Appends}
 use Rattle.bytes_streams.specs.Sink.{AppendsPart}
-use Rattle.machine_panel.specs.declared.regs.Regs.{Regs}
-use Rattle.job_trace.specs.TraceLine.{Seen}
+use Rattle.machine_tables.specs.declared.regs.Regs.{Regs}
+use Rattle.job_steps.specs.TraceLine.{Seen}
 use Rattle.program_run.specs.TraceText.{trace_text}
 use Rattle.program_run.specs.RunTrace.{lines_after, seen_if, traced}
 use Rattle.program_run.proofs.TraceLemmas.{line_part, of_size, some_limit, stretch_told, work_by}

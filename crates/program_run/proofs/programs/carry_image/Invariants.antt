@@ -1,6 +1,6 @@
 -- The segments that are left, and the entry, lead to what all of them do.
 use Rattle.std.proofs.Common.{◌≡◌, length}
-use Rattle.machine_loading.specs.Loading.{load_commands}
+use Rattle.machine_image.specs.Loading.{load_commands}
 use Rattle.program_run.specs.Program.{after_commands}
 use Rattle.program_run.proofs.programs.carry_image.Given as goal
 

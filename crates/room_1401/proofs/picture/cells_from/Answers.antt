@@ -1,7 +1,7 @@
 -- At the end the cells so far are all of them.
 use Rattle.std.proofs.Common.{◌≡◌, take, subst, sym, ◌∙◌, arith}
 use Rattle.std.proofs.lemmas.List.{take_all}
-use Rattle.machine_execution.specs.CarryOut.{examined}
+use Rattle.cpu_1401.specs.CarryOut.{examined}
 use Rattle.room_1401.proofs.picture.cells_from.Goals as goal
 
 pub returns : goal.returns

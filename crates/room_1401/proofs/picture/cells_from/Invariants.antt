@@ -1,6 +1,6 @@
 -- The cells so far are those from the address on.
 use Rattle.std.proofs.Common.{◌≡◌, length, take}
-use Rattle.machine_execution.specs.CarryOut.{examined}
+use Rattle.cpu_1401.specs.CarryOut.{examined}
 use Rattle.room_1401.specs.Picture.{window_cells}
 use Rattle.room_1401.proofs.picture.cells_from.Given as goal
 

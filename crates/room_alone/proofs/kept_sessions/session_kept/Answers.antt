@@ -1,11 +1,11 @@
 -- Of the lines answered at a room that is kept, the flags are picked line by line.
 use Rattle.std.proofs.Common.{ℕ, List, Option}
 use Rattle.room_alone.specs.Kept.{KeptAccount}
-use Rattle.console_lines.specs.declared.session_end.SessionEnd.{SessionEnd}
+use Rattle.room_alone.specs.declared.session_end.SessionEnd.{SessionEnd}
 use Rattle.room_alone.specs.Turns.{AnsweredKept, KeptResponds}
-use Rattle.console_lines.specs.Session.{SessionDid}
-use Rattle.console_lines.specs.Answering.{AnsweredAll}
-use Rattle.console_lines.proofs.SessionLemmas.{session_as}
+use Rattle.room_alone.specs.Session.{SessionDid}
+use Rattle.room_alone.specs.Answering.{AnsweredAll}
+use Rattle.room_alone.proofs.SessionLemmas.{session_as}
 use Rattle.room_alone.proofs.TurnsLemmas.{answered_at_kept, kept_size_stays}
 use Rattle.room_alone.proofs.kept_sessions.session_kept.Goals as goal
 

@@ -1,11 +1,11 @@
 -- Of the lines answered at the room, the flags are picked line by line.
 use Rattle.std.proofs.Common.{ℕ, List, Option}
 use Rattle.room_alone.specs.Account.{Account}
-use Rattle.console_lines.specs.declared.session_end.SessionEnd.{SessionEnd}
+use Rattle.room_alone.specs.declared.session_end.SessionEnd.{SessionEnd}
 use Rattle.room_alone.specs.Turns.{Answered, RoomResponds}
-use Rattle.console_lines.specs.Session.{SessionDid}
-use Rattle.console_lines.specs.Answering.{AnsweredAll}
-use Rattle.console_lines.proofs.SessionLemmas.{session_as}
+use Rattle.room_alone.specs.Session.{SessionDid}
+use Rattle.room_alone.specs.Answering.{AnsweredAll}
+use Rattle.room_alone.proofs.SessionLemmas.{session_as}
 use Rattle.room_alone.proofs.TurnsLemmas.{answered_at_room, size_stays}
 use Rattle.room_alone.proofs.sessions.session.Goals as goal
 

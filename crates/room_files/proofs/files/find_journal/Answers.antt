@@ -2,7 +2,7 @@
 use Rattle.std.proofs.Common.{◌≡◌, ℕ, ◌-◌, List, ◌++◌, length, take, ap, subst, ◌∙◌, arith}
 use Rattle.std.proofs.Math.Seq.{take-append_seam}
 use Rattle.std.proofs.lemmas.List.{length-append}
-use Rattle.room_journal.specs.JournalText.{journal_text}
+use Rattle.room_files.specs.JournalText.{journal_text}
 use Rattle.room_files.proofs.files.find_journal.Goals as goal
 
 -- a text without its last bytes

@@ -1,7 +1,7 @@
 -- The cells are those of the entry, which always say so.
 use Rattle.std.proofs.Common.{◌+◌, ◌≤◌, ℕ, List, arith, length, rules, subst, sym}
 use Rattle.core_1401.specs.EightCells.{AreEightCells}
-use Rattle.machine_panel.specs.declared.features.Features.{Features}
+use Rattle.machine_tables.specs.declared.features.Features.{Features}
 use Rattle.cpu_1401.specs.DecodedFitted.{IsSaying, SaysFitted}
 use Rattle.cpu_1401.specs.declared.fitted_entry.FittedEntry.{FittedEntry}
 use Rattle.cpu_1401.proofs.DecodedFittedLemmas.{entry_says}

@@ -1,7 +1,7 @@
 -- What these cells say they always say, and the other entries stay.
 use Rattle.std.proofs.Common.{◌+◌, ◌≤◌, ◌∙◌, List, length, rules, subst, sym}
 use Rattle.std.proofs.lemmas.List.{length-set}
-use Rattle.machine_panel.specs.declared.features.Features.{Features}
+use Rattle.machine_tables.specs.declared.features.Features.{Features}
 use Rattle.cpu_1401.specs.DecodedFitted.{IsSaying, SaysFitted}
 use Rattle.cpu_1401.specs.declared.fitted_entry.FittedEntry.{FittedEntry}
 use Rattle.cpu_1401.proofs.DecodedFittedLemmas.{always_say_fitted, one_more_says}

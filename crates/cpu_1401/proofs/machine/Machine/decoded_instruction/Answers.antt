@@ -2,8 +2,8 @@
 use Rattle.std.proofs.Common.{◌≡◌, ◌∙◌, ◌<◌, length, Result, Ok, Err, subst, sym}
 use Rattle.std.specs.Prelude.{IfErr, IfOk}
 use Rattle.core_1401.specs.Address.{addresses}
-use Rattle.machine_operations.specs.declared.operation.Operation.{Operation}
-use Rattle.machine_panel.specs.declared.stop.Stop.{Stop}
+use Rattle.machine_tables.specs.declared.operation.Operation.{Operation}
+use Rattle.machine_tables.specs.declared.stop.Stop.{Stop}
 use Rattle.cpu_1401.specs.Chaining.{perform_keeping}
 use Rattle.cpu_1401.specs.Fitting.{fitted_step}
 use Rattle.cpu_1401.specs.Instruction.{instruction_of}

@@ -1,6 +1,6 @@
 -- A feature modifies an address, and that is the step.
 use Rattle.std.proofs.Common.{◌≡◌, ◌∙◌, None, ap, rules, subst, sym}
-use Rattle.machine_operations.specs.declared.fitted.Fitted.TheVariants.{ModifyAddress}
+use Rattle.machine_tables.specs.declared.fitted.Fitted.TheVariants.{ModifyAddress}
 use Rattle.cpu_1401.specs.DecodedFitted.{SaysFitted}
 use Rattle.cpu_1401.specs.State.{State}
 use Rattle.cpu_1401.specs.Stepped.{Stepped}

@@ -1,6 +1,6 @@
 -- Each turn runs to a tape instruction and carries one out, or ends the run.
 use Rattle.std.proofs.Common.{◌≡◌, ◌≢◌, ℕ, ◌-◌, ◌<◌, ◌≤◌, arith, rules, ◌∙◌}
-use Rattle.machine_panel.specs.declared.stop.Stop.TheVariants as stop
+use Rattle.machine_tables.specs.declared.stop.Stop.TheVariants as stop
 use Rattle.machine_tapes.specs.declared.taped_machine.TapedMachine.{TapedMachine}
 use Rattle.machine_tapes.proofs.RunLemmas.{ends, first_step, goes_on, limit_met}
 use Rattle.machine_tapes.proofs.taped_machine.TapedMachine.run.Goals as goal

@@ -1,7 +1,7 @@
 -- The branch is in core, with its address.
 use Rattle.std.proofs.Common.{length, ap, arith}
 use Rattle.std.proofs.lemmas.Bool.{and_parts}
-use Rattle.machine_panel.specs.declared.regs.Regs.{Regs}
+use Rattle.machine_tables.specs.declared.regs.Regs.{Regs}
 use Rattle.cpu_1401.specs.Fetched.{next_instruction}
 use Rattle.machine_tapes.specs.TapedStep.{is_file_branch}
 use Rattle.machine_tapes.specs.Tapes.{is_latched}

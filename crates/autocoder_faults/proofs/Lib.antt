@@ -1,4 +1,0 @@
-pub mod ChainsLemmas
-pub mod FirstFaultLemmas
-pub mod LowestLemmas
-pub mod SoundLemmas

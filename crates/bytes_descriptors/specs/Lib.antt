@@ -1,0 +1,2 @@
+pub mod FileSize
+pub mod Limits

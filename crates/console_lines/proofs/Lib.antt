@@ -1,4 +1,0 @@
-pub mod AnsweringLemmas
-pub mod ReadingLemmas
-pub mod SessionLemmas
-pub mod TextLemmas

@@ -1,3 +1,0 @@
-mod CardExamples
-mod CarryOutExamples
-pub mod CellsLemmas

@@ -1,7 +1,0 @@
--- The cells so far are those from the address on.
-use Rattle.std.proofs.Common.{◌≡◌, take}
-use Rattle.machine_execution.specs.CarryOut.{examined}
-use Rattle.machine_execution.proofs.carrying.cells_from.Given as goal
-
-abbrev pub invariant-loop-i : goal.invariant-loop-i
-invariant-loop-i l = take l.i l.cells ≡ examined l.core l.address l.i

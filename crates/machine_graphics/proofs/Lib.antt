@@ -1,2 +1,0 @@
-mod GraphicsExamples
-pub mod GraphicsLemmas

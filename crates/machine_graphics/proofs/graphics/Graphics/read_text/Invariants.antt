@@ -1,8 +1,0 @@
--- The bytes so far are exchanged, and those that are left will be.
-use Rattle.std.proofs.Common.{◌≡◌, ◌++◌, map, take, drop}
-use Rattle.machine_graphics.specs.Graphics.{ours_of}
-use Rattle.machine_graphics.proofs.graphics.Graphics.read_text.Given as goal
-
-abbrev pub invariant-loop-i : goal.invariant-loop-i
-invariant-loop-i l =
-    take l.i l.text ++ map (ours_of l.self) (drop l.i l.text) ≡ map (ours_of l.self) l.fn.text

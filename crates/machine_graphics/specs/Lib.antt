@@ -1,2 +1,0 @@
-pub mod Graphics
-pub mod Suggestion

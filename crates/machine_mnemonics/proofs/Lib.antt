@@ -1,2 +1,0 @@
-mod InstructionTextExamples
-pub mod LengthLemmas

@@ -1,5 +1,0 @@
-use Rattle.std.proofs.Common.{length}
-use Rattle.machine_mnemonics.proofs.instruction.+d_in.Given as goal
-
-abbrev pub decreases-d_in : goal.decreases-d_in
-decreases-d_in l = length l.beyond.now

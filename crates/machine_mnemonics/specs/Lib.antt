@@ -1,4 +1,0 @@
-pub mod Address
-pub mod InstructionText
-pub mod Mnemonic
-pub mod ShownText

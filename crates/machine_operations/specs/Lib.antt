@@ -1,5 +1,0 @@
-pub mod Fitted
-pub mod Operation
-pub mod Row
-pub mod Rows
-pub mod TapeUnit

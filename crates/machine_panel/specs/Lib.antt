@@ -1,3 +1,0 @@
-pub mod Features
-pub mod Stop
-pub mod SwitchName

@@ -1,6 +1,0 @@
-pub mod Front
-pub mod Held
-pub mod Reel
-pub mod TapGrammar
-pub mod TapReading
-pub mod TapText

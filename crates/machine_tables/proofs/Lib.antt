@@ -1,0 +1,2 @@
+mod FeaturesExamples
+mod FittedExamples

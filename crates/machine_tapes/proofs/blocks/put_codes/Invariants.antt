@@ -1,0 +1,12 @@
+-- The characters so far are put, and their bytes go on.
+use Rattle.std.proofs.Common.{◌≡◌, length, take}
+use Rattle.std.specs.List.{prefix_len}
+use Rattle.machine_tapes.specs.Held.{goes_on, characters_of}
+use Rattle.machine_tapes.proofs.blocks.put_codes.Given as goal
+
+abbrev pub invariant-loop-i : goal.invariant-loop-i
+invariant-loop-i l = record {
+  size : length l.places ≡ length l.bytes;
+  value : characters_of (take l.i l.places) ≡ characters_of (take l.i l.bytes);
+  goes : prefix_len goes_on (take l.i l.places) ≡ l.i;
+}

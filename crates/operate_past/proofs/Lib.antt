@@ -1,4 +1,0 @@
-mod BackExamples
-pub mod BackLemmas
-pub mod CutLemmas
-pub mod FirstEntriesLemmas

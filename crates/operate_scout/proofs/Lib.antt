@@ -1,8 +1,0 @@
-pub mod AnyOfLemmas
-pub mod LimitLemmas
-mod OneStepLemmas
-pub mod PairedLemmas
-pub mod PlaceWatchLemmas
-pub mod RunOfFoundLemmas
-mod SearchExamples
-pub mod SearchLemmas

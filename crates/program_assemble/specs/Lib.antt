@@ -1,3 +1,0 @@
-pub mod Assemble
-pub mod Disassemble
-pub mod ReadyTables

@@ -1,0 +1,15 @@
+-- Two parts are put as one.
+use Rattle.std.proofs.Common.{◌++◌}
+use Rattle.std.specs.Prelude.{codes}
+use Rattle.machine_notation.specs.Digits.{digits_in}
+use Rattle.program_convert.proofs.PutsLemmas.{part_failed, puts_then}
+use Rattle.program_convert.proofs.listing.put_last_count.Goals as goal
+
+pub returns-in-Err-clause-puts : goal.returns-in-Err-clause-puts
+returns-in-Err-clause-puts g c =
+    part_failed _ _ _ c.args.page.now.items (codes " CHARACTERS " ++ digits_in 1 c.args.count) (codes "\n") c.in-Err.ensures.puts
+
+pub returns-in-Ok-clause-puts : goal.returns-in-Ok-clause-puts
+returns-in-Ok-clause-puts g c =
+    puts_then _ _ _ _ c.args.page.now.items (codes " CHARACTERS " ++ digits_in 1 c.args.count) _ (codes "\n") _ _
+    c.in-Ok.ensures.puts c.put_text.ensures.puts

@@ -1,0 +1,169 @@
+//! The subcommand `reel`, from file to file.
+
+use crate::decks::reel_deck;
+use crate::listing::write_reel_listing;
+use crate::reel_fault::ReelFault;
+use crate::reels::ReelText;
+use bcd_1401::{Graphics, in_theirs};
+use bytes_descriptors::{
+    FileFault, WriteFault, begin_whole, end_whole, is_one_file, put_whole, read_whole_reel,
+};
+use bytes_streams::ToWriter;
+use job_runner::CardList;
+use program_call::Parity;
+use std::alloc::Global;
+use std::io;
+use std::rt::Files;
+
+/// The bytes of a reel's file.
+///
+/// # Errors
+///
+/// `File`, with the name as it was given; else `Memory`.
+fn read_reel_file(rt: &(impl Files + AllocGlobal), name: String) -> Result<Vec<u8>, ReelFault> {
+    match read_whole_reel(rt, name.as_str()) {
+        Ok(bytes) => Ok(bytes),
+        Err(FileFault::Memory) => Err(ReelFault::Memory),
+        Err(fault) => Err(ReelFault::File(name, fault)),
+    }
+}
+
+/// The fault of two names that lead to one file.
+fn one_file(alloc: Global, first: &str, second: &str) -> ReelFault {
+    match (
+        String::from_str(alloc, first),
+        String::from_str(alloc, second),
+    ) {
+        (Ok(first), Ok(second)) => ReelFault::OneFile(first, second),
+        _ => ReelFault::Memory,
+    }
+}
+
+/// Looks at the names of the file that is read and of the file that is written.
+///
+/// # Errors
+///
+/// `OneFile` if they lead to one file, or `Memory`.
+pub fn check_names<R: Files + AllocGlobal>(rt: &R, file: &str, out: &str) -> Result<(), ReelFault> {
+    match is_one_file(rt, file, out) {
+        Ok(false) => Ok(()),
+        Ok(true) => Err(one_file(rt.alloc(), file, out)),
+        Err(_) => Err(ReelFault::Memory),
+    }
+}
+
+/// What a file of this name that isn't written is reported as.
+fn unwritten(name: String, fault: WriteFault) -> ReelFault {
+    match fault {
+        WriteFault::Memory => ReelFault::Memory,
+        WriteFault::Unwritten => ReelFault::Unwritten(name),
+    }
+}
+
+/// Writes a text to the file of this name, whole or not at all; or to standard output, if the name is its.
+fn put_file(
+    rt: &(impl Files + Print + AllocGlobal),
+    name: String,
+    text: &[u8],
+) -> Result<(), ReelFault> {
+    match put_whole(rt, name.as_str(), text) {
+        Ok(()) => Ok(()),
+        Err(fault) => Err(unwritten(name, fault)),
+    }
+}
+
+/// Writes the text of a reel as it is made, to the file of this name, whole or not at all; or to standard output, if the
+/// name is its.
+fn put_reel_file(
+    rt: &(impl Files + Print + AllocGlobal),
+    name: &str,
+    text: ReelText<'_>,
+) -> Result<(), WriteFault> {
+    match begin_whole(rt, name) {
+        Ok(file) => {
+            let mut writer = ToWriter::new(file);
+            let written = text.write(&mut writer);
+            end_whole(rt, writer.into_inner(), written.is_ok())
+        }
+        Err(fault) => Err(fault),
+    }
+}
+
+/// Writes the listing of the reel of a file to standard output.
+///
+/// # Errors
+///
+/// `File` if the file can't be read, `Reel` if it has no reel's text, and `Memory`; nothing is written then. `Output`
+/// if the listing isn't written, or a part of it alone.
+pub fn list_reel<R: Files + Print + AllocGlobal>(
+    rt: &R,
+    file: String,
+    parity: Parity,
+) -> Result<(), ReelFault> {
+    match read_reel_file(rt, file) {
+        Ok(text) => {
+            let mut writer = ToWriter::new(io::writer(rt));
+            write_reel_listing(rt.alloc(), text.as_slice(), parity, &mut writer)
+        }
+        Err(fault) => Err(fault),
+    }
+}
+
+/// Writes the deck of the reel of a file, in the graphics of the chain that is asked for, to the file named `out`.
+///
+/// # Errors
+///
+/// `OneFile` if both names lead to one file; `File` if the reel can't be read, `Reel` if the file has no reel's text,
+/// and `Record` if a record is longer than a card; `Unwritten` if the deck isn't written; or `Memory`.
+pub fn write_reel_deck<R: Files + Print + AllocGlobal>(
+    rt: &R,
+    file: String,
+    out: String,
+    asked: Option<Graphics>,
+    parity: Parity,
+) -> Result<(), ReelFault> {
+    match check_names(rt, file.as_str(), out.as_str()) {
+        Ok(()) => {}
+        Err(fault) => return Err(fault),
+    }
+    match deck_of_file(rt, file, asked, parity) {
+        Ok(deck) => put_file(rt, out, deck.as_slice()),
+        Err(fault) => Err(fault),
+    }
+}
+
+/// The deck of the reel of a file, in the graphics of the chain that is asked for.
+fn deck_of_file<R: Files + AllocGlobal>(
+    rt: &R,
+    file: String,
+    asked: Option<Graphics>,
+    parity: Parity,
+) -> Result<Vec<u8>, ReelFault> {
+    match read_reel_file(rt, file) {
+        Ok(text) => match reel_deck(rt.alloc(), text.as_slice(), parity) {
+            Ok(deck) => Ok(in_theirs(asked, deck)),
+            Err(fault) => Err(fault),
+        },
+        Err(fault) => Err(fault),
+    }
+}
+
+/// Writes the reel of a deck to the file of this name.
+///
+/// # Errors
+///
+/// `Full` if the deck is longer than a reel, `Unwritten` if the reel isn't written, or `Memory`.
+pub fn write_reel<R: Files + Print + AllocGlobal>(
+    rt: &R,
+    cards: &CardList,
+    out: String,
+    parity: Parity,
+) -> Result<(), ReelFault> {
+    match ReelText::new(rt.alloc(), cards, parity) {
+        Ok(text) => match put_reel_file(rt, out.as_str(), text) {
+            Ok(()) => Ok(()),
+            Err(fault) => Err(unwritten(out, fault)),
+        },
+        Err(fault) => Err(fault),
+    }
+}

@@ -1,4 +1,0 @@
-pub mod Choice
-pub mod JournalText
-pub mod Listing
-pub mod Reading
