@@ -9,7 +9,7 @@ use thiserror::Error;
 
 /// The kinds of fault, the lowest first. The whole source is searched for kinds 2 to 8, 10 and 11; only a source
 /// without any of them is placed, and then searched for kind 9.
-#[derive(Clone, Copy, Debug, PartialEq, Eq, Error)]
+#[derive(Clone, Copy, Debug, Error)]
 pub enum AsmKind {
     /// 1: memory was refused, or the source has more than 4,294,967,295 bytes.
     Memory = 1,
@@ -68,7 +68,7 @@ impl fmt::Display for AsmKind {
 }
 
 /// The first line with a fault, counted from 1, and its lowest kind. With Memory the line is 0.
-#[derive(Clone, Copy, Debug, PartialEq, Eq, Error)]
+#[derive(Clone, Copy, Debug, Error)]
 #[error("line {line}: {kind}")]
 pub struct AsmFault {
     /// The line.

@@ -7,7 +7,7 @@ ghost use Rattle.autocoder_warnings.specs.Loss.{operand_columns, operands_len, i
 use autocoder_statements::is_system_line;
 
 /// What a line loses.
-#[derive(Clone, Copy, Debug, PartialEq, Eq)]
+#[derive(Clone, Copy, Debug)]
 pub enum Loss {
     /// All that it holds: it is a card for the system that assembled a source, and is read as a comment.
     Card,

@@ -10,7 +10,7 @@ use autocoder_statements::{Addressing, Line, Statement};
 use autocoder_symbols::{AsmFault, Lines};
 
 /// A place that two lines fill.
-#[derive(Clone, Copy, Debug, PartialEq, Eq)]
+#[derive(Clone, Copy, Debug)]
 pub struct Overlap {
     /// The first such place.
     pub place: usize,

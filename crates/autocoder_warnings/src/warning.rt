@@ -50,7 +50,7 @@ use machine_tables::{Features, fitted_in, is_fitted_with, longest_at, tape_unit_
 use std::alloc::Global;
 
 /// What a line says and hardly means.
-#[derive(Clone, Copy, Debug, PartialEq, Eq)]
+#[derive(Clone, Copy, Debug)]
 pub enum WarningKind {
     /// The machine never carries out the instruction: its operation or its unit belongs to a feature that it hasn't
     /// got, or the operation has no instructions of this length.
@@ -76,7 +76,7 @@ pub enum WarningKind {
 }
 
 /// A warning.
-#[derive(Clone, Copy, Debug, PartialEq, Eq)]
+#[derive(Clone, Copy, Debug)]
 pub struct Warning {
     /// The number of the line, counted from 1.
     pub line: u64,

@@ -4,7 +4,7 @@ use std::io::ErrorKind;
 use thiserror::Error;
 
 /// Why a file can't be read.
-#[derive(Clone, Copy, Debug, PartialEq, Eq, Error)]
+#[derive(Clone, Copy, Debug, Error)]
 pub enum FileFault {
     /// There is no file of this name.
     #[error("no such file")]
@@ -27,7 +27,7 @@ pub enum FileFault {
 }
 
 /// Why a new file isn't made.
-#[derive(Clone, Copy, Debug, PartialEq, Eq, Error)]
+#[derive(Clone, Copy, Debug, Error)]
 pub enum NewFault {
     /// There is a file of this name already, which would be overwritten.
     #[error("already exists")]
@@ -41,7 +41,7 @@ pub enum NewFault {
 }
 
 /// Why a file isn't written.
-#[derive(Clone, Copy, Debug, PartialEq, Eq, Error)]
+#[derive(Clone, Copy, Debug, Error)]
 pub enum WriteFault {
     /// The file can't be made or written.
     #[error("cannot be written")]

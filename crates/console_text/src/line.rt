@@ -25,7 +25,7 @@ use thiserror::Error;
 pub const LINE_LIMIT: usize = 200;
 
 /// What a line says.
-#[derive(Clone, Copy, Debug, PartialEq, Eq)]
+#[derive(Clone, Copy)]
 pub enum Line {
     /// Nothing: it has blanks alone, and no reply.
     Empty,
@@ -38,7 +38,7 @@ pub enum Line {
 }
 
 /// Why a line says nothing that the console knows: the first fault from left to right.
-#[derive(Clone, Copy, Debug, PartialEq, Eq, Error)]
+#[derive(Clone, Copy, Debug, Error)]
 pub enum LineFault {
     /// 1: a word that isn't known.
     Word = 1,

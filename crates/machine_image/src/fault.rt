@@ -5,7 +5,7 @@ ghost use Rattle.machine_image.specs.Fault.{image_fault_number};
 use thiserror::Error;
 
 /// Why a text is read as no image, by number. The first wrong line decides; memory comes last.
-#[derive(Clone, Copy, Debug, PartialEq, Eq, Error)]
+#[derive(Clone, Copy, Debug, Error)]
 pub enum ImageFault {
     /// 1: the memory for the image was refused.
     #[error("1 MEMORY")]

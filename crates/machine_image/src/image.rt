@@ -5,7 +5,7 @@ use core_1401::Cells;
 use std::marker::Model;
 
 /// 1 to 40 cells, and the address of the first.
-#[derive(Clone, Copy, Debug, PartialEq, Eq)]
+#[derive(Clone, Copy, PartialEq, Eq)]
 pub struct Segment {
     /// The place of the first cell; each other goes to the next place.
     pub address: u16,
@@ -14,7 +14,7 @@ pub struct Segment {
 }
 
 /// Segments in order. Contracts see the list of them.
-#[derive(Debug, Drop)]
+#[derive(Drop)]
 pub struct Segments {
     segments: Vec<Segment>,
 }
@@ -46,7 +46,7 @@ impl Segments {
 
 /// The contents of core storage before a program is started: each segment in order, so that a later one overwrites an
 /// earlier one, and the address at which the program begins.
-#[derive(Debug, Drop)]
+#[derive(Drop)]
 pub struct Image {
     /// How many places the core storage has.
     pub size: u16,

@@ -4,7 +4,7 @@ use thiserror::Error;
 
 /// Why a text spells no cells that a command or a segment can have. A graphic that is missed among the first 40 comes
 /// before their number.
-#[derive(Clone, Copy, Debug, PartialEq, Eq, Error)]
+#[derive(Clone, Copy, Debug, Error)]
 pub enum CellsFault {
     /// A byte is no graphic.
     #[error("a byte is no graphic")]

@@ -11,7 +11,7 @@ use machine_tables::mnemonics::{
 };
 
 /// A mnemonic.
-#[derive(Clone, Copy, Debug, PartialEq, Eq)]
+#[derive(Clone, Copy)]
 pub struct Mnemonic {
     /// The columns 16 to 20.
     pub columns: [u8; 5],

@@ -3,13 +3,13 @@
 use thiserror::Error;
 
 /// The record has more characters than the reel has room for.
-#[derive(Clone, Copy, Debug, PartialEq, Eq, Error)]
+#[derive(Clone, Copy, Debug, Error)]
 #[error("REEL FULL")]
 pub struct ReelFull;
 
 /// Why a text isn't read as a reel (own): its first fault, and the number of the byte. The first byte of the text has
 /// number 0. Memory comes last.
-#[derive(Clone, Copy, Debug, PartialEq, Eq, Error)]
+#[derive(Clone, Copy, Debug, Error)]
 pub enum TapFault {
     /// Memory for the reel was refused.
     #[error("MEMORY")]

@@ -3,7 +3,7 @@
 use machine_tables::TapeUnit;
 
 /// How cells are on tape (A24-1403, "Magnetic Tape", from memory).
-#[derive(Clone, Copy, Debug, PartialEq, Eq)]
+#[derive(Clone, Copy)]
 pub enum TapeMode {
     /// `M`: their characters alone. Word marks in core stay.
     Move,
@@ -12,7 +12,7 @@ pub enum TapeMode {
 }
 
 /// What a unit is asked for.
-#[derive(Clone, Copy, Debug, PartialEq, Eq)]
+#[derive(Clone, Copy)]
 pub enum TapeWork {
     /// `R`: the next record is read.
     Read(TapeMode),
@@ -31,7 +31,7 @@ pub enum TapeWork {
 }
 
 /// A tape instruction.
-#[derive(Clone, Copy, Debug, PartialEq, Eq)]
+#[derive(Clone, Copy)]
 pub struct TapeInstruction {
     /// The unit that it names.
     pub unit: TapeUnit,

@@ -8,7 +8,7 @@ use cpu_1401::Answer;
 use thiserror::Error;
 
 /// An entry wasn't kept, or only a part of its line was.
-#[derive(Clone, Copy, Debug, PartialEq, Eq, Error)]
+#[derive(Clone, Copy, Debug, Error)]
 #[error("an entry of the journal wasn't kept")]
 pub struct Unkept;
 
@@ -41,7 +41,7 @@ pub trait Keeper {
 }
 
 /// An answer, and whether its entry is kept. An answer whose entry isn't kept must not go out.
-#[derive(Clone, Copy, Debug, PartialEq, Eq)]
+#[derive(Clone, Copy, Debug)]
 pub struct Carried {
     /// The machine's answer.
     pub answer: Answer,

@@ -3,7 +3,7 @@
 use thiserror::Error;
 
 /// What went wrong first while a room was served.
-#[derive(Clone, Copy, Debug, PartialEq, Eq, Error)]
+#[derive(Clone, Copy, Debug, Error)]
 pub enum SeatsFault {
     /// 1: there was no memory for the places of the seats, and nobody was served; or none for those who come to a page,
     /// which wasn't served.

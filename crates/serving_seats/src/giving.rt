@@ -11,7 +11,7 @@ use std::sync::Wait;
 use thiserror::Error;
 
 /// Why the commands of a journal weren't all given again.
-#[derive(Clone, Copy, Debug, PartialEq, Eq, Error)]
+#[derive(Clone, Copy, Debug, Error)]
 pub enum GiveFault {
     /// 1: an entry is of this seat, which the room hasn't. No command was given.
     #[error("no seat {0}")]
