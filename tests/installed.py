@@ -4,7 +4,7 @@
 
 The root is made by debootstrap. The package is installed there, README's session and its job are run, a room is served
 by the unit's own command line, a lesson is begun, a manual page is read, a word is completed in bash, and the package
-is removed again."""
+is removed again. Then a clone of the repository runs README's job there, with Python and without the toolchain."""
 import os
 import pty
 import re
@@ -21,6 +21,8 @@ from tests.serving.test_unit import words_of
 
 # What a root needs besides.
 BESIDES = "man-db,bash-completion"
+# How soon a fresh clone has printed README's list, in seconds.
+MOST_SECONDS = 5
 # What the system writes of its own accord.
 KEPT = "/var/lib/dpkg/", "/var/log/", "/var/cache/", "/etc/ld.so.cache", "/root/.bash_history", "/proc/", "/dev/"
 
@@ -146,6 +148,25 @@ def try_installed(root, package):
     root.same("what is left", sorted(root.files() ^ before), [])
 
 
+def try_clone(root):
+    """README's job in a clone, twice: it runs the release in dist/, and says so the first time."""
+    fetched = root.run("bash", "-c", "apt-get update -qq && apt-get install -qq --no-install-recommends python3")
+    root.check("Python is there", fetched.stderr.decode() if fetched.returncode != 0 else "")
+    clone = root.folder / "root/clone"
+    clone.mkdir()
+    run(["tar", "-x", "-C", clone], run(["git", "-C", TOP, "archive", "HEAD"]).stdout)
+    shutil.copytree(TOP / "dist", clone / "dist", dirs_exist_ok=True)
+    call, paper, ending = shown_job()
+    for name, first in ("first", r"ibm1401: this is ibm1401 [\d.]+, commit .*\n"), ("second", ""):
+        began = time.monotonic()
+        ran = root.run("bash", "-c", f"cd /root/clone && {call}")
+        took = time.monotonic() - began
+        root.same(f"a clone's {name} job", (ran.returncode, ran.stdout.decode()), (0, paper))
+        said = re.fullmatch(first + re.escape(f"{ending}\n"), ran.stderr.decode())
+        root.check(f"what it says at its {name} job", "" if said else ran.stderr.decode())
+        root.check(f"how soon its {name} job ends", "" if took <= MOST_SECONDS else f"{took:.1f} seconds")
+
+
 def try_package(package, made=None):
     """Tries a package in a root that is made, or was made before: how much passed and failed."""
     why = lacking()
@@ -161,4 +182,5 @@ def try_package(package, made=None):
             root.check("a root", f"debootstrap: {bootstrapped.returncode}" if bootstrapped.returncode != 0 else "")
         if root.failed == 0:
             try_installed(root, package)
+            try_clone(root)
         return root.passed, root.failed
