@@ -1,7 +1,7 @@
 """Wrong bodies as texts: further-edits/CRATE.txt has those of a crate, each below a line that says what is wrong.
 
     == A block that differs is passed by
-    refused: the clause `at` of `compare_fields`
+    refused: the clause `kept` of `left_to_compare`
     file: src/comparison.rt
     old: while left >= BLOCK && !differ(BLOCK) {
     new: while left >= BLOCK && !differ(BLOCK - 1) {
