@@ -1,19 +1,26 @@
 """Wrong bodies as texts: further-edits/CRATE.txt has those of a crate, each below a line that says what is wrong.
 
     == A block that differs is passed by
+    refused: the clause `kept` of `left_to_compare`
     file: src/comparison.rt
     old: while left >= BLOCK && !differ(BLOCK) {
     new: while left >= BLOCK && !differ(BLOCK - 1) {
-    refused: the clause `at` of `compare_fields`
 
 The old text is once in the file, and the new one takes its place; further pairs apply to what the earlier ones made.
-'refused' says which clause refuses the body, where that is known. `./check --edits` lays each out as a file of its own,
-since that is how rt takes it: a_block_that_differs_is_passed_by.edit."""
+'refused' says which clause the body breaks, where that is known. `./check --edits` lays each out as a file of its own,
+since that is how rt takes it: a_block_that_differs_is_passed_by.edit.
+
+    python3 -m tests.edit_texts    says 'refused' of each edit that changes one function, and that has one clause
+
+These are written again after a change of the code. What is said of any other edit is written by hand, and stays."""
 import re
 
 from tests.support import TOP
 
 FURTHER = TOP / "further-edits"
+# The beginning of a function, and of a clause of its contract.
+FUNCTION = re.compile(r"^( *)(?:(?:pub(?:\([a-z]+\))?|const|unsafe) )*fn (\w+)")
+CLAUSE = re.compile(r"^ *ensures(?: (\w+))? \{", re.MULTILINE)
 
 
 class Edit:
@@ -59,9 +66,63 @@ def further_edits(crate):
     return read_edits((FURTHER / f"{crate}.txt").read_text())
 
 
+def functions_in(source):
+    """The functions of a source: the first line and the last of each, its name, and the names of its clauses, which are
+    empty texts where a clause has none."""
+    lines = source.split("\n")
+    for first, line in enumerate(lines):
+        begun = FUNCTION.match(line)
+        if begun:
+            is_one_line, end = line.endswith("}") and "{" in line, f"{begun[1]}}}"
+            last = first if is_one_line or end not in lines[first:] else lines.index(end, first)
+            yield first, last, begun[2], CLAUSE.findall("\n".join(lines[first:last + 1]))
+
+
+def changed_functions(crate, edit):
+    """The functions that an edit changes: the file, the name and the clauses of each, or None for what is in none."""
+    found, source = [], ""
+    for line in edit.lines:
+        word, _, text = line.partition(" ")
+        if word == "file:":
+            file, source = text, (TOP / "crates" / crate / text).read_text()
+        elif word == "old:" and text in source:
+            at = source.count("\n", 0, source.index(text))
+            inside = [each[2:] for each in functions_in(source) if each[0] <= at <= each[1]]
+            found.append((file, *inside[-1]) if inside else None)
+    return found
+
+
+def only_clause(crate, edit):
+    """The clause that an edit must break, since it changes one function that has no other, or an empty text."""
+    found = changed_functions(crate, edit)
+    if not found or None in found or any(each != found[0] for each in found) or len(found[0][2]) != 1:
+        return ""
+    _, function, (clause,) = found[0]
+    return f"the clause `{clause}` of `{function}`" if clause else f"the only clause of `{function}`"
+
+
+def renew(crate):
+    """Writes 'refused' again for each edit of a crate's text whose clause is known from the code."""
+    path = FURTHER / f"{crate}.txt"
+    edits, lines = iter(further_edits(crate)), []
+    for line in path.read_text().split("\n"):
+        if line.startswith("== "):
+            edit = next(edits)
+            known = only_clause(crate, edit) or ("" if edit.refused.startswith("the only clause") else edit.refused)
+            lines += [line, f"refused: {known}"] if known else [line]
+        elif not line.startswith("refused: "):
+            lines.append(line)
+    path.write_text("\n".join(lines))
+
+
 def lay_out(crate, folder):
     """Writes each edit of a crate to a file in this folder, as rt takes it, and returns how many they are."""
     edits = further_edits(crate)
     for edit in edits:
         (folder / f"{edit.name}.edit").write_text(edit.text)
     return len(edits)
+
+
+if __name__ == "__main__":
+    for each in further_crates():
+        renew(each)

@@ -2,8 +2,9 @@
 
     ./check --release
 
-The root is made by debootstrap. The package is installed there, the first command of README is run, a room is served by
-the unit's own command line, a manual page is read, a word is completed in bash, and the package is removed again."""
+The root is made by debootstrap. The package is installed there, README's session and its job are run, a room is served
+by the unit's own command line, a lesson is begun, a manual page is read, a word is completed in bash, and the package
+is removed again. Then a clone of the repository runs README's job there, with Python and without the toolchain."""
 import os
 import pty
 import re
@@ -15,11 +16,13 @@ import time
 from pathlib import Path
 
 from tests.support import REPLY_SECONDS, TOP, Console, a_port, run
-from tests.tools.test_docs import rows_of
+from tests.tools.test_docs import rows_of, shown_job
 from tests.serving.test_unit import words_of
 
 # What a root needs besides.
 BESIDES = "man-db,bash-completion"
+# How soon a fresh clone has printed README's list, in seconds.
+MOST_SECONDS = 5
 # What the system writes of its own accord.
 KEPT = "/var/lib/dpkg/", "/var/log/", "/var/cache/", "/etc/ld.so.cache", "/root/.bash_history", "/proc/", "/dev/"
 
@@ -58,17 +61,16 @@ class Root:
         return {each for each in found if not each.startswith(KEPT)}
 
 
-def first_command():
-    """The first command of README, and what it answers by its table."""
-    command = re.search(r"^```sh\n(\./ibm1401 .*?)^```$", (TOP / "README.md").read_text(), re.MULTILINE | re.DOTALL)[1]
-    return command, "".join(f"{answered}\n" for _, answered in rows_of(TOP / "README.md"))
-
-
-def try_first_command(root):
-    """README's first command, in a folder where ./ibm1401 leads to the program."""
-    command, answered = first_command()
-    ran = root.run("bash", "-c", f"cd /tmp && ln -s /usr/bin/ibm1401 ibm1401 && {command}\nrm ibm1401")
-    root.same("README's first command", (ran.returncode, ran.stdout.decode(), ran.stderr), (0, answered, b""))
+def try_readme(root):
+    """The session that README has in a table, and its job, where the package has the examples."""
+    rows = rows_of(TOP / "README.md")
+    ran = root.run("ibm1401", "console", lines="".join(f"{line}\n" for line, _ in rows).encode())
+    answered = "".join(f"{answered}\n" for _, answered in rows if answered is not None)
+    root.same("README's session", (ran.returncode, ran.stdout.decode(), ran.stderr), (0, answered, b""))
+    call, paper, ending = shown_job()
+    ran = root.run("bash", "-c", f"cd /usr/share/doc/ibm1401 && {call.replace('./ibm1401', 'ibm1401')}")
+    said = ran.returncode, ran.stdout.decode(), ran.stderr.decode()
+    root.same("README's job", said, (0, paper, f"{ending}\n"))
 
 
 def try_room(root):
@@ -134,7 +136,7 @@ def try_installed(root, package):
     said = root.run("ibm1401", "--version").stdout.decode()
     known = re.fullmatch(r"ibm1401 [\d.]+\ncommit [0-9a-f]{40}\nproved by .*\n", said)
     root.check("its version", "" if known else said)
-    try_first_command(root)
+    try_readme(root)
     try_room(root)
     try_lesson(root)
     page = root.run("man", "ibm1401-run", env={**os.environ, "MANWIDTH": "200", "LC_ALL": "C", "PAGER": "cat"})
@@ -144,6 +146,25 @@ def try_installed(root, package):
     removed = root.run("dpkg", "--purge", "ibm1401")
     root.check("it is removed", removed.stderr.decode() if removed.returncode != 0 else "")
     root.same("what is left", sorted(root.files() ^ before), [])
+
+
+def try_clone(root):
+    """README's job in a clone, twice: it runs the release in dist/, and says so the first time."""
+    fetched = root.run("bash", "-c", "apt-get update -qq && apt-get install -qq --no-install-recommends python3")
+    root.check("Python is there", fetched.stderr.decode() if fetched.returncode != 0 else "")
+    clone = root.folder / "root/clone"
+    clone.mkdir()
+    run(["tar", "-x", "-C", clone], run(["git", "-C", TOP, "archive", "HEAD"]).stdout)
+    shutil.copytree(TOP / "dist", clone / "dist", dirs_exist_ok=True)
+    call, paper, ending = shown_job()
+    for name, first in ("first", r"ibm1401: this is ibm1401 [\d.]+, commit .*\n"), ("second", ""):
+        began = time.monotonic()
+        ran = root.run("bash", "-c", f"cd /root/clone && {call}")
+        took = time.monotonic() - began
+        root.same(f"a clone's {name} job", (ran.returncode, ran.stdout.decode()), (0, paper))
+        said = re.fullmatch(first + re.escape(f"{ending}\n"), ran.stderr.decode())
+        root.check(f"what it says at its {name} job", "" if said else ran.stderr.decode())
+        root.check(f"how soon its {name} job ends", "" if took <= MOST_SECONDS else f"{took:.1f} seconds")
 
 
 def try_package(package, made=None):
@@ -161,4 +182,5 @@ def try_package(package, made=None):
             root.check("a root", f"debootstrap: {bootstrapped.returncode}" if bootstrapped.returncode != 0 else "")
         if root.failed == 0:
             try_installed(root, package)
+            try_clone(root)
         return root.passed, root.failed

@@ -7,9 +7,9 @@ from tests.support import TESTS, TOP, ProgramTest
 
 CRATES = TOP / "crates"
 # What a step of the basic machine is, and what its operations are.
-FIRST = ("cpu_1401/specs/Step.antt", "machine_operations/specs/Operation.antt")
+FIRST = ("cpu_1401/specs/Step.antt", "machine_tables/specs/Operation.antt")
 # What a machine with features has more: where the state of a machine and the features themselves are said.
-WITH_FEATURES = {"cpu_1401/specs/State.antt", "machine_panel/specs/Features.antt"}
+WITH_FEATURES = {"cpu_1401/specs/State.antt", "machine_tables/specs/Features.antt"}
 SUMS = TESTS / "basic_machine.txt"
 
 

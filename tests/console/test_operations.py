@@ -3,7 +3,7 @@ import re
 
 from tests.support import TOP, ProgramTest
 
-TABLE = TOP / "crates/machine_operations/src"
+TABLE = TOP / "crates/machine_tables/src"
 
 
 def mnemonics():

@@ -202,7 +202,7 @@ class Refused(JournalTextsTest):
 
     def test_the_crate_and_the_page_have_each_fault(self):
         """No run shows the first: only a caller of the crate gets it."""
-        source, page = (TOP / "crates/room_journal/src/fault.rt", TOP / "docs/FORMATS.md")
+        source, page = (TOP / "crates/room_files/src/journal_fault.rt", TOP / "docs/FORMATS.md")
         self.same("the crate", re.findall(r'#\[error\("(\d \w+)"\)\]\s+(\w+),', source.read_text()), FAULTS)
         for text, _ in FAULTS:
             self.check(f"the page: {text}", "" if f"`{text}`" in page.read_text() else "it isn't there")

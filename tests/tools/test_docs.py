@@ -24,6 +24,13 @@ def rows_of(page):
     return rows
 
 
+def shown_job():
+    """The job that README shows: its call, what it prints on paper, and what standard error says."""
+    text = (TOP / "README.md").read_text()
+    call, paper = re.search(r"```sh\n(\./ibm1401 run .*?)```\n\n```text\n(.*?)```", text, re.DOTALL).groups()
+    return call, paper, " ".join(re.search(r"`(ibm1401: HALT .*?)`", text, re.DOTALL)[1].split())
+
+
 def ended_at_quit(rows):
     """The sessions of a page: each ends with QUIT or with the page."""
     session = []
@@ -152,10 +159,7 @@ class Pages(ProgramTest):
             self.check(f"{page.name}: that is its session", "" if lines in block else "its lines are others")
 
     def test_what_readme_runs(self):
-        """What it prints on paper, and what standard error says."""
-        text = (TOP / "README.md").read_text()
-        call, paper = re.search(r"```sh\n(\./ibm1401 run .*?)```\n\n```text\n(.*?)```", text, re.DOTALL).groups()
-        ending = " ".join(re.search(r"`(ibm1401: HALT .*?)`", text, re.DOTALL)[1].split())
+        call, paper, ending = shown_job()
         self.expect("it", run(["bash", "-c", call], cwd=self.top), 0, paper, f"{ending}\n")
 
     def test_what_readme_serves(self):

@@ -1,9 +1,10 @@
 """The wrong bodies that the prover must refuse: each is still one of the code that is there."""
+import re
 import sys
 import tempfile
 from pathlib import Path
 
-from tests.edit_texts import Edit, further_crates, further_edits, lay_out, read_edits
+from tests.edit_texts import Edit, functions_in, further_crates, further_edits, lay_out, only_clause, read_edits
 from tests.support import TOP, ProgramTest
 
 # Each edit that the gate tries, and each further one: how it is named, the folder of its crate, and its lines.
@@ -47,6 +48,18 @@ class Edits(ProgramTest):
             self.check(f"{crate}: there is such a crate", "" if (TOP / "crates" / crate).is_dir() else "there is none")
             self.same(f"{crate}: its names", sorted(set(names)), sorted(names))
 
+    def test_the_clause_that_an_edit_breaks_is_there(self):
+        """It is said of each edit that changes one function with one clause: python3 -m tests.edit_texts."""
+        for crate in further_crates():
+            sources = [each.read_text() for each in (TOP / "crates" / crate / "src").rglob("*.rt")]
+            known = {f"the contract of `{each[2]}`" for source in sources for each in functions_in(source) if each[3]}
+            known |= {f"the clause `{clause}` of `{each[2]}`" for source in sources for each in functions_in(source)
+                      for clause in each[3]}
+            for edit in further_edits(crate):
+                only, said = only_clause(crate, edit), edit.refused
+                self.check(f"{crate}: {edit.title}", "" if said == only or (said in known and not only)
+                           else f"it says {said!r}, not {only!r}" if only else f"there isn't {said}")
+
 
 class Texts(ProgramTest):
     """The form of a text."""
@@ -63,8 +76,8 @@ class Texts(ProgramTest):
                     file.unlink()
 
     def test_a_text_is_read(self):
-        text = ("# A remark.\n\n== No second pass\nfile: src/a.rt\nold:   x + 1\nnew:   x\n"
-                "refused: the clause `sum` of `add`\n\n== It's gone\nfile: src/b.rt\nold: y\nnew: z\n")
+        text = ("# A remark.\n\n== No second pass\nrefused: the clause `sum` of `add`\n"
+                "file: src/a.rt\nold:   x + 1\nnew:   x\n\n== It's gone\nfile: src/b.rt\nold: y\nnew: z\n")
         first, other = read_edits(text)
         self.same("the first", (first.name, first.text, first.refused),
                   ("no_second_pass", "file: src/a.rt\nold:   x + 1\nnew:   x\n", "the clause `sum` of `add`"))
