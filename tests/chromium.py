@@ -131,15 +131,15 @@ class Page:
             return f"exception: {found['exceptionDetails'].get('exception', {}).get('description')}"
         return found["result"].get("value")
 
-    def until(self, expression, wanted=True):
-        """The value of an expression once it is the wanted one, or the last one."""
+    def until(self, expression, wanted=True, seconds=SECONDS):
+        """The value of an expression once it is the wanted one, or the last one within this time."""
         found = []
 
         def is_wanted():
             found[:] = [self.value(expression)]
             return found == [wanted]
 
-        wait_until(is_wanted, SECONDS)
+        wait_until(is_wanted, seconds)
         return found[0]
 
     def is_ready(self):

@@ -153,7 +153,7 @@ class FirstScreen(Browser):
             self.page.resize(SIZES[place])
             self.page.value(f"guide.begin(), window.tops = new Set([{top}]), 0")
             for key in "feedChosen()", "pressLoad()", "pressStep()", "pressRun()", \
-                    "(byId('name').value = 'ADA', feedName())", "delay(500).then(pressLoad)", "pressRun()":
+                    "(byId('name').value = 'ADA', feedName())", "rested().then(pressLoad)", "pressRun()":
                 self.page.value(f"{key}.then(() => delay(300)).then(() => {{ tops.add({top}); }})")
             others = "[...tops].map(Math.round).filter((top, at, all) => all[0] !== top)"
             self.shows(place, f"guide.step() + {others}.join()", "done")
@@ -206,7 +206,7 @@ class Guide(Browser):
     def test_another_program(self):
         """The guide says which one is there, and takes none of its steps for its own."""
         for name, words in ("game", "Higher and lower"), ("listing", "Listing"):
-            self.page.value(f"byId('program').value = '{name}', drawProgram(), feedChosen()")
+            self.page.value(f"byId('program').value = '{name}', drawProgram(), rested().then(feedChosen)")
             for after, key in ("feeding", None), ("LOAD", "pressLoad()"), ("STEP", "pressStep()"):
                 self.page.value(key or "0")
                 said = "byId('guide-now').textContent"
@@ -230,8 +230,8 @@ class Guide(Browser):
         self.page.value("feedText(HELLO), 0")
         self.shows("another hello card", "guide.step()", "load")
         self.page.value("byId('name').value = 'Ada', feedName()")
-        for step, key in ("loadName", "pressLoad()"), ("runName", "pressRun()"), \
-                ("loadName", "delay(500).then(pressLoad)"):
+        for step, key in ("loadName", "rested().then(pressLoad)"), ("runName", "pressRun()"), \
+                ("loadName", "rested().then(pressLoad)"):
             self.shows(step, "guide.step()", step)
             self.page.value(key)
         self.shows("the name is in core, not on the paper", "guide.step()", "runName")
@@ -427,7 +427,8 @@ class Senses(Browser):
         self.shows("nothing is heard", "heard.length + (speaker === null ? 0 : 1)", 0)
         self.page.mouse("sound-key")
         self.shows("the key says that it is on", "byId('sound-key').getAttribute('aria-pressed')", "true")
-        self.page.value("heard.length = 0, view.ended = null, feedChosen().then(pressLoad).then(pressRun)")
+        self.page.value("heard.length = 0, view.ended = null, "
+                        "rested().then(feedChosen).then(pressLoad).then(pressRun)")
         self.shows("reader and printer are heard", "heard.includes('read') && heard.includes('print')")
 
     def test_the_pace_of_1960(self):
@@ -468,7 +469,7 @@ class Programs(Browser):
         for name, (last, stop) in self.ENDS.items():
             self.page.value(f"byId('program').value = '{name}', drawProgram()")
             self.page.value("(p => p.switches ? say(`SWITCH ${p.switches} ON`) : 0)(chosenProgram())")
-            self.page.value("feedChosen().then(pressLoad).then(pressRun)")
+            self.page.value("rested().then(feedChosen).then(pressLoad).then(pressRun)")
             self.shows(f"{name} ends", f"byId('said-words').textContent === TEXTS.stops.{stop}")
             self.shows(f"{name} prints", "view.paper.at(-1).text.trim()", last.strip())
             self.shows(f"{name} has a source", "byId('source').textContent.length > 40")

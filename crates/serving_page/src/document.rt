@@ -1954,7 +1954,8 @@ view.posting=false;
 }
 if(PROXY_STATUS.includes(response.status))return lostLine(count,room);
 if(response.status===200)return{text,count};
-return{...refusedLine(statusOf(response)),done:response.status===423?repliesBefore(text):''};
+const done=response.status===423?repliesBefore(text):'';
+return{...refusedLine(statusOf(response)),done};
 }
 function repliesBefore(text){
 const at=text.search(/^HOLD /m);
@@ -4340,7 +4341,7 @@ begin();
 /// The `content-security-policy` of the page: its own script and style by their SHA-256, exchanges with its own server,
 /// and nothing else.
 pub const POLICY: &str = "default-src 'none'; \
-    script-src 'sha256-SwbujKFTSqaMY4ceQerseOz2HDFKBz1lEI77SsR8TAg='; \
+    script-src 'sha256-0NHF18bLdNos0shOZdhIAtEgwkMgr3hGrwenTPEq51M='; \
     style-src 'sha256-tNR2WJNDi6NY0FWvr+TLImh13HAKZf2YEcCOD58v4yE='; \
     img-src data:; \
     connect-src 'self'; \
