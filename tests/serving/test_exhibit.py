@@ -2,6 +2,7 @@
 import unittest
 
 from tests.serving.test_browser import Browser
+from tests.support import EXAMPLES
 
 SIZES = {"the smallest screen": (1024, 768), "a small screen": (1280, 800), "a wide screen": (1366, 768),
          "a large screen": (1920, 1080), "a screen of 4K": (3840, 2160), "a telephone": (390, 844)}
@@ -323,6 +324,62 @@ class Guide(Browser):
             self.page.mouse(key)
             self.shows(key, "byId('said-words').textContent", "The machine is empty: feed a program first.")
         self.unchanged("nothing is sent", self.served, count)
+
+
+class Lessons(Browser):
+    """The guide through a lesson, up to the paper of the mended program."""
+
+    def at(self, step, key, press=True):
+        """The guide is at a step, whose key is lit and then pressed."""
+        on = f"isOff(byId('{key or 'help-key'}'))"
+        self.shows(step, f"[guide.step(), {LIT}, {on}].join()", f"{step},{key},false")
+        if key and press:
+            self.check(f"the mouse reaches {key}", "" if self.page.mouse(key) else "it doesn't")
+
+    def send(self, line):
+        """Sends a line at the console, by the keyboard."""
+        self.page.press("c", "KeyC", 1)
+        self.page.write(line)
+        self.page.press("Enter")
+
+    def load(self):
+        """From the clear machine to the first card in core storage."""
+        for step, key in ("Feed", "feed-key"), ("Switch", "switch-A"), ("Load", "load-key"):
+            self.at(f"lesson{step}", key)
+
+    def test_the_first_lesson(self):
+        printed = "view.paper.map(line => line.text.trimEnd()).filter(text => text)"
+        course = EXAMPLES / "course/01-three-fields"
+        broken, wanted = ([line.rstrip() for line in (course / f"{name}.paper").read_text().split("\n") if line.strip()]
+                          for name in ("program", "wanted"))
+        self.page.value("byId('program').value = 'lesson1', byId('program').dispatchEvent(new Event('change'))")
+        self.shows("the steps to a name aren't shown", "byId('guide-steps').checkVisibility()", False)
+        self.load()
+        self.at("lessonRun", "run-key")
+        self.at("lessonLook", "afresh-key")
+        self.check("the paper is wrong", "" if self.page.value(printed) != wanted else f"it is {broken}")
+        self.page.click("ask-yes")
+        self.load()
+        self.shows("the line to send is named", "byId('guide-now').textContent.includes('RUN 203')")
+        self.at("lessonSend", "send-key", press=False)
+        self.send("RUN 203")
+        self.at("lessonMend", "send-key", press=False)
+        self.send("DEPOSIT 0031 ~1")
+        self.at("lessonAgain", "run-key")
+        self.at("lessonDone", "")
+        self.shows("the paper is right", printed, wanted)
+        self.page.value("byId('program').value = 'hello', byId('program').dispatchEvent(new Event('change'))")
+        self.shows("another program ends it", f"guide.step() + ' ' + ({LIT})", "other afresh-key")
+
+    def test_without_a_mended_program(self):
+        """A run that ends as before leads to the question again."""
+        self.page.value("byId('program').value = 'lesson1', byId('program').dispatchEvent(new Event('change'))")
+        for _ in range(2):
+            self.load()
+            self.page.value("rested().then(pressRun)")
+            self.at("lessonLook", "afresh-key")
+            self.page.click("ask-yes")
+        self.shows("the lesson is still chosen", "byId('program').value", "lesson1")
 
 
 class StartAfresh(Browser):

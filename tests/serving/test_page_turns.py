@@ -3,7 +3,7 @@ import time
 import unittest
 
 from tests.chromium import NARROW
-from tests.support import SECONDS
+from tests.support import PAUSE, SECONDS
 from tests.serving.test_browser import Browser
 from tests.serving.test_exhibit import LIT, ONE_MORE, PRINTED, SIZES
 
@@ -161,6 +161,8 @@ class Class(Browser):
                 if step == "done":
                     left.remove(pupil)
                     late = time.monotonic() + SECONDS
+            # The pages have the processors meanwhile.
+            time.sleep(PAUSE)
         self.same("pupils without a line", [pupil.name for pupil in left], [])
         lines = pages[0].until(PRINTED, "").split("|")
         self.same("each name is on the paper once", sorted(line for line in lines if line in NAMES), NAMES)
