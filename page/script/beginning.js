@@ -55,7 +55,8 @@ function buildPanel() {
     for (let digit = 0; digit < 5; digit++) added(byId(name), 'b', {textContent: '0'});
   }
   for (const name of SWITCHES) {
-    const button = added(byId('switches'), 'button', {type: 'button', id: `switch-${name}`, value: name, textContent: name});
+    const id = `switch-${name}`;
+    const button = added(byId('switches'), 'button', {type: 'button', id, value: name, textContent: name});
     button.setAttribute('aria-pressed', 'false');
     button.addEventListener('click', () => turnSwitch(button));
   }

@@ -16,6 +16,8 @@ const GUIDE_STEPS = {
   lessonDone: {key: '', shown: -1},
   other: {key: 'afresh-key', shown: -1}, paper: {key: 'tear-key', shown: -1}, wait: {key: 'turn-key', shown: -1},
 };
+/* The steps at which it waits for as long as it takes. */
+const PATIENT_STEPS = ['feed', 'wait', 'lessonFeed', 'lessonLook', 'lessonMend'];
 
 const isHello = text => text !== null && text.startsWith(HELLO.slice(0, NAME_COLUMN));
 /* Whether the line of a card is on the paper. The lines that were there before the card was punched don't count. */
@@ -82,7 +84,7 @@ const guide = {
     const now = performance.now(), isLeft = run !== null && !attract.on && now - attract.touched > IDLE.attractMs;
     if (isLeft && this.state === 'aside') this.begin();
     const isLate = now - Math.max(this.since, attract.touched) > GUIDE_WAITS_MS;
-    if (this.state === 'on' && !['feed', 'wait', 'lessonLook', 'lessonMend'].includes(this.step()) && isLate && !run) this.stepAside();
+    if (this.state === 'on' && !PATIENT_STEPS.includes(this.step()) && isLate && !run) this.stepAside();
   },
   stepAside() {
     if (isStage) return this.begin();

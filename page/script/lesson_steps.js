@@ -1,6 +1,6 @@
 /* The guide through a lesson, while a lesson is the chosen program. The machine decides here too which key is lit. The
-   page remembers whether it has fed the lesson's cards, whether the broken program has run, whether a run has ended since
-   the cards were fed, and whether an instruction was put into core storage. */
+   page remembers whether it has fed the lesson's cards, whether the broken program has run, whether a run has ended
+   since the cards were fed, and whether an instruction was put into core storage. */
 const LESSON_BEGINS = 400;
 const lesson = {hasFed: false, hasRun: false, hasEnded: false, isMended: false};
 

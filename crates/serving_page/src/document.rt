@@ -1457,11 +1457,11 @@ fed:'Schalter A an, LOAD, dann RUN. Bei 100 Schritten je Sekunde sehen Sie zu.'}
 },
 aboutFirst:'Das ist eine simulierte IBM 1401, ein Rechner von 1959, mit Kartenleser, Stanzer und Drucker. '
 + 'Alles, was '
-+ 'Sie sehen, ist eine Maschine, die sich alle in diesem Raum teilen.',"##;
++ 'Sie sehen, ist eine Maschine, die sich alle in diesem Raum teilen.',
+aboutDrawing:'Karten gehen vom Leser zur Recheneinheit, Ergebnisse von dort zum Drucker und zum Stanzer.',"##;
 
 /// The rest of the page.
 pub const REST: &[u8] = br##"
-aboutDrawing:'Karten gehen vom Leser zur Recheneinheit, Ergebnisse von dort zum Drucker und zum Stanzer.',
 aboutParts:{reader:['Kartenleser','und Stanzer'],unit:['Recheneinheit','mit Kernspeicher'],
 printer:['Drucker','132 Spalten'],
 below:['800 Karten je Minute','1.400 bis 16.000 Stellen','600 Zeilen je Minute']},
@@ -3342,6 +3342,7 @@ lessonMend:{key:'send-key',shown:-1,focus:'line'},lessonAgain:{key:'run-key',sho
 lessonDone:{key:'',shown:-1},
 other:{key:'afresh-key',shown:-1},paper:{key:'tear-key',shown:-1},wait:{key:'turn-key',shown:-1},
 };
+const PATIENT_STEPS=['feed','wait','lessonFeed','lessonLook','lessonMend'];
 const isHello=text=>text !==null&&text.startsWith(HELLO.slice(0,NAME_COLUMN));
 function isPrinted(card,from){
 return[...torn,...view.paper].slice(from).some(line=>line.text===card.slice(NAME_COLUMN));
@@ -3397,7 +3398,7 @@ look(){
 const now=performance.now(),isLeft=run !==null&&!attract.on&&now - attract.touched>IDLE.attractMs;
 if(isLeft&&this.state==='aside')this.begin();
 const isLate=now - Math.max(this.since,attract.touched)>GUIDE_WAITS_MS;
-if(this.state==='on'&&!['feed','wait','lessonLook','lessonMend'].includes(this.step())&&isLate&&!run)this.stepAside();
+if(this.state==='on'&&!PATIENT_STEPS.includes(this.step())&&isLate&&!run)this.stepAside();
 },
 stepAside(){
 if(isStage)return this.begin();
@@ -4258,7 +4259,8 @@ for(const name of['I','A','B']){
 for(let digit=0;digit<5;digit++)added(byId(name),'b',{textContent:'0'});
 }
 for(const name of SWITCHES){
-const button=added(byId('switches'),'button',{type:'button',id:`switch-${name}`,value:name,textContent:name});
+const id=`switch-${name}`;
+const button=added(byId('switches'),'button',{type:'button',id,value:name,textContent:name});
 button.setAttribute('aria-pressed','false');
 button.addEventListener('click',()=>turnSwitch(button));
 }
@@ -4414,7 +4416,7 @@ begin();
 /// The `content-security-policy` of the page: its own script and style by their SHA-256, exchanges with its own server,
 /// and nothing else.
 pub const POLICY: &str = "default-src 'none'; \
-    script-src 'sha256-mClEWAzakKDi/9J1F4aLSLnCRDNWdR7tfS8Z8EersM0='; \
+    script-src 'sha256-yYThQZATjwitU/XpUjPNI/e1n+lIMfwpyCVCyhmxxRI='; \
     style-src 'sha256-tNR2WJNDi6NY0FWvr+TLImh13HAKZf2YEcCOD58v4yE='; \
     img-src data:; \
     connect-src 'self'; \
