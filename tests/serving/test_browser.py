@@ -11,6 +11,8 @@ from tests.support import EXAMPLES, SECONDS, ProgramTest, wait_until
 # How many looks make up ten minutes, at four a second, and how many are asked for at a time.
 LOOKS = 2_400
 LOOKS_AT_A_TIME = 50
+# How many seconds a test may take at most, on a host with much to do: as long as eight pupils who wait for each other.
+MOST_SECONDS = 8 * SECONDS
 # How many seconds a test of a hold may take: a hold lasts for a minute, and ends when its page doesn't look for some
 # seconds.
 QUICK = 10
@@ -27,6 +29,12 @@ class Browser(ProgramTest):
         cls.browser = Chromium()
         cls.addClassCleanup(cls.browser.end)
 
+    def run(self, result=None):
+        """Runs the test, which ends by itself: the browser answers it for so long."""
+        if hasattr(self, "browser"):
+            self.browser.late = time.monotonic() + MOST_SECONDS
+        return super().run(result)
+
     # How many seconds this test may still wait in vain. A wait that comes to nothing takes them from the next ones, so
     # each test ends.
     left = SECONDS
@@ -37,7 +45,8 @@ class Browser(ProgramTest):
         self.page = self.open_page()
 
     def tearDown(self):
-        """The pages have no complaint."""
+        """The pages have no complaint, and can be closed."""
+        self.browser.late += SECONDS
         for page in self.pages:
             self.assertEqual([], page.complaints())
 
