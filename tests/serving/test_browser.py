@@ -358,7 +358,7 @@ class KeysAlone(Browser):
             if page.value(focus) == "none":
                 unseen.append(here)
             reached.add(here)
-        wanted = {"help-key", "load-key", "start-at", "run-key", "step-key", "pace", "A", "600", "find-at", "follow",
+        wanted = {"help-key", "load-key", "start-at", "run-key", "step-key", "pace", "switch-A", "600", "find-at", "follow",
                   "fold", "tear-key", "save-key", "print-key", "pick-key", "program", "feed-key", "afresh-key",
                   "card-key", "keyed", "release-key", "log", "line", "about-key", "sound-key", "language", "view-key"}
         self.same("parts that it doesn't reach", sorted(wanted - reached), [])
