@@ -24,6 +24,9 @@ class Chromium:
     """A headless Chromium with a profile of its own, started by a command and with further words. Each message is JSON,
     ended by a NUL: what it reads on its descriptor 3, and what it writes on 4."""
 
+    # No call waits for its result after this moment, which a test may set.
+    late = float("inf")
+
     def __init__(self, by=(), *words):
         self.profile = tempfile.TemporaryDirectory(ignore_cleanup_errors=True)
         reads, self.out = os.pipe()
@@ -58,8 +61,10 @@ class Chromium:
             if session:
                 message["sessionId"] = session
             messages.append(json.dumps(message).encode() + b"\0")
+        late = min(time.monotonic() + SECONDS, self.late)
+        if time.monotonic() > late:
+            raise TimeoutError(f"{method}: the test has taken too long")
         os.write(self.out, b"".join(messages))
-        late = time.monotonic() + SECONDS
         while len(results) < len(asked):
             answered = self.read(late - time.monotonic())
             if answered is None:
@@ -68,7 +73,7 @@ class Chromium:
                 if "error" in answered:
                     raise RuntimeError(f"{method}: {answered['error']}")
                 results[answered["id"]] = answered["result"]
-            else:
+            elif "method" in answered:
                 self.events.append(answered)
         return [results[number] for number in sorted(results)]
 
@@ -131,15 +136,15 @@ class Page:
             return f"exception: {found['exceptionDetails'].get('exception', {}).get('description')}"
         return found["result"].get("value")
 
-    def until(self, expression, wanted=True):
-        """The value of an expression once it is the wanted one, or the last one."""
+    def until(self, expression, wanted=True, seconds=SECONDS):
+        """The value of an expression once it is the wanted one, or the last one within this time."""
         found = []
 
         def is_wanted():
             found[:] = [self.value(expression)]
             return found == [wanted]
 
-        wait_until(is_wanted, SECONDS)
+        wait_until(is_wanted, seconds)
         return found[0]
 
     def is_ready(self):

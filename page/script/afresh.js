@@ -33,7 +33,7 @@ async function pressAfresh() {
   stopRun();
   while (run) await delay(SLICE_MS);
   await startAfresh(renewal.mode === 'ON' ? renewRoom : clearMachine);
-  guide.begin();
+  guide.beginAgain();
 }
 /* What this page has taken and kept is gone too, and its words are as at first. A new machine may have what the staff
    has prepared. */
@@ -68,7 +68,7 @@ function leaveClear(words) {
 function beginAnew(words) {
   forgetWords();
   tell(words);
-  if (!['off', 'attract'].includes(guide.state)) guide.begin();
+  if (!['off', 'attract'].includes(guide.state)) guide.beginAgain();
 }
 /* Sends lines in as few requests as there may be, as long as each reply is of this form. */
 async function sendInTurn(lines, wanted) {

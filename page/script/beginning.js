@@ -55,7 +55,8 @@ function buildPanel() {
     for (let digit = 0; digit < 5; digit++) added(byId(name), 'b', {textContent: '0'});
   }
   for (const name of SWITCHES) {
-    const button = added(byId('switches'), 'button', {type: 'button', value: name, textContent: name});
+    const id = `switch-${name}`;
+    const button = added(byId('switches'), 'button', {type: 'button', id, value: name, textContent: name});
     button.setAttribute('aria-pressed', 'false');
     button.addEventListener('click', () => turnSwitch(button));
   }
@@ -102,7 +103,7 @@ function listen() {
     byId('file').value = '';
     if (file) feedFile(file);
   });
-  byId('program').addEventListener('change', drawProgram);
+  byId('program').addEventListener('change', chooseProgram);
   byId('language').addEventListener('change', () => chooseLanguage(byId('language').value));
   byId('name-form').addEventListener('submit', punchName);
   byId('name').addEventListener('input', drawName);

@@ -121,6 +121,11 @@ async function feedProgram() {
   const cards = program.extra ? [...program.cards, ...program.extra()] : program.cards;
   await feedDeck(cards, words.fed);
 }
+function chooseProgram() {
+  drawProgram();
+  forgetLesson();
+  guide.draw();
+}
 function drawProgram() {
   const program = chosenProgram(), words = TEXTS.programs[program.name];
   setText(byId('source-title'), filled(TEXTS.sourceTitle, {name: words.name}));

@@ -7,10 +7,17 @@ const HELLO_END = 38;
 /* Each step has the key for it, and the number of the step that is shown. */
 const GUIDE_STEPS = {
   feed: {key: 'feed-key', shown: 0}, load: {key: 'load-key', shown: 1}, step: {key: 'step-key', shown: 2},
-  run: {key: 'run-key', shown: 3}, name: {key: 'name-key', shown: 4},
+  run: {key: 'run-key', shown: 3}, name: {key: 'name-key', shown: 4, focus: 'name'},
   loadName: {key: 'load-key', shown: 4}, runName: {key: 'run-key', shown: 4}, done: {key: '', shown: 5},
+  lessonFeed: {key: 'feed-key', shown: -1}, lessonSwitch: {key: 'switch-A', shown: -1},
+  lessonLoad: {key: 'load-key', shown: -1}, lessonRun: {key: 'run-key', shown: -1},
+  lessonLook: {key: 'afresh-key', shown: -1}, lessonSend: {key: 'send-key', shown: -1, focus: 'line'},
+  lessonMend: {key: 'send-key', shown: -1, focus: 'line'}, lessonAgain: {key: 'run-key', shown: -1},
+  lessonDone: {key: '', shown: -1},
   other: {key: 'afresh-key', shown: -1}, paper: {key: 'tear-key', shown: -1}, wait: {key: 'turn-key', shown: -1},
 };
+/* The steps at which it waits for as long as it takes. */
+const PATIENT_STEPS = ['feed', 'wait', 'lessonFeed', 'lessonLook', 'lessonMend'];
 
 const isHello = text => text !== null && text.startsWith(HELLO.slice(0, NAME_COLUMN));
 /* Whether the line of a card is on the paper. The lines that were there before the card was punched don't count. */
@@ -46,15 +53,26 @@ const guide = {
 
   /* Begins with what the machine has now. What the staff has put into it isn't to be cleared. */
   begin() {
-    const isPrepared = hold.isPrepared && view.picture !== null && !isClear(view.picture);
-    Object.assign(this, {hasFed: false, card: null, since: performance.now(), state: isPrepared ? 'prepared' : 'on'});
     byId('program').value = 'hello';
     drawProgram();
+    forgetLesson();
+    this.goOn();
+  },
+  /* Begins, and a lesson that is chosen goes on. */
+  beginAgain() {
+    if (!lessonChosen()) return this.begin();
+    beginLessonAgain();
+    this.goOn();
+  },
+  goOn() {
+    const isPrepared = hold.isPrepared && view.picture !== null && !isClear(view.picture);
+    Object.assign(this, {hasFed: false, card: null, since: performance.now(), state: isPrepared ? 'prepared' : 'on'});
     this.draw();
   },
   /* Something has happened here: the guide is needed. A card that follows a name's is the next visitor's. */
   on(event) {
     this.since = performance.now();
+    noteLesson(event, this.step());
     if (event === 'fed') {
       if (this.step() === 'done') this.card = null;
       this.hasFed = true;
@@ -66,7 +84,7 @@ const guide = {
     const now = performance.now(), isLeft = run !== null && !attract.on && now - attract.touched > IDLE.attractMs;
     if (isLeft && this.state === 'aside') this.begin();
     const isLate = now - Math.max(this.since, attract.touched) > GUIDE_WAITS_MS;
-    if (this.state === 'on' && !['feed', 'wait'].includes(this.step()) && isLate && !run) this.stepAside();
+    if (this.state === 'on' && !PATIENT_STEPS.includes(this.step()) && isLate && !run) this.stepAside();
   },
   stepAside() {
     if (isStage) return this.begin();
@@ -74,7 +92,7 @@ const guide = {
     this.draw();
   },
   press() {
-    if (this.isOver()) return this.begin();
+    if (this.isOver()) return lessonChosen() ? this.goOn() : this.begin();
     this.state = 'off';
     this.draw();
   },
@@ -85,12 +103,14 @@ const guide = {
   /* The step that the machine is at now; null if there is nothing to guide. */
   step() {
     if (this.state !== 'on' || view.picture === null) return null;
-    const step = stepOf(view.picture, this);
-    return step !== 'done' && (turn.wants || isKeptOff()) ? 'wait' : step;
+    const chosen = lessonChosen();
+    const step = chosen ? lessonStepOf(view.picture, chosen, lesson) : stepOf(view.picture, this);
+    return !['done', 'lessonDone'].includes(step) && (turn.wants || isKeptOff()) ? 'wait' : step;
   },
   draw() {
     const name = this.step(), step = name && GUIDE_STEPS[name], shown = step ? step.shown : -1;
-    this.light(this.keyFor(name), name === 'name' && !tour.isOn && 'name');
+    this.light(this.keyFor(name), step && !tour.isOn && step.focus);
+    byId('guide-steps').hidden = lessonChosen() !== null;
     if (isExhibit) setText(byId('feed-key'), TEXTS.childKeys[wantsClearing() ? 'clear' : 'feed']);
     [...byId('guide-steps').children].forEach((element, at) => {
       element.classList.toggle('done', at < shown);
@@ -125,8 +145,8 @@ const guide = {
     if (name === null) return TEXTS.guide[this.state === 'on' ? 'off' : this.preparedWords()];
     if (name === 'wait') return turnWords();
     const words = isExhibit ? TEXTS.childWords : TEXTS.guideWords;
-    const there = name === 'other' ? programThere(view.picture) : null;
-    return there ? filled(words.program, {name: TEXTS.programs[there].name}) : words[name];
+    const there = name === 'other' ? programThere(view.picture) : null, {loads} = chosenProgram();
+    return there ? filled(words.program, {name: TEXTS.programs[there].name}) : filled(words[name], {loads});
   },
   preparedWords() {
     return this.state === 'prepared' && renewal.mode === 'ON' ? 'preparedAgain' : this.state;

@@ -5,7 +5,7 @@ const LESSON_TEXTS = {
   en: {
     name: 'Lesson {n}: {title}',
     steps: '1. Press {feed}, turn sense switch A on, press LOAD and RUN, and read the paper.\n2. {look}\n3. Press '
-      + '{afresh}, choose this lesson again, press {feed}, turn switch A on, and press LOAD. At the console send '
+      + '{afresh}, then {feed}, turn switch A on, and press LOAD. At the console send '
       + '{run}: the program is loaded, and has not begun.\n4. {mend} DEPOSIT 0600 ~AB~C puts three characters into '
       + 'places 600 to 602, A and C with a word mark. An instruction begins with one.\n5. Press RUN. {right}',
     fed: 'Turn sense switch A on, press LOAD, then RUN. The next steps are above the source.',
@@ -60,7 +60,7 @@ const LESSON_TEXTS = {
   de: {
     name: 'Lektion {n}: {title}',
     steps: '1. Drücken Sie {feed}, Schalter A an, LOAD und RUN, und lesen Sie das Papier.\n2. {look}\n3. Drücken Sie '
-      + '{afresh}, wählen Sie diese Lektion wieder, {feed}, Schalter A an, und LOAD. Schicken Sie an der Konsole '
+      + '{afresh}, {feed}, Schalter A an, und LOAD. Schicken Sie an der Konsole '
       + '{run}: das Programm ist geladen und hat noch nicht begonnen.\n4. {mend} DEPOSIT 0600 ~AB~C bringt drei '
       + 'Zeichen auf die Plätze 600 bis 602, A und C mit Wortmarke. Ein Befehl beginnt mit einer.\n5. Drücken Sie '
       + 'RUN. {right}',
@@ -124,7 +124,7 @@ const LESSON_STEPS = [203, 203, 203, 221, 230, 221, 284, 266];
 
 LESSON_STEPS.forEach((steps, at) => {
   const name = `lesson${at + 1}`;
-  PROGRAMS.push({name, ...assembled(name)});
+  PROGRAMS.push({name, ...assembled(name), loads: `RUN ${steps}`});
   for (const [language, {programs, feedKey, afreshKey}] of Object.entries(LANGUAGES)) {
     const texts = LESSON_TEXTS[language] || LESSON_TEXTS.en, lesson = texts.lessons[at];
     const about = filled(texts.steps, {...lesson, run: `RUN ${steps}`, feed: feedKey, afresh: afreshKey});

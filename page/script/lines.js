@@ -28,7 +28,9 @@ async function post(path, body, breaks) {
   }
   if (PROXY_STATUS.includes(response.status)) return lostLine(count, room);
   if (response.status === 200) return {text, count};
-  return {...refusedLine(statusOf(response)), done: response.status === 423 ? repliesBefore(text) : ''};
+  // What the answer says of the hold is taken in first: the words for the refusal name its holder.
+  const done = response.status === 423 ? repliesBefore(text) : '';
+  return {...refusedLine(statusOf(response)), done};
 }
 /* The replies to the lines that were carried out before another page held the machine; the hold follows them. */
 function repliesBefore(text) {

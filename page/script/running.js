@@ -25,6 +25,7 @@ function warnsOfNothing() {
 function noteStop(stop) {
   view.ended = stop && stop.name === 'HALT' ? stop.next : null;
   if (view.ended !== null) happened('halt');
+  if (stop && stop.name !== 'LIMIT') happened('stop');
 }
 
 /* A deck that a stage runs by itself has parts of a second, since each is an entry of the journal. */

@@ -260,6 +260,15 @@ LANGUAGES.de = {
     program: 'Das Programm {name} ist in der Maschine. Machen Sie damit weiter; oder drücken Sie "Von vorn", dann '
       + 'beginnt die Führung.',
     paper: 'Der Drucker ist voll: er fasst 500 Zeilen. Drücken Sie "Abreißen".',
+    lessonFeed: 'Drücken Sie "Programm einlegen": die Karten dieser Lektion kommen ins Magazin.',
+    lessonSwitch: 'Schalten Sie Schalter A ein.',
+    lessonLoad: 'Drücken Sie LOAD: die Maschine liest die erste Karte.',
+    lessonRun: 'Drücken Sie RUN, und lesen Sie das Papier. Etwas darauf ist falsch.',
+    lessonLook: 'Was ist falsch? Schritt 2, über der Quelle, hilft. Wenn Sie es wissen, drücken Sie "Von vorn".',
+    lessonSend: 'Schicken Sie an der Konsole {loads}: das lädt das Programm und hält vor seinem ersten Befehl an.',
+    lessonMend: 'Schicken Sie an der Konsole das DEPOSIT, das den Fehler behebt. Schritt 4, über der Quelle, hilft.',
+    lessonAgain: 'Drücken Sie RUN, und lesen Sie das Papier.',
+    lessonDone: 'Schritt 5 sagt, was jetzt auf dem Papier steht. Wenn nicht: "Von vorn", und noch einmal.',
   },
   guide: {
     off: 'Die Führung bringt Sie in etwa zwei Minuten zu einer gedruckten Zeile mit Ihrem Namen.',

@@ -45,7 +45,7 @@ async function pressTurn() {
 /* A turn ends with the name on the paper, after a minute without a hand, and with the guide. While a run goes on the
    machine isn't held again, so others can stop it. */
 function isTurnOver() {
-  return performance.now() - attract.touched > TURN_IDLE_MS || [null, 'done'].includes(guide.step());
+  return performance.now() - attract.touched > TURN_IDLE_MS || [null, 'done', 'lessonDone'].includes(guide.step());
 }
 async function lookForTurn() {
   if (!isShared() || view.link !== 'fine') return;

@@ -2,14 +2,17 @@
 import http.server
 import shutil
 import threading
+import time
 import unittest
 
 from tests.chromium import NARROW, OTHER_NAME, WIDE, Chromium, Page
-from tests.support import EXAMPLES, ProgramTest, wait_until
+from tests.support import EXAMPLES, SECONDS, ProgramTest, wait_until
 
 # How many looks make up ten minutes, at four a second, and how many are asked for at a time.
 LOOKS = 2_400
 LOOKS_AT_A_TIME = 50
+# How many seconds a test may take at most, on a host with much to do: as long as eight pupils who wait for each other.
+MOST_SECONDS = 8 * SECONDS
 # How many seconds a test of a hold may take: a hold lasts for a minute, and ends when its page doesn't look for some
 # seconds.
 QUICK = 10
@@ -26,13 +29,24 @@ class Browser(ProgramTest):
         cls.browser = Chromium()
         cls.addClassCleanup(cls.browser.end)
 
+    def run(self, result=None):
+        """Runs the test, which ends by itself: the browser answers it for so long."""
+        if hasattr(self, "browser"):
+            self.browser.late = time.monotonic() + MOST_SECONDS
+        return super().run(result)
+
+    # How many seconds this test may still wait in vain. A wait that comes to nothing takes them from the next ones, so
+    # each test ends.
+    left = SECONDS
+
     def setUp(self):
         self.served = self.room("serve", seats=2, pages=True, consoles=False)
         self.pages = []
         self.page = self.open_page()
 
     def tearDown(self):
-        """The pages have no complaint."""
+        """The pages have no complaint, and can be closed."""
+        self.browser.late += SECONDS
         for page in self.pages:
             self.assertEqual([], page.complaints())
 
@@ -43,16 +57,21 @@ class Browser(ProgramTest):
         return page
 
     def open_page(self, seat=1):
-        """The page of a seat, which has seen the machine. It runs no deck by itself, however long nobody touches it."""
+        """The page of a seat, which has seen the machine. It runs no deck by itself, however long nobody touches it.
+        `rested` is for two presses of one key: the second one waits until the key is on again."""
         page = self.open(self.served.address(seat))
         self.check(f"the page of seat {seat} sees the machine", "" if page.is_ready() else "it doesn't")
-        page.value("IDLE.attractMs = 1e9, 0")
+        page.value("IDLE.attractMs = 1e9, window.rested = async () => { while (guarded.size) await delay(10); }, 0")
         self.pages.append(page)
         return page
 
     def shows(self, name, expression, wanted=True, page=None):
         """A subtest: an expression in the page comes to a value."""
-        self.same(name, (page or self.page).until(expression, wanted), wanted)
+        begun = time.monotonic()
+        found = (page or self.page).until(expression, wanted, self.left)
+        if found != wanted:
+            self.left = max(0, self.left - (time.monotonic() - begun))
+        self.same(name, found, wanted)
 
     def complains_once(self, page, status):
         """A subtest: the browser itself reports a line that was refused with this status, and the page nothing else."""
@@ -214,6 +233,7 @@ class Holding(Browser):
 
     def hold_and_release(self):
         """Subtests: seat 2 holds the machine of a new room, and releases it."""
+        self.left = SECONDS
         self.served = self.room("serve", seats=2, pages=True, consoles=False)
         self.pages.clear()
         self.page = self.open_page()
@@ -240,12 +260,15 @@ class Holding(Browser):
         self.complains_once(self.page, "423")
 
     def test_a_run_of_another_page_stops(self):
+        """Whether a look or the refusal of its next part says so first: here it is the refusal."""
         second = self.open_page(2)
         self.page.value("say('DEPOSIT 0500 ~B500~.').then(() => say('START 0500')).then(() => pressRun()), 0")
         self.shows("it runs", "run !== null && run.slices > 2")
+        self.page.value("window.looks = lookForHold, lookForHold = async () => 0, 0")
         second.click("hold-key")
         self.shows("it ends, and says why", "run === null && byId('said-words').textContent.replace(/\\d+ more/, 'N more')",
                    "Not carried out: seat 2 holds the machine for N more seconds.")
+        self.page.value("lookForHold = looks, 0")
         self.pages.remove(second)
         second.call("Page.navigate", url="about:blank")
         self.shows("the hold ends with its page", "byId('notice').hidden && !isOff(byId('run-key'))")
@@ -335,7 +358,7 @@ class KeysAlone(Browser):
             if page.value(focus) == "none":
                 unseen.append(here)
             reached.add(here)
-        wanted = {"help-key", "load-key", "start-at", "run-key", "step-key", "pace", "A", "600", "find-at", "follow",
+        wanted = {"help-key", "load-key", "start-at", "run-key", "step-key", "pace", "switch-A", "600", "find-at", "follow",
                   "fold", "tear-key", "save-key", "print-key", "pick-key", "program", "feed-key", "afresh-key",
                   "card-key", "keyed", "release-key", "log", "line", "about-key", "sound-key", "language", "view-key"}
         self.same("parts that it doesn't reach", sorted(wanted - reached), [])
@@ -589,11 +612,11 @@ class Words(Browser):
     def test_a_name_is_not_left_out(self):
         """The last step of the guide is done by a card with a name, and that card is the one to print."""
         self.page.value("feedChosen().then(pressLoad).then(pressRun).then(() => feedText(HELLO))"
-                        ".then(() => delay(500)).then(pressLoad).then(pressRun)")
+                        ".then(rested).then(pressLoad).then(pressRun)")
         self.shows("the guide waits", "guide.step()", "name")
         self.page.value("byId('name').value = 'O\u2019NEILL', punchName(new Event('submit'))")
         self.shows("the name is fed", "view.picture.hopper.slice(40)", "O'NEILL")
-        self.page.value("pressLoad().then(pressRun)")
+        self.page.value("rested().then(pressLoad).then(pressRun)")
         self.shows("it is printed", "guide.step()", "done")
         self.page.value("byId('keyed').value = 'ANOTHER', releaseCard()")
         self.shows("its card is the one to print", "nameCard.slice(40)", "O'NEILL")

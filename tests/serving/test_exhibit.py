@@ -2,6 +2,7 @@
 import unittest
 
 from tests.serving.test_browser import Browser
+from tests.support import EXAMPLES
 
 SIZES = {"the smallest screen": (1024, 768), "a small screen": (1280, 800), "a wide screen": (1366, 768),
          "a large screen": (1920, 1080), "a screen of 4K": (3840, 2160), "a telephone": (390, 844)}
@@ -153,7 +154,7 @@ class FirstScreen(Browser):
             self.page.resize(SIZES[place])
             self.page.value(f"guide.begin(), window.tops = new Set([{top}]), 0")
             for key in "feedChosen()", "pressLoad()", "pressStep()", "pressRun()", \
-                    "(byId('name').value = 'ADA', feedName())", "delay(500).then(pressLoad)", "pressRun()":
+                    "(byId('name').value = 'ADA', feedName())", "rested().then(pressLoad)", "pressRun()":
                 self.page.value(f"{key}.then(() => delay(300)).then(() => {{ tops.add({top}); }})")
             others = "[...tops].map(Math.round).filter((top, at, all) => all[0] !== top)"
             self.shows(place, f"guide.step() + {others}.join()", "done")
@@ -206,7 +207,7 @@ class Guide(Browser):
     def test_another_program(self):
         """The guide says which one is there, and takes none of its steps for its own."""
         for name, words in ("game", "Higher and lower"), ("listing", "Listing"):
-            self.page.value(f"byId('program').value = '{name}', drawProgram(), feedChosen()")
+            self.page.value(f"byId('program').value = '{name}', drawProgram(), rested().then(feedChosen)")
             for after, key in ("feeding", None), ("LOAD", "pressLoad()"), ("STEP", "pressStep()"):
                 self.page.value(key or "0")
                 said = "byId('guide-now').textContent"
@@ -230,8 +231,8 @@ class Guide(Browser):
         self.page.value("feedText(HELLO), 0")
         self.shows("another hello card", "guide.step()", "load")
         self.page.value("byId('name').value = 'Ada', feedName()")
-        for step, key in ("loadName", "pressLoad()"), ("runName", "pressRun()"), \
-                ("loadName", "delay(500).then(pressLoad)"):
+        for step, key in ("loadName", "rested().then(pressLoad)"), ("runName", "pressRun()"), \
+                ("loadName", "rested().then(pressLoad)"):
             self.shows(step, "guide.step()", step)
             self.page.value(key)
         self.shows("the name is in core, not on the paper", "guide.step()", "runName")
@@ -323,6 +324,62 @@ class Guide(Browser):
             self.page.mouse(key)
             self.shows(key, "byId('said-words').textContent", "The machine is empty: feed a program first.")
         self.unchanged("nothing is sent", self.served, count)
+
+
+class Lessons(Browser):
+    """The guide through a lesson, up to the paper of the mended program."""
+
+    def at(self, step, key, press=True):
+        """The guide is at a step, whose key is lit and then pressed."""
+        on = f"isOff(byId('{key or 'help-key'}'))"
+        self.shows(step, f"[guide.step(), {LIT}, {on}].join()", f"{step},{key},false")
+        if key and press:
+            self.check(f"the mouse reaches {key}", "" if self.page.mouse(key) else "it doesn't")
+
+    def send(self, line):
+        """Sends a line at the console, by the keyboard."""
+        self.page.press("c", "KeyC", 1)
+        self.page.write(line)
+        self.page.press("Enter")
+
+    def load(self):
+        """From the clear machine to the first card in core storage."""
+        for step, key in ("Feed", "feed-key"), ("Switch", "switch-A"), ("Load", "load-key"):
+            self.at(f"lesson{step}", key)
+
+    def test_the_first_lesson(self):
+        printed = "view.paper.map(line => line.text.trimEnd()).filter(text => text)"
+        course = EXAMPLES / "course/01-three-fields"
+        broken, wanted = ([line.rstrip() for line in (course / f"{name}.paper").read_text().split("\n") if line.strip()]
+                          for name in ("program", "wanted"))
+        self.page.value("byId('program').value = 'lesson1', byId('program').dispatchEvent(new Event('change'))")
+        self.shows("the steps to a name aren't shown", "byId('guide-steps').checkVisibility()", False)
+        self.load()
+        self.at("lessonRun", "run-key")
+        self.at("lessonLook", "afresh-key")
+        self.check("the paper is wrong", "" if self.page.value(printed) != wanted else f"it is {broken}")
+        self.page.click("ask-yes")
+        self.load()
+        self.shows("the line to send is named", "byId('guide-now').textContent.includes('RUN 203')")
+        self.at("lessonSend", "send-key", press=False)
+        self.send("RUN 203")
+        self.at("lessonMend", "send-key", press=False)
+        self.send("DEPOSIT 0031 ~1")
+        self.at("lessonAgain", "run-key")
+        self.at("lessonDone", "")
+        self.shows("the paper is right", printed, wanted)
+        self.page.value("byId('program').value = 'hello', byId('program').dispatchEvent(new Event('change'))")
+        self.shows("another program ends it", f"guide.step() + ' ' + ({LIT})", "other afresh-key")
+
+    def test_without_a_mended_program(self):
+        """A run that ends as before leads to the question again."""
+        self.page.value("byId('program').value = 'lesson1', byId('program').dispatchEvent(new Event('change'))")
+        for _ in range(2):
+            self.load()
+            self.page.value("rested().then(pressRun)")
+            self.at("lessonLook", "afresh-key")
+            self.page.click("ask-yes")
+        self.shows("the lesson is still chosen", "byId('program').value", "lesson1")
 
 
 class StartAfresh(Browser):
@@ -427,7 +484,8 @@ class Senses(Browser):
         self.shows("nothing is heard", "heard.length + (speaker === null ? 0 : 1)", 0)
         self.page.mouse("sound-key")
         self.shows("the key says that it is on", "byId('sound-key').getAttribute('aria-pressed')", "true")
-        self.page.value("heard.length = 0, view.ended = null, feedChosen().then(pressLoad).then(pressRun)")
+        self.page.value("heard.length = 0, view.ended = null, "
+                        "rested().then(feedChosen).then(pressLoad).then(pressRun)")
         self.shows("reader and printer are heard", "heard.includes('read') && heard.includes('print')")
 
     def test_the_pace_of_1960(self):
@@ -468,7 +526,7 @@ class Programs(Browser):
         for name, (last, stop) in self.ENDS.items():
             self.page.value(f"byId('program').value = '{name}', drawProgram()")
             self.page.value("(p => p.switches ? say(`SWITCH ${p.switches} ON`) : 0)(chosenProgram())")
-            self.page.value("feedChosen().then(pressLoad).then(pressRun)")
+            self.page.value("rested().then(feedChosen).then(pressLoad).then(pressRun)")
             self.shows(f"{name} ends", f"byId('said-words').textContent === TEXTS.stops.{stop}")
             self.shows(f"{name} prints", "view.paper.at(-1).text.trim()", last.strip())
             self.shows(f"{name} has a source", "byId('source').textContent.length > 40")

@@ -9,7 +9,7 @@ NAMED = {"button", "textbox", "searchbox", "combobox", "checkbox", "image", "img
          "toolbar", "dialog", "progressbar", "log", "navigation"}
 # The first places of Tab on a page where nothing was done yet.
 ORDER = ["feed-key", "pick-key", "view-key", "load-key", "run-key", "stop-key", "step-key", "start-at", "start-key",
-         "pace", "A", "B", "C", "D", "E", "F", "G", "fold", "tear-key", "save-key", "print-key", "large-key"]
+         "pace", *(f"switch-{name}" for name in "ABCDEFG"), "fold", "tear-key", "save-key", "print-key", "large-key"]
 # Each text that is seen and whose contrast to what is below it is less than it has to be: 4.5, or 3 for a large one.
 FAINT = """(() => {
     const parts = color => (color.match(/[\\d.]+/g) || []).map(Number);

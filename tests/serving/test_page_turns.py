@@ -3,7 +3,7 @@ import time
 import unittest
 
 from tests.chromium import NARROW
-from tests.support import SECONDS
+from tests.support import PAUSE, SECONDS
 from tests.serving.test_browser import Browser
 from tests.serving.test_exhibit import LIT, ONE_MORE, PRINTED, SIZES
 
@@ -20,15 +20,17 @@ class Visitor:
         self.page, self.name, self.presses = page, name, []
 
     def goes_on(self):
-        """One press, if a key is lit and on, and the step that the guide was at."""
-        step, lit = self.page.value(f"[guide.step(), isOff(byId(({LIT}) || 'help-key')) ? '' : {LIT}]")
+        """One press, if a key is lit and on, and the step that the guide was at. All that decides is asked at once: the
+        key of somebody who waits gives the machine away as soon as their turn has come."""
+        step, lit, asks, waits = self.page.value(
+            f"[guide.step(), isOff(byId(({LIT}) || 'help-key')) ? '' : {LIT}, byId('ask').open, turn.wants]")
         if step == "done":
             return step
-        if self.page.value("byId('ask').open"):
+        if asks:
             self.page.click("ask-yes")
         elif step == "name":
             self.page.value(HOW.format(self.name))
-        elif lit and not (step == "wait" and self.page.value("turn.wants")):
+        elif lit and not waits:
             self.presses.append(lit)
             self.page.mouse(lit)
         return step
@@ -150,13 +152,17 @@ class Class(Browser):
         self.pages = []
         for pupil in pupils:
             pupil.page.click("feed-key")
+        # Each has this long, whatever the seven others take.
         late = time.monotonic() + SECONDS
         while left and time.monotonic() < late:
             for pupil in list(left):
-                while (step := pupil.goes_on()) not in ("wait", "done") and time.monotonic() < late:
+                while (step := pupil.goes_on()) not in ("wait", "done", None) and time.monotonic() < late:
                     pass
                 if step == "done":
                     left.remove(pupil)
+                    late = time.monotonic() + SECONDS
+            # The pages have the processors meanwhile.
+            time.sleep(PAUSE)
         self.same("pupils without a line", [pupil.name for pupil in left], [])
         lines = pages[0].until(PRINTED, "").split("|")
         self.same("each name is on the paper once", sorted(line for line in lines if line in NAMES), NAMES)

@@ -992,6 +992,15 @@ done:'Your name is on the paper. Save it, print the card to take home, or choose
 other:'Somebody has left cards or a program in the machine. Press "Start afresh" to clear it; or go on with it.',
 program:'The program {name} is in the machine. Go on with it; or press "Start afresh", and the guide begins.',
 paper:'The printer is full: it holds 500 lines. Press "Tear off" to go on.',
+lessonFeed:'Press "Feed this program": the cards of this lesson go into the hopper.',
+lessonSwitch:'Turn sense switch A on.',
+lessonLoad:'Press LOAD: the machine reads the first card.',
+lessonRun:'Press RUN, and read the paper. Something on it is wrong.',
+lessonLook:'What is wrong? Step 2, above the source, helps. When you know it, press "Start afresh".',
+lessonSend:'At the console send {loads}: it loads the program, and stops before its first instruction.',
+lessonMend:'At the console send the DEPOSIT that mends the program. Step 4, above the source, helps.',
+lessonAgain:'Press RUN, and read the paper.',
+lessonDone:'Step 5 says what is on the paper now. If it isn\'t, press "Start afresh" and try again.',
 },
 guide:{
 off:'The guide leads you to a printed line with your name, in about two minutes.',
@@ -1356,6 +1365,15 @@ other:'Jemand hat Karten oder ein Programm in der Maschine gelassen. "Von vorn" 
 program:'Das Programm {name} ist in der Maschine. Machen Sie damit weiter; oder dr\xfccken Sie "Von vorn", dann '
 + 'beginnt die F\xfchrung.',
 paper:'Der Drucker ist voll: er fasst 500 Zeilen. Dr\xfccken Sie "Abrei\xdfen".',
+lessonFeed:'Dr\xfccken Sie "Programm einlegen": die Karten dieser Lektion kommen ins Magazin.',
+lessonSwitch:'Schalten Sie Schalter A ein.',
+lessonLoad:'Dr\xfccken Sie LOAD: die Maschine liest die erste Karte.',
+lessonRun:'Dr\xfccken Sie RUN, und lesen Sie das Papier. Etwas darauf ist falsch.',
+lessonLook:'Was ist falsch? Schritt 2, \xfcber der Quelle, hilft. Wenn Sie es wissen, dr\xfccken Sie "Von vorn".',
+lessonSend:'Schicken Sie an der Konsole {loads}: das l\xe4dt das Programm und h\xe4lt vor seinem ersten Befehl an.',
+lessonMend:'Schicken Sie an der Konsole das DEPOSIT, das den Fehler behebt. Schritt 4, \xfcber der Quelle, hilft.',
+lessonAgain:'Dr\xfccken Sie RUN, und lesen Sie das Papier.',
+lessonDone:'Schritt 5 sagt, was jetzt auf dem Papier steht. Wenn nicht: "Von vorn", und noch einmal.',
 },
 guide:{
 off:'Die F\xfchrung bringt Sie in etwa zwei Minuten zu einer gedruckten Zeile mit Ihrem Namen.',
@@ -1433,17 +1451,17 @@ game:{name:'Gr\xf6\xdfer oder kleiner',about:'Die letzte Karte des Stapels hat e
 + 'Stanzen '
 + 'Sie Ihren Tipp, zwei Ziffern, dann RELEASE und RUN: die Maschine druckt, ob die Zahl gr\xf6\xdfer oder kleiner ist.',
 fed:'Dr\xfccken Sie LOAD, dann RUN. Stanzen Sie dann eine Karte mit zwei Ziffern, und wieder RUN.'},
-listing:{name:'Liste',about:'Druckt und kopiert die Karten nach ihr. Mit Schalter A h\xe4lt es nach der '"##;
-
-/// The rest of the page.
-pub const REST: &[u8] = br##"
+listing:{name:'Liste',about:'Druckt und kopiert die Karten nach ihr. Mit Schalter A h\xe4lt es nach der '
 + 'letzten Karte an.',
 fed:'Schalter A an, LOAD, dann RUN. Bei 100 Schritten je Sekunde sehen Sie zu.'},
 },
 aboutFirst:'Das ist eine simulierte IBM 1401, ein Rechner von 1959, mit Kartenleser, Stanzer und Drucker. '
 + 'Alles, was '
 + 'Sie sehen, ist eine Maschine, die sich alle in diesem Raum teilen.',
-aboutDrawing:'Karten gehen vom Leser zur Recheneinheit, Ergebnisse von dort zum Drucker und zum Stanzer.',
+aboutDrawing:'Karten gehen vom Leser zur Recheneinheit, Ergebnisse von dort zum Drucker und zum Stanzer.',"##;
+
+/// The rest of the page.
+pub const REST: &[u8] = br##"
 aboutParts:{reader:['Kartenleser','und Stanzer'],unit:['Recheneinheit','mit Kernspeicher'],
 printer:['Drucker','132 Spalten'],
 below:['800 Karten je Minute','1.400 bis 16.000 Stellen','600 Zeilen je Minute']},
@@ -1610,7 +1628,7 @@ const LESSON_TEXTS={
 en:{
 name:'Lesson {n}: {title}',
 steps:'1. Press {feed}, turn sense switch A on, press LOAD and RUN, and read the paper.\n2. {look}\n3. Press '
-+ '{afresh}, choose this lesson again, press {feed}, turn switch A on, and press LOAD. At the console send '
++ '{afresh}, then {feed}, turn switch A on, and press LOAD. At the console send '
 + '{run}: the program is loaded, and has not begun.\n4. {mend} DEPOSIT 0600 ~AB~C puts three characters into '
 + 'places 600 to 602, A and C with a word mark. An instruction begins with one.\n5. Press RUN. {right}',
 fed:'Turn sense switch A on, press LOAD, then RUN. The next steps are above the source.',
@@ -1665,7 +1683,7 @@ right:'The third total is 387.23.'},
 de:{
 name:'Lektion {n}: {title}',
 steps:'1. Dr\xfccken Sie {feed}, Schalter A an, LOAD und RUN, und lesen Sie das Papier.\n2. {look}\n3. Dr\xfccken Sie '
-+ '{afresh}, w\xe4hlen Sie diese Lektion wieder, {feed}, Schalter A an, und LOAD. Schicken Sie an der Konsole '
++ '{afresh}, {feed}, Schalter A an, und LOAD. Schicken Sie an der Konsole '
 + '{run}: das Programm ist geladen und hat noch nicht begonnen.\n4. {mend} DEPOSIT 0600 ~AB~C bringt drei '
 + 'Zeichen auf die Pl\xe4tze 600 bis 602, A und C mit Wortmarke. Ein Befehl beginnt mit einer.\n5. Dr\xfccken Sie '
 + 'RUN. {right}',
@@ -1727,7 +1745,7 @@ right:'Die dritte Summe ist 387.23.'},
 const LESSON_STEPS=[203,203,203,221,230,221,284,266];
 LESSON_STEPS.forEach((steps,at)=>{
 const name=`lesson${at + 1}`;
-PROGRAMS.push({name,...assembled(name)});
+PROGRAMS.push({name,...assembled(name),loads:`RUN ${steps}`});
 for(const[language,{programs,feedKey,afreshKey}]of Object.entries(LANGUAGES)){
 const texts=LESSON_TEXTS[language]||LESSON_TEXTS.en,lesson=texts.lessons[at];
 const about=filled(texts.steps,{...lesson,run:`RUN ${steps}`,feed:feedKey,afresh:afreshKey});
@@ -1954,7 +1972,8 @@ view.posting=false;
 }
 if(PROXY_STATUS.includes(response.status))return lostLine(count,room);
 if(response.status===200)return{text,count};
-return{...refusedLine(statusOf(response)),done:response.status===423?repliesBefore(text):''};
+const done=response.status===423?repliesBefore(text):'';
+return{...refusedLine(statusOf(response)),done};
 }
 function repliesBefore(text){
 const at=text.search(/^HOLD /m);
@@ -2098,6 +2117,7 @@ return true;
 function noteStop(stop){
 view.ended=stop&&stop.name==='HALT'?stop.next:null;
 if(view.ended !==null)happened('halt');
+if(stop&&stop.name !=='LIMIT')happened('stop');
 }
 const ATTRACT_GROWN=10;
 const GUARD_MS=400;
@@ -2365,6 +2385,11 @@ if(feed||!mayCommand()||!(await takeTurn()))return;
 const program=chosenProgram(),words=TEXTS.programs[program.name];
 const cards=program.extra?[...program.cards,...program.extra()]:program.cards;
 await feedDeck(cards,words.fed);
+}
+function chooseProgram(){
+drawProgram();
+forgetLesson();
+guide.draw();
 }
 function drawProgram(){
 const program=chosenProgram(),words=TEXTS.programs[program.name];
@@ -2886,7 +2911,7 @@ if(!(await confirmed(question))||!(await takeTurn()))return;
 stopRun();
 while(run)await delay(SLICE_MS);
 await startAfresh(renewal.mode==='ON'?renewRoom:clearMachine);
-guide.begin();
+guide.beginAgain();
 }
 async function startAfresh(clear=clearMachine){
 isClearing=true;
@@ -2916,7 +2941,7 @@ if(byId('said-words').textContent===TEXTS.said.clear)tell(words);
 function beginAnew(words){
 forgetWords();
 tell(words);
-if(!['off','attract'].includes(guide.state))guide.begin();
+if(!['off','attract'].includes(guide.state))guide.beginAgain();
 }
 async function sendInTurn(lines,wanted){
 const{breaks}=view;
@@ -2978,7 +3003,7 @@ turn.freeSince=null;
 guide.draw();
 }
 function isTurnOver(){
-return performance.now()- attract.touched>TURN_IDLE_MS||[null,'done'].includes(guide.step());
+return performance.now()- attract.touched>TURN_IDLE_MS||[null,'done','lessonDone'].includes(guide.step());
 }
 async function lookForTurn(){
 if(!isShared()||view.link !=='fine')return;
@@ -3272,15 +3297,52 @@ byId('home').hidden=false;
 cardIn(byId('home-card'))(text('card').slice(0,CARD_COLUMNS));
 setText(byId('home-line'),text('line').slice(0,132));
 }
+const LESSON_BEGINS=400;
+const lesson={hasFed:false,hasRun:false,hasEnded:false,isMended:false};
+function lessonChosen(){
+const program=chosenProgram();
+return !isStage&&program.loads?program:null;
+}
+function beginLessonAgain(hasFed=false){
+Object.assign(lesson,{hasFed,hasEnded:false,isMended:false});
+}
+function forgetLesson(){
+beginLessonAgain();
+lesson.hasRun=false;
+}
+function noteLesson(event,name){
+if(event==='fed')beginLessonAgain(true);
+if(event==='stop'&&['lessonRun','lessonAgain'].includes(name))lesson.hasRun=lesson.hasEnded=true;
+if(event==='deposit'&&name==='lessonMend')lesson.isMended=true;
+}
+function lessonStepOf(picture,{cards},{hasFed,hasRun,hasEnded,isMended}){
+const{registers:{I,HOPPER,PAPER,SWITCHES},cells,next,read,hopper}=picture;
+if(PAPER>=MOST_CARDS)return 'paper';
+if(hasEnded)return isMended?'lessonDone':'lessonLook';
+if(hopper !==null&&!cards.includes(hopper))return 'other';
+if(HOPPER===cards.length)return SWITCHES.includes('A')?'lessonLoad':'lessonSwitch';
+if(hasFed){
+if(!hasRun)return 'lessonRun';
+if(read===cards[0]&&I===1)return 'lessonSend';
+return I===LESSON_BEGINS&&!isMended?'lessonMend':'lessonAgain';
+}
+return next===null&&cells.every(cell=>cell.graphic===' '&&!cell.mark)?'lessonFeed':'other';
+}
 const GUIDE_WAITS_MS=120000;
 const HELLO_AT=[1,8,15,22,29,36,37];
 const HELLO_END=38;
 const GUIDE_STEPS={
 feed:{key:'feed-key',shown:0},load:{key:'load-key',shown:1},step:{key:'step-key',shown:2},
-run:{key:'run-key',shown:3},name:{key:'name-key',shown:4},
+run:{key:'run-key',shown:3},name:{key:'name-key',shown:4,focus:'name'},
 loadName:{key:'load-key',shown:4},runName:{key:'run-key',shown:4},done:{key:'',shown:5},
+lessonFeed:{key:'feed-key',shown:-1},lessonSwitch:{key:'switch-A',shown:-1},
+lessonLoad:{key:'load-key',shown:-1},lessonRun:{key:'run-key',shown:-1},
+lessonLook:{key:'afresh-key',shown:-1},lessonSend:{key:'send-key',shown:-1,focus:'line'},
+lessonMend:{key:'send-key',shown:-1,focus:'line'},lessonAgain:{key:'run-key',shown:-1},
+lessonDone:{key:'',shown:-1},
 other:{key:'afresh-key',shown:-1},paper:{key:'tear-key',shown:-1},wait:{key:'turn-key',shown:-1},
 };
+const PATIENT_STEPS=['feed','wait','lessonFeed','lessonLook','lessonMend'];
 const isHello=text=>text !==null&&text.startsWith(HELLO.slice(0,NAME_COLUMN));
 function isPrinted(card,from){
 return[...torn,...view.paper].slice(from).some(line=>line.text===card.slice(NAME_COLUMN));
@@ -3308,14 +3370,24 @@ return(hopper !==null||read !=='')&&found.length===1?found[0].name:null;
 const guide={
 state:'off',hasFed:false,card:null,from:0,since:0,lit:'',
 begin(){
-const isPrepared=hold.isPrepared&&view.picture !==null&&!isClear(view.picture);
-Object.assign(this,{hasFed:false,card:null,since:performance.now(),state:isPrepared?'prepared':'on'});
 byId('program').value='hello';
 drawProgram();
+forgetLesson();
+this.goOn();
+},
+beginAgain(){
+if(!lessonChosen())return this.begin();
+beginLessonAgain();
+this.goOn();
+},
+goOn(){
+const isPrepared=hold.isPrepared&&view.picture !==null&&!isClear(view.picture);
+Object.assign(this,{hasFed:false,card:null,since:performance.now(),state:isPrepared?'prepared':'on'});
 this.draw();
 },
 on(event){
 this.since=performance.now();
+noteLesson(event,this.step());
 if(event==='fed'){
 if(this.step()==='done')this.card=null;
 this.hasFed=true;
@@ -3326,7 +3398,7 @@ look(){
 const now=performance.now(),isLeft=run !==null&&!attract.on&&now - attract.touched>IDLE.attractMs;
 if(isLeft&&this.state==='aside')this.begin();
 const isLate=now - Math.max(this.since,attract.touched)>GUIDE_WAITS_MS;
-if(this.state==='on'&&!['feed','wait'].includes(this.step())&&isLate&&!run)this.stepAside();
+if(this.state==='on'&&!PATIENT_STEPS.includes(this.step())&&isLate&&!run)this.stepAside();
 },
 stepAside(){
 if(isStage)return this.begin();
@@ -3334,7 +3406,7 @@ this.state='aside';
 this.draw();
 },
 press(){
-if(this.isOver())return this.begin();
+if(this.isOver())return lessonChosen()?this.goOn():this.begin();
 this.state='off';
 this.draw();
 },
@@ -3343,12 +3415,14 @@ return this.state !=='on'||this.step()==='done';
 },
 step(){
 if(this.state !=='on'||view.picture===null)return null;
-const step=stepOf(view.picture,this);
-return step !=='done'&&(turn.wants||isKeptOff())?'wait':step;
+const chosen=lessonChosen();
+const step=chosen?lessonStepOf(view.picture,chosen,lesson):stepOf(view.picture,this);
+return !['done','lessonDone'].includes(step)&&(turn.wants||isKeptOff())?'wait':step;
 },
 draw(){
 const name=this.step(),step=name&&GUIDE_STEPS[name],shown=step?step.shown:-1;
-this.light(this.keyFor(name),name==='name'&&!tour.isOn&&'name');
+this.light(this.keyFor(name),step&&!tour.isOn&&step.focus);
+byId('guide-steps').hidden=lessonChosen()!==null;
 if(isExhibit)setText(byId('feed-key'),TEXTS.childKeys[wantsClearing()?'clear':'feed']);
 [...byId('guide-steps').children].forEach((element,at)=>{
 element.classList.toggle('done',at<shown);
@@ -3381,8 +3455,8 @@ words(name){
 if(name===null)return TEXTS.guide[this.state==='on'?'off':this.preparedWords()];
 if(name==='wait')return turnWords();
 const words=isExhibit?TEXTS.childWords:TEXTS.guideWords;
-const there=name==='other'?programThere(view.picture):null;
-return there?filled(words.program,{name:TEXTS.programs[there].name}):words[name];
+const there=name==='other'?programThere(view.picture):null,{loads}=chosenProgram();
+return there?filled(words.program,{name:TEXTS.programs[there].name}):filled(words[name],{loads});
 },
 preparedWords(){
 return this.state==='prepared'&&renewal.mode==='ON'?'preparedAgain':this.state;
@@ -4080,6 +4154,7 @@ const outcome=await say(line);
 const stop=stopOf(outcome.reply);
 if(stop)tellOutcome(outcome,counted(TEXTS.said.limit,stop.steps));
 if(stop)noteStop(stop);
+if(outcome.reply==='OK'&&/^ *DEPOSIT /.test(line))happened('deposit');
 }
 function recallLine(event){
 const by={ArrowUp:-1,ArrowDown:1}[event.key];
@@ -4184,7 +4259,8 @@ for(const name of['I','A','B']){
 for(let digit=0;digit<5;digit++)added(byId(name),'b',{textContent:'0'});
 }
 for(const name of SWITCHES){
-const button=added(byId('switches'),'button',{type:'button',value:name,textContent:name});
+const id=`switch-${name}`;
+const button=added(byId('switches'),'button',{type:'button',id,value:name,textContent:name});
 button.setAttribute('aria-pressed','false');
 button.addEventListener('click',()=>turnSwitch(button));
 }
@@ -4229,7 +4305,7 @@ const[file]=byId('file').files;
 byId('file').value='';
 if(file)feedFile(file);
 });
-byId('program').addEventListener('change',drawProgram);
+byId('program').addEventListener('change',chooseProgram);
 byId('language').addEventListener('change',()=>chooseLanguage(byId('language').value));
 byId('name-form').addEventListener('submit',punchName);
 byId('name').addEventListener('input',drawName);
@@ -4340,7 +4416,7 @@ begin();
 /// The `content-security-policy` of the page: its own script and style by their SHA-256, exchanges with its own server,
 /// and nothing else.
 pub const POLICY: &str = "default-src 'none'; \
-    script-src 'sha256-SwbujKFTSqaMY4ceQerseOz2HDFKBz1lEI77SsR8TAg='; \
+    script-src 'sha256-yYThQZATjwitU/XpUjPNI/e1n+lIMfwpyCVCyhmxxRI='; \
     style-src 'sha256-tNR2WJNDi6NY0FWvr+TLImh13HAKZf2YEcCOD58v4yE='; \
     img-src data:; \
     connect-src 'self'; \
