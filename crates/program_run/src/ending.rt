@@ -2,6 +2,7 @@
 ghost use Rattle.std.specs.Prelude.{◌≡◌, IfSome, length};
 ghost use Rattle.job_steps.specs.Reason.{stop_named};
 ghost use Rattle.program_run.specs.ReelPlaces.{place_of, places_of};
+ghost use Rattle.program_run.specs.WhyStopped.{IsWhyStopped};
 
 use crate::job_report::JobReport;
 use crate::stopped_at::{RunSource, instruction_text};
@@ -83,7 +84,8 @@ fn reel_places(tapes: &Tapes) -> [Option<ReelPlace>; 6]
 
 /// Why a machine that was started so has stopped: why its next step stops, or why its first record isn't loaded.
 fn why_stopped(taped: &TapedMachine, start: Start, stop: Stop) -> Option<Reason>
-    ensures { IfSome result (λ why. stop_named why ≡ stop) }
+    ensures stop { IfSome result (λ why. stop_named why ≡ stop) }
+    ensures so { IsWhyStopped start taped.now stop result }
 {
     match (taped_reason_told(taped, stop), start) {
         (Some(why), _) => Some(why),
@@ -144,6 +146,7 @@ impl Ending {
     ) -> Ending
         ensures report { result.report ≡ report }
         ensures reason { IfSome result.reason (λ why. stop_named why ≡ report.stop) }
+        ensures so { IsWhyStopped start taped.now report.stop result.reason }
         ensures reels { result.reels ≡ places_of taped.now.tapes }
     {
         let machine = &taped.machine;

@@ -15,9 +15,11 @@ pub returns-in-Ok-read_reels-clause-read : goal.returns-in-Ok-read_reels-clause-
 returns-in-Ok-read_reels-clause-read g c =
     let inputs = c.in-Ok-read_inputs.inputs in
     let tapes = c.in-Ok-read_reels.tapes in
-    read_for c.args.job.now c.begun_with.result inputs.machine inputs.cards tapes c.begun_with.ensures.machine
+    let before = g.D.ReelFiles.given c.args.files.now in
+    let after = g.D.ReelFiles.given c.read_reels.new.files in
+    read_for c.args.job.now before after c.begun_with.result inputs.machine inputs.cards tapes c.begun_with.ensures.machine
     c.begun_with.ensures.tapes c.begun_with.ensures.cards c.in-Ok-read_inputs.ensures.begun
-    (subst (λ (reels : List MountedReel). AreMounted reels no_tapes tapes) c.as_slice.ensures.value
+    (subst (λ (reels : List MountedReel). AreMounted reels before after no_tapes tapes) c.as_slice.ensures.value
     c.in-Ok-read_reels.ensures.mounted)
 
 pub returns-in-Err-read_reels-clause-fault : goal.returns-in-Err-read_reels-clause-fault
