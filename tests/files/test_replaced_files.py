@@ -36,17 +36,19 @@ class Replaced(ProgramTest):
         self.theirs.rename(self.reel)
         self.theirs.write_bytes(THEIRS)
 
-    def run_with(self, reel, meanwhile):
-        """Runs the program with this reel, and does something once the reel is read: the next one comes from a pipe."""
-        pipe = self.folder / "pipe"
+    def run_with(self, reel, meanwhile, *words):
+        """Runs the program with this reel, and does something once the job has begun: its trace goes to a pipe, and it
+        waits until that is read."""
+        pipe, paper = self.folder / "pipe", self.folder / "paper"
         os.mkfifo(pipe)
-        call = [PROGRAM, "run", self.program, "--tape", f"1={reel}:ring", "--tape", f"2={pipe}"]
+        call = [PROGRAM, "run", self.program, "--tape", f"1={reel}:ring", *words, "--paper", paper, "--trace", pipe]
         with subprocess.Popen(call, stdout=subprocess.PIPE, stderr=subprocess.PIPE) as process:
-            with pipe.open("wb") as opened:
-                meanwhile()
-                opened.write(self.text)
+            wait_until(paper.exists)
+            meanwhile()
+            pipe.read_bytes()
             out, error = process.communicate(timeout=SECONDS)
-        pipe.unlink()
+        for each in pipe, paper:
+            each.unlink()
         return process.returncode, out, error.decode().splitlines()[-1]
 
 
@@ -117,15 +119,8 @@ class Reels(Replaced):
     def test_the_other_reels_are_written(self):
         other = self.folder / "b.tap"
         other.write_bytes(self.text)
-        call = [PROGRAM, "run", self.program, "--tape", f"1={self.reel}:ring", "--tape", f"3={other}:ring"]
-        pipe = self.folder / "pipe"
-        os.mkfifo(pipe)
-        with subprocess.Popen([*call, "--tape", f"2={pipe}"], stderr=subprocess.PIPE) as process:
-            with pipe.open("wb") as opened:
-                self.link()
-                before = other.stat().st_ino
-                opened.write(self.text)
-            process.communicate(timeout=SECONDS)
+        before = other.stat().st_ino
+        self.run_with(self.reel, self.link, "--tape", f"3={other}:ring")
         self.holds("it has its text", other, self.text)
         self.same("it is a new file", other.stat().st_ino != before, True)
 

@@ -17,8 +17,10 @@ const STANDARD_OUTPUT: &str = "/dev/stdout";
 /// How many names are tried for the file that is to take the place of another.
 pub(crate) const NAMES: u32 = 100;
 
-/// The longest name to which a number and an ending are added: a file's name may have 255 bytes.
-const LONGEST: usize = 247;
+/// The most bytes of a file's name, and of one to which a number and an ending are added.
+const MOST_OF_NAME: usize = 255;
+
+const MOST_BESIDE: usize = 247;
 
 /// A new file next to another, whose name it takes once it is whole.
 #[derive(Drop)]
@@ -82,7 +84,7 @@ pub fn create_new<R: Files>(rt: &R, name: &str) -> io::Result<R::File> {
 }
 
 /// The name of a file next to the one of this name, with a number and an ending. It is made of that name, unless that
-/// would be too long for a file's.
+/// would be too long for a file's. One that is too long itself is left for the system to refuse.
 pub(crate) fn name_beside(
     alloc: Global,
     name: &str,
@@ -90,7 +92,7 @@ pub(crate) fn name_beside(
     ending: &str,
 ) -> Result<String, AllocError> {
     let (folder, last) = split_name(name);
-    if last.len() > LONGEST {
+    if MOST_BESIDE < last.len() && last.len() <= MOST_OF_NAME {
         format!(in alloc; "{folder}/ibm1401.{number}.{ending}")
     } else {
         format!(in alloc; "{name}.{number}.{ending}")

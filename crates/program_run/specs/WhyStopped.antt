@@ -1,5 +1,5 @@
 -- What is said of why a job stopped (own): what `job_steps` says of the machine that it left.
-use Rattle.std.specs.Prelude.{◌⊎◌, ℕ, Option, None}
+use Rattle.std.specs.Prelude.{◌⊎◌, ℕ, IsSome, Option, None}
 use Rattle.machine_tables.specs.declared.stop.Stop.{Stop}
 use Rattle.machine_tapes.specs.TapeLoading.{loaded_from, loading}
 use Rattle.machine_tapes.specs.TapedStep.{taped_step}
@@ -25,4 +25,4 @@ abbrev pub IsWhyStopped : Start → TapedMachine → Stop → Option Reason → 
 IsWhyStopped start.Entry t why told = IsToldOfStep t why told
 IsWhyStopped start.LoadKey t why told = IsToldOfStep t why told
 IsWhyStopped (start.LoadTape unit) t why told =
-    IsToldOfStep t why told ⊎ (IsToldOfStep t why None × IsToldOfKey unit t why told)
+    (IsSome told × IsToldOfStep t why told) ⊎ (IsToldOfStep t why None × IsToldOfKey unit t why told)

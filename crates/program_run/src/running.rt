@@ -26,7 +26,7 @@ use bytes_streams::{Sink, ToWriter};
 use cpu_1401::{Machine, Stop};
 use job_runner::CardList;
 use machine_tables::Features;
-use machine_tapes::{TapedMachine, Tapes};
+use machine_tapes::TapedMachine;
 use program_call::{Job, is_refused};
 use std::cell::Cell;
 use std::io;
@@ -314,26 +314,19 @@ fn read_job<R: Files + Eprint + AllocGlobal, D: ReelFiles>(
         Err(fault) => return Err(fault),
     };
     match read_reels(rt, files, job.reels.as_slice()) {
-        Ok(tapes) => Ok(begun_with(inputs, tapes)),
+        Ok(tapes) => {
+            let Inputs {
+                machine,
+                cards,
+                source,
+            } = inputs;
+            Ok(Begun {
+                taped: TapedMachine { machine, tapes },
+                cards,
+                source,
+            })
+        }
         Err(fault) => Err(fault),
-    }
-}
-
-/// What was read for a job, with these tape units.
-fn begun_with(inputs: Inputs, tapes: Tapes) -> Begun
-    ensures machine { result.taped.machine ≡ inputs.machine }
-    ensures tapes { result.taped.tapes ≡ tapes }
-    ensures cards { result.cards ≡ inputs.cards }
-{
-    let Inputs {
-        machine,
-        cards,
-        source,
-    } = inputs;
-    Begun {
-        taped: TapedMachine { machine, tapes },
-        cards,
-        source,
     }
 }
 
