@@ -10,4 +10,4 @@ returns-in-Ok-read_tap-clause-reel g c = (
 )
 
 pub returns-clause-fault : goal.returns-clause-fault
-returns-clause-fault g c = unread_reel c.args.name.now c.in-Err.fault c.in-Err.ensures
+returns-clause-fault g c = unread_reel c.args.name.now c.in-Err.fault c.in-Err.ensures.fault

@@ -5,8 +5,8 @@ use Rattle.program_run.proofs.running.run_begun.Goals as goal
 pub returns-in-Err-clause-ran : goal.returns-in-Err-clause-ran
 returns-in-Err-clause-ran g c = λ before read. no_stop_ran c.args.job.now _ _ c.in-Err.fault c.in-Err.ensures
 
-pub returns-in-Ok-clause-ran : goal.returns-in-Ok-clause-ran
-returns-in-Ok-clause-ran g c = λ before read.
+pub returns-clause-ran : goal.returns-clause-ran
+returns-clause-ran g c = λ before read.
     c.run_and_tell.ensures.ran before (record {
       machine = c.args.begun.now.taped.machine;
       begun = read.begun;
