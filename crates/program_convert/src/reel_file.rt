@@ -72,23 +72,6 @@ fn unwritten(name: String, fault: WriteFault) -> ReelFault {
     }
 }
 
-/// Writes the text of a reel as it is made, to the file of this name, whole or not at all; or to standard output, if the
-/// name is its.
-fn put_reel_file(
-    rt: &(impl Files + Print + AllocGlobal),
-    name: &str,
-    text: ReelText<'_>,
-) -> Result<(), WriteFault> {
-    match begin_whole(rt, name) {
-        Ok(file) => {
-            let mut writer = ToWriter::new(file);
-            let written = text.write(&mut writer);
-            end_whole(rt, writer.into_inner(), written.is_ok())
-        }
-        Err(fault) => Err(fault),
-    }
-}
-
 /// Writes the listing of the reel of a file to standard output.
 ///
 /// # Errors
@@ -151,10 +134,19 @@ pub fn write_reel<R: Files + Print + AllocGlobal>(
     parity: Parity,
 ) -> Result<(), ReelFault> {
     match ReelText::new(rt.alloc(), cards, parity) {
-        Ok(text) => match put_reel_file(rt, out.as_str(), text) {
-            Ok(()) => Ok(()),
-            Err(fault) => Err(unwritten(out, fault)),
-        },
+        Ok(text) => {
+            let file = match begin_whole(rt, out.as_str()) {
+                Ok(file) => file,
+                Err(fault) => return Err(unwritten(out, fault)),
+            };
+            // The text is written as it is made.
+            let mut writer = ToWriter::new(file);
+            let written = text.write(&mut writer);
+            match end_whole(rt, writer.into_inner(), written.is_ok()) {
+                Ok(()) => Ok(()),
+                Err(fault) => Err(unwritten(out, fault)),
+            }
+        }
         Err(fault) => Err(fault),
     }
 }
