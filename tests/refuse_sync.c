@@ -1,9 +1,11 @@
 /* Preloaded into the program: writes into the file EVENTS_FILE in which order it writes and syncs, a letter for each, once
    it is done: r for a write to standard output, w for one to a file, s for a sync of a file's data and f for one of a
-   whole file or folder. The REFUSED_SYNC-th sync of these is refused, which is an x. */
+   whole file or folder. The REFUSED_SYNC-th sync of these is refused, which is an x. Before the first, the file SWAP_FROM
+   gets the name SWAP_TO, as if another process did that. */
 #define _GNU_SOURCE
 #include <errno.h>
 #include <fcntl.h>
+#include <stdio.h>
 #include <stdlib.h>
 #include <sys/syscall.h>
 #include <unistd.h>
@@ -30,7 +32,9 @@ ssize_t write(int file, const void *bytes, size_t count)
 static int synced(long call, int file, char event)
 {
     static long asked;
-    const char *refused = getenv("REFUSED_SYNC");
+    const char *refused = getenv("REFUSED_SYNC"), *from = getenv("SWAP_FROM"), *to = getenv("SWAP_TO");
+    if (asked == 0 && from && to)
+        rename(from, to);
     if (++asked == (refused ? atol(refused) : 0)) {
         note('x');
         errno = EIO;

@@ -82,10 +82,10 @@ class Refused(TapesTest):
             self.expect_refused(value, self.run_with(value), 1, f"ibm1401: {why}\n")
 
     def test_a_new_reel_that_cannot_be_made(self):
-        """It is refused before the job, whatever else is mounted. The longest names have no room for that of a part."""
+        """It is refused before the job, whatever else is mounted. A file's name has at most 255 bytes."""
         self.before = self.names()
         mounted, new = f"1={self.reel}", f"{self.new}:new"
-        for name in self.folder / "none" / "new.tap", self.reel / "new.tap", self.folder / ("n" * 250):
+        for name in self.folder / "none" / "new.tap", self.reel / "new.tap", self.folder / ("n" * 256):
             for reels in [f"1={name}:new"], [mounted, f"2={name}:new"], [mounted, f"2={new}", f"3={name}:new"]:
                 ran = self.run_with(*reels)
                 self.expect_refused(f"{name.name} {len(reels)}", ran, 1, f"ibm1401: cannot write {name}\n")

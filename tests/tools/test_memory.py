@@ -15,6 +15,10 @@ PROGRAM = Path(os.environ.get("IBM1401", TOP / "crates/ibm1401/out/ibm1401")).ab
 # The most bytes that a file may have, and the most memory for each of them.
 MOST_BYTES = 16_777_216
 MOST_EACH = 8
+# What FAILURES allows for tables of areas in a listing, for those of labels, and for the entries of a journal.
+MOST_OF_AREAS, MOST_OF_LABELS, MOST_OF_ENTRIES = 32, 9, 24
+# A few segments, or lines, fewer than a journal has entries.
+MOST_SEGMENTS = 90_000
 
 BEGIN = b"               ORG  400\n     START     H\n               NOP\n"
 END = b"               END  START\n"
@@ -89,6 +93,11 @@ def with_literals(number):
     return f"               A    +{number + 1},-{number + 1}\n" + placed.decode() * (number % 100 == 99)
 
 
+def area_with_field(number):
+    """Nine areas with a field, and a label of its own."""
+    return f"               ORG  4000\n               DA   9X90,G\n     {label(number):10}     1,5\n"
+
+
 def equal_below(tail):
     """A line for each number, an EQU of this symbol; and the last line, which declares it."""
     return lambda number: f"     {label(number):10}EQU  {tail}\n", f"     {tail:10}EQU  1\n".encode()
@@ -147,14 +156,14 @@ class MemoryTest(unittest.TestCase):
         self.assertEqual(ended, status, words)
         return kibibytes * 1_024
 
-    def expect_few(self, status, small, large, *words):
+    def expect_few(self, status, small, large, *words, most=MOST_EACH):
         """A call takes at most so many bytes for each byte of `file` more than it does for a short one."""
         file = self.folder / "file"
         file.write_bytes(small)
         before = self.peak(status, *words)
         file.write_bytes(large)
         each = (self.peak(status, *words) - before) / (len(large) - len(small))
-        self.assertLessEqual(each, MOST_EACH, f"{each:.1f} bytes of memory for a byte of {' '.join(words)}")
+        self.assertLessEqual(each, most, f"{each:.1f} bytes of memory for a byte of {' '.join(words)}")
 
     def test_a_deck_of_blank_cards_takes_a_few_bytes_a_card(self):
         self.expect_few(0, b"\n", b"\n" * MOST_BYTES, "run", "source", "--cards", "file")
@@ -281,6 +290,29 @@ class MemoryTest(unittest.TestCase):
             for size in GROWN_LABELS * len(line(0)), MOST_BYTES:
                 with self.subTest(f"{tail}: {size}"):
                     self.expect_few(0, small, again(size, line, last), "run", "--language", "ibm", "file")
+
+    def test_tables_of_areas_and_of_labels_take_more(self):
+        small, large = (again(size, area_with_field) for size in (SHORTER_BYTES // 16, SHORTER_BYTES // 4))
+        for table in TABLES:
+            with self.subTest(table):
+                call = ["assemble", "--language", "ibm", "--size", "16000", "--list", table]
+                self.expect_few(0, small, large, *call, "file", most=MOST_OF_AREAS)
+        status, line = SAYING["EQUs"]
+        small, large = again(SHORTER_BYTES // 4, line), again(SHORTER_BYTES, line)
+        self.expect_few(status, small, large, "assemble", "--list", *TABLES, "file", most=MOST_OF_LABELS)
+
+    def test_a_journal_takes_as_much_as_its_entries(self):
+        # An entry takes 232 bytes, however short its segment or its line is.
+        first, again, last = SHORT_SEGMENTS
+        small, large = (first + again * many + last for many in (10, MOST_SEGMENTS))
+        for call in ["load"], ["operate"], ["serve", "--seats", "1", "--keep-seats", "--port", a_port(), "--image"]:
+            with self.subTest(call[0]):
+                self.expect_few(0, small, large, *call, "file", most=MOST_OF_ENTRIES)
+        small, large = (b"JOURNAL1 4000\n" + b"".join(b"%d\t0\tSTART 0400\tOK\n" % (number + 1) for number in range(many))
+                        for many in (10, MOST_SEGMENTS))
+        for call in ["journal", "--check"], ["journal"], ["resume"]:
+            with self.subTest(" ".join(call)):
+                self.expect_few(0, small, large, *call, "file", most=MOST_OF_ENTRIES)
 
     def test_sources_and_listings_take_a_few_bytes_a_byte(self):
         for name, ((first, again, last), call) in LISTED.items():

@@ -26,10 +26,10 @@ pub enum FileFault {
     Memory,
 }
 
-/// Why a new file isn't made.
+/// Why a file isn't written that takes no other file's place.
 #[derive(Clone, Copy, Debug, Error)]
 pub enum NewFault {
-    /// There is a file of this name already, which would be overwritten.
+    /// Another file has this name already, which would be overwritten.
     #[error("already exists")]
     Exists,
     /// The file can't be made or written.
@@ -49,6 +49,15 @@ pub enum WriteFault {
     /// The memory for a file's name was refused.
     #[error("memory refused")]
     Memory,
+}
+
+/// Why a file that takes no other file's place isn't written, by what the system says.
+pub(crate) fn new_fault(kind: ErrorKind) -> NewFault {
+    match kind {
+        ErrorKind::AlreadyExists => NewFault::Exists,
+        ErrorKind::OutOfMemory => NewFault::Memory,
+        _ => NewFault::Unwritten,
+    }
 }
 
 /// Why a file isn't written, by what the system says.

@@ -4,6 +4,7 @@
 //! let source = read_whole(rt, "sales.source")?;       // its bytes, or why not
 //! put_whole(rt, "sales.image", text.as_slice())?      // the old file, or the new one
 //! put_new(rt, "sales.tap", text.as_slice())?          // the same, unless there is a file of the name
+//! put_back(rt, "sales.tap", &read.metadata, text.as_slice())?  // the same, if it is still the file that was read
 //! is_one_file(rt, "one", "./one")?                    // true, whether it is there or not
 //! ```
 //!
@@ -36,10 +37,10 @@ pub use closed_streams::{HeldStreams, hold_closed_streams};
 pub use fault::{FileFault, NewFault, WriteFault};
 pub use limited::{LimitedFile, size_limit};
 pub use names::{end_of_links, is_named, is_one_file, is_there, remove_own};
-pub use new_file::{check_new, put_new};
+pub use new_file::{check_new, put_beside, put_new};
 pub use patience::{Patient, has_begun, has_unread, linger};
-pub use reading::{read_whole, read_whole_reel};
+pub use reading::{ReadFile, read_whole, read_whole_reel};
 pub use writing::{
     CreatedFile, WholeFile, begin_whole, check_create, check_whole, create, create_beside,
-    create_new, end_whole, keep_rights, put_whole,
+    create_new, end_whole, keep_rights, put_back, put_whole,
 };

@@ -51,8 +51,18 @@ pub fn is_there<R: Files>(rt: &R, name: &str) -> bool {
 }
 
 /// Whether these are of one file or folder.
-fn are_same(first: &Metadata, second: &Metadata) -> bool {
+pub(crate) fn are_same(first: &Metadata, second: &Metadata) -> bool {
     first.dev() == second.dev() && first.ino() == second.ino()
+}
+
+/// Whether this name is still that of the file that was found under it, and no link's; or still nothing's, if nothing
+/// was found.
+pub(crate) fn is_as_found<R: Files>(rt: &R, name: &str, found: Option<&Metadata>) -> bool {
+    match (found, fs::symlink_metadata(rt, name)) {
+        (Some(found), Ok(named)) => are_same(found, &named),
+        (None, Err(error)) => error.kind() == ErrorKind::NotFound,
+        _ => false,
+    }
 }
 
 /// Whether this name is that of an open file: the file's own, and no link's.

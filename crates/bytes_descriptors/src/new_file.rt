@@ -1,21 +1,12 @@
 //! A new file that is written whole or not at all, and takes no other file's place.
 
-use crate::fault::{NewFault, WriteFault, write_fault};
+use crate::fault::{NewFault, WriteFault, new_fault, write_fault};
 use crate::names::is_there;
-use crate::writing::{PartFile, begin_part, create_new, sync_folder};
+use crate::writing::{NAMES, PartFile, begin_part, create_new, name_beside, sync_folder};
 use bytes_streams::{ToWriter, put_all};
 use std::io::ErrorKind;
 use std::rt::Files;
 use std::{fs, io};
-
-/// Why a new file isn't made, by what the system says.
-fn new_fault(kind: ErrorKind) -> NewFault {
-    match kind {
-        ErrorKind::AlreadyExists => NewFault::Exists,
-        ErrorKind::OutOfMemory => NewFault::Memory,
-        _ => NewFault::Unwritten,
-    }
-}
 
 /// Gives a file this name, in the place of an empty file that is made first: a file system may have no links.
 fn take_new_name<R: Files>(rt: &R, beside: &str, name: &str) -> io::Result<()> {
@@ -87,7 +78,12 @@ pub fn put_new<R: Files + AllocGlobal>(rt: &R, name: &str, text: &[u8]) -> Resul
     let Ok(owned) = String::from_str(rt.alloc(), name) else {
         return Err(NewFault::Memory);
     };
-    let PartFile { file, beside, name } = match begin_part(rt, owned, None) {
+    let PartFile {
+        file,
+        beside,
+        name,
+        old,
+    } = match begin_part(rt, owned, None) {
         Ok(part) => part,
         Err(error) if error.kind() == ErrorKind::OutOfMemory => return Err(NewFault::Memory),
         Err(_) => return Err(NewFault::Unwritten),
@@ -98,6 +94,32 @@ pub fn put_new<R: Files + AllocGlobal>(rt: &R, name: &str, text: &[u8]) -> Resul
         file: writer.into_inner(),
         beside,
         name,
+        old,
     };
     end_new(rt, part, written.is_ok())
+}
+
+/// Writes a text to a new file next to the one of this name, as `put_new` does, under a name with this ending that
+/// nothing has. Gives the name.
+///
+/// # Errors
+///
+/// As those of `put_new`: `Exists` if each name that is tried is another file's.
+pub fn put_beside<R: Files + AllocGlobal>(
+    rt: &R,
+    name: &str,
+    ending: &str,
+    text: &[u8],
+) -> Result<String, NewFault> {
+    for number in 0..NAMES {
+        let Ok(beside) = name_beside(rt.alloc(), name, number, ending) else {
+            return Err(NewFault::Memory);
+        };
+        match put_new(rt, beside.as_str(), text) {
+            Ok(()) => return Ok(beside),
+            Err(NewFault::Exists) => {}
+            Err(fault) => return Err(fault),
+        }
+    }
+    Err(NewFault::Exists)
 }

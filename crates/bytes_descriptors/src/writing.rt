@@ -1,9 +1,10 @@
 //! A file that is written whole or not at all.
 
-use crate::fault::{WriteFault, write_fault};
+use crate::fault::{NewFault, WriteFault, new_fault, write_fault};
 use crate::limited::LimitedFile;
-use crate::names::{end_of_links, remove_own, split_name};
+use crate::names::{are_same, end_of_links, is_as_found, remove_own, split_name};
 use bytes_streams::{ToWriter, put_all};
+use std::alloc::{AllocError, Global};
 use std::fs::{Metadata, OpenFile, OpenOptions};
 use std::io::{ErrorKind, Printer, Write};
 use std::os::unix::fs::{MetadataExt, chown};
@@ -14,7 +15,12 @@ use std::{fs, io};
 const STANDARD_OUTPUT: &str = "/dev/stdout";
 
 /// How many names are tried for the file that is to take the place of another.
-const NAMES: u32 = 100;
+pub(crate) const NAMES: u32 = 100;
+
+/// The most bytes of a file's name, and of one to which a number and an ending are added.
+const MOST_OF_NAME: usize = 255;
+
+const MOST_BESIDE: usize = 247;
 
 /// A new file next to another, whose name it takes once it is whole.
 #[derive(Drop)]
@@ -24,6 +30,8 @@ pub(crate) struct PartFile<F> {
     pub(crate) beside: String,
     /// The name that it is to take.
     pub(crate) name: String,
+    /// The file that has this name now, if there is one.
+    pub(crate) old: Option<Metadata>,
 }
 
 /// Where the bytes of a text go.
@@ -75,6 +83,22 @@ pub fn create_new<R: Files>(rt: &R, name: &str) -> io::Result<R::File> {
         .open(rt, name)
 }
 
+/// The name of a file next to the one of this name, with a number and an ending. It is made of that name, unless that
+/// would be too long for a file's. One that is too long itself is left for the system to refuse.
+pub(crate) fn name_beside(
+    alloc: Global,
+    name: &str,
+    number: u32,
+    ending: &str,
+) -> Result<String, AllocError> {
+    let (folder, last) = split_name(name);
+    if MOST_BESIDE < last.len() && last.len() <= MOST_OF_NAME {
+        format!(in alloc; "{folder}/ibm1401.{number}.{ending}")
+    } else {
+        format!(in alloc; "{name}.{number}.{ending}")
+    }
+}
+
 /// A new file next to the one of this name, as `create_new` makes one, and its own name.
 ///
 /// # Errors
@@ -82,7 +106,7 @@ pub fn create_new<R: Files>(rt: &R, name: &str) -> io::Result<R::File> {
 /// As those of `create_new`; `ResourceBusy` if each name that is tried is another file's.
 pub fn create_beside<R: Files + AllocGlobal>(rt: &R, name: &str) -> io::Result<(R::File, String)> {
     for number in 0..NAMES {
-        let beside = format!(in rt.alloc(); "{name}.{number}.part")?;
+        let beside = name_beside(rt.alloc(), name, number, "part")?;
         match create_new(rt, beside.as_str()) {
             Ok(file) => return Ok((file, beside)),
             Err(error) if error.kind() == ErrorKind::AlreadyExists => {}
@@ -114,6 +138,7 @@ pub(crate) fn begin_part<R: Files + AllocGlobal>(
         file: LimitedFile::new(file),
         beside,
         name,
+        old,
     })
 }
 
@@ -127,8 +152,14 @@ fn part_of<R: Files + AllocGlobal, O>(
     Ok(Place::Part(begin_part(rt, path, old)?))
 }
 
-/// Where the bytes go of a file of this name, which may be a device or a pipe.
-fn place_of<R: Files + AllocGlobal, O>(rt: &R, name: &str) -> io::Result<Place<R::File, O>> {
+/// Where the bytes go of a file of this name, which may be a device or a pipe, or standard output.
+fn place_of<'r, R: Files + Print + AllocGlobal>(
+    rt: &'r R,
+    name: &str,
+) -> io::Result<Place<R::File, Printer<'r, R>>> {
+    if name == STANDARD_OUTPUT {
+        return Ok(Place::Output(io::writer(rt)));
+    }
     match OpenOptions::new().write(true).open(rt, name) {
         Ok(old) => {
             let metadata = old.metadata()?;
@@ -151,20 +182,41 @@ pub(crate) fn sync_folder<R: Files>(rt: &R, name: &str) {
     }
 }
 
-/// Forces a new file onto the disk, and gives it the name that it is to take.
+/// Forces a new file onto the disk, and gives it the name that it is to take, unless that has become another file's.
 fn take_name<R: Files>(rt: &R, part: &PartFile<R::File>) -> io::Result<()> {
     part.file.sync_all()?;
+    if !is_as_found(rt, part.name.as_str(), part.old.as_ref()) {
+        return Err(io::Error::from(ErrorKind::AlreadyExists));
+    }
     fs::rename(rt, part.beside.as_str(), part.name.as_str())
 }
 
 /// Ends a new file, which takes its name if it is whole, and else is removed.
-fn end_part<R: Files>(rt: &R, part: PartFile<R::File>, is_whole: bool) -> Result<(), WriteFault> {
-    if is_whole && take_name(rt, &part).is_ok() {
+fn end_part<R: Files>(rt: &R, part: PartFile<R::File>, is_whole: bool) -> io::Result<()> {
+    let named = if is_whole {
+        take_name(rt, &part)
+    } else {
+        Err(io::Error::from(ErrorKind::WriteZero))
+    };
+    if named.is_ok() {
         sync_folder(rt, part.name.as_str());
-        return Ok(());
+    } else {
+        let _ = fs::remove_file(rt, part.beside.as_str());
     }
-    let _ = fs::remove_file(rt, part.beside.as_str());
-    Err(WriteFault::Unwritten)
+    named
+}
+
+/// Ends a file as `end_whole` does.
+fn end_place<R: Files, O: Drop>(
+    rt: &R,
+    place: Place<R::File, O>,
+    is_whole: bool,
+) -> io::Result<()> {
+    match place {
+        Place::Part(part) => end_part(rt, part, is_whole),
+        Place::Device(_) | Place::Output(_) if is_whole => Ok(()),
+        Place::Device(_) | Place::Output(_) => Err(io::Error::from(ErrorKind::WriteZero)),
+    }
 }
 
 /// Begins a file of this name. What is written to it goes to a new file next to it, which gets the owner, the group and
@@ -180,11 +232,6 @@ pub fn begin_whole<'r, R: Files + Print + AllocGlobal>(
     rt: &'r R,
     name: &str,
 ) -> Result<WholeFile<R::File, Printer<'r, R>>, WriteFault> {
-    if name == STANDARD_OUTPUT {
-        return Ok(WholeFile {
-            place: Place::Output(io::writer(rt)),
-        });
-    }
     match place_of(rt, name) {
         Ok(place) => Ok(WholeFile { place }),
         Err(error) => Err(write_fault(error.kind())),
@@ -192,26 +239,20 @@ pub fn begin_whole<'r, R: Files + Print + AllocGlobal>(
 }
 
 /// Ends a file. If all was written to it, it is forced onto the disk and takes its name, and the folder is forced onto
-/// the disk after that. Else what was written is removed, but for a device, a pipe and standard output.
+/// the disk after that. Else what was written is removed, but for a device, a pipe and standard output. The name isn't
+/// taken if it has meanwhile become that of another file or of a link.
 ///
 /// # Errors
 ///
-/// `Unwritten` if not all was written, or the file doesn't take its name. A file that was there is then as it was.
+/// `Unwritten` if not all was written, or the file doesn't take its name. What has the name is then as it was.
 pub fn end_whole<R: Files, O: Drop>(
     rt: &R,
     file: WholeFile<R::File, O>,
     is_whole: bool,
 ) -> Result<(), WriteFault> {
-    let WholeFile { place } = file;
-    match place {
-        Place::Part(part) => end_part(rt, part, is_whole),
-        Place::Device(_) | Place::Output(_) => {
-            if is_whole {
-                Ok(())
-            } else {
-                Err(WriteFault::Unwritten)
-            }
-        }
+    match end_place(rt, file.place, is_whole) {
+        Ok(()) => Ok(()),
+        Err(error) => Err(write_fault(error.kind())),
     }
 }
 
@@ -228,6 +269,50 @@ pub fn put_whole<R: Files + Print + AllocGlobal>(
     let mut writer = ToWriter::new(begin_whole(rt, name)?);
     let written = put_all(&mut writer, text);
     end_whole(rt, writer.into_inner(), written.is_ok())
+}
+
+/// Whether what is written to a place goes to the file that was read.
+fn is_read<F: OpenFile, O>(place: &Place<F, O>, read: &Metadata) -> bool {
+    match place {
+        Place::Part(part) => match &part.old {
+            Some(old) => are_same(old, read),
+            None => false,
+        },
+        Place::Device(device) => match device.metadata() {
+            Ok(metadata) => are_same(&metadata, read),
+            Err(_) => false,
+        },
+        Place::Output(_) => true,
+    }
+}
+
+/// Writes a text, as `put_whole` does, to the file of this name, which has been read: by what the system says of it,
+/// that file and no other gets the text.
+///
+/// # Errors
+///
+/// `Exists` if the name doesn't lead to that file any more: another file has it, a link, or nothing; else as those of
+/// `put_whole`.
+pub fn put_back<R: Files + Print + AllocGlobal>(
+    rt: &R,
+    name: &str,
+    read: &Metadata,
+    text: &[u8],
+) -> Result<(), NewFault> {
+    let place = match place_of(rt, name) {
+        Ok(place) => place,
+        Err(error) => return Err(new_fault(error.kind())),
+    };
+    if !is_read(&place, read) {
+        let _ = end_place(rt, place, false);
+        return Err(NewFault::Exists);
+    }
+    let mut writer = ToWriter::new(WholeFile { place });
+    let written = put_all(&mut writer, text);
+    match end_place(rt, writer.into_inner().place, written.is_ok()) {
+        Ok(()) => Ok(()),
+        Err(error) => Err(new_fault(error.kind())),
+    }
 }
 
 /// Looks whether `put_whole` can be expected to write the file of this name, which is there. A file next to it is made

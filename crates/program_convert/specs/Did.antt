@@ -1,6 +1,8 @@
 -- What a call that lists a reel, or makes a deck of it, has written and reported, once the file is read (own).
-use Rattle.std.specs.Prelude.{◌≡◌, ◌⊎◌, ⊤, Bool, IsTrue, ℕ, List, Option, Result, Ok, Err, IsOk}
+use Rattle.std.specs.Prelude.{◌≡◌, ◌⊎◌, ⊤, Bool, IsTrue, ℕ, List, Option, Result, Ok, Err, IsOk, map, string_bytes}
 use Rattle.std.specs.Io.KnownBytes.{Appends}
+use Rattle.bcd_1401.specs.Graphics.{chain_of, theirs_of}
+use Rattle.bcd_1401.specs.declared.graphics.Graphics.{Graphics}
 use Rattle.bytes_streams.specs.Sink.{AppendsPart}
 use Rattle.machine_tapes.specs.TapReading.{records_read}
 use Rattle.program_call.specs.declared.call.Parity.{Parity}
@@ -45,11 +47,13 @@ abbrev pub ReelListed : Parity → List ℕ → Option (List ℕ) → Option (Li
 ReelListed parity text old new failed outcome =
     NotListed text old new outcome ⊎ WroteListing parity text old new failed outcome
 
--- the deck is that of the reel whose text this is
-pub record IsDeckOf (parity : Parity) (text deck : List ℕ) : Type 0 where
+-- the deck is that of the reel whose text this is, in the graphics of the chain that is asked for
+pub record IsDeckOf (asked : Option Graphics) (parity : Parity) (text deck : List ℕ) : Type 0 where
   pub records : List (List ℕ)
+  pub ours : List ℕ
   pub read : records_read text ≡ Ok records
-  pub deck_is : reel_deck_text parity records ≡ Ok deck
+  pub ours_is : reel_deck_text parity records ≡ Ok ours
+  pub deck_is : deck ≡ map (theirs_of (chain_of asked)) ours
 
 -- the record of this number is the first that is longer than a card
 pub record HasLongRecord (parity : Parity) (text : List ℕ) (number : ℕ) : Type 0 where
@@ -78,3 +82,14 @@ IsWhyNoDeck parity text fault.Memory = IsOk (records_read text)
 IsWhyNoDeck parity text fault.Output = ⊥
 IsWhyNoDeck parity text (fault.Unwritten name) = ⊥
 IsWhyNoDeck parity text (fault.OneFile first second) = ⊥
+
+-- the fault of two names that lead to one file
+abbrev pub IsOneFileFault : List ℕ → List ℕ → ReelFault → Type 0
+IsOneFileFault first second (fault.File name why) = ⊥
+IsOneFileFault first second (fault.Reel why) = ⊥
+IsOneFileFault first second (fault.Record number) = ⊥
+IsOneFileFault first second fault.Full = ⊥
+IsOneFileFault first second fault.Memory = ⊤
+IsOneFileFault first second fault.Output = ⊥
+IsOneFileFault first second (fault.Unwritten name) = ⊥
+IsOneFileFault first second (fault.OneFile one other) = (string_bytes one ≡ first) × (string_bytes other ≡ second)

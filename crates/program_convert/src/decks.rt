@@ -8,7 +8,7 @@ ghost use Rattle.program_convert.specs.Did.{IsDeckOf, IsWhyNoCards, IsWhyNoDeck}
 use crate::listing::reel_of;
 use crate::parity::read_as;
 use crate::reel_fault::ReelFault;
-use bcd_1401::Char;
+use bcd_1401::{Char, Graphics, in_theirs};
 use devices_1401::{CARD_COLUMNS, Card};
 use job_runner::put_cards;
 use machine_tapes::{TapeRecord, TapeRecords};
@@ -74,18 +74,26 @@ fn records_deck(
     Ok(text)
 }
 
-/// The text of the deck of the reel of a text, a `.tap` file: a card for each record but tape marks, with blanks after
-/// the characters of a shorter one.
+/// The text of the deck of the reel of a text, a `.tap` file, in the graphics of the chain that is asked for: a card for
+/// each record but tape marks, with blanks after the characters of a shorter one.
 ///
 /// # Errors
 ///
 /// `Reel` if the text is no reel's; `Record` for the first record that is longer than a card; or `Memory`.
-pub fn reel_deck(alloc: Global, text: &[u8], parity: Parity) -> Result<Vec<u8>, ReelFault>
-    ensures deck { IfOk result (λ deck. IsDeckOf parity text.now deck.items) }
+pub fn reel_deck(
+    alloc: Global,
+    text: &[u8],
+    asked: Option<Graphics>,
+    parity: Parity,
+) -> Result<Vec<u8>, ReelFault>
+    ensures deck { IfOk result (λ deck. IsDeckOf asked parity text.now deck.items) }
     ensures err { IfErr result (IsWhyNoDeck parity text.now) }
 {
     match reel_of(alloc, text) {
-        Ok(reel) => records_deck(alloc, &reel.ahead(), parity),
+        Ok(reel) => match records_deck(alloc, &reel.ahead(), parity) {
+            Ok(deck) => Ok(in_theirs(asked, deck)),
+            Err(fault) => Err(fault),
+        },
         Err(fault) => Err(fault),
     }
 }

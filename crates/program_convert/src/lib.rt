@@ -10,7 +10,7 @@
 //!
 //! ```text
 //! write_reel_listing(alloc, text, Parity::Odd, &mut writer)?  // 000001 00080 JONES, and so on
-//! reel_deck(alloc, text, Parity::Even)?                       // the text of a deck: a card for each record
+//! reel_deck(alloc, text, None, Parity::Even)?                 // the text of a deck: a card for each record
 //! ReelText::new(alloc, &cards, Parity::Even)?                 // the text of a reel: a record for each card,
 //!     .write(&mut writer)?                                    // made as it is written
 //! ```

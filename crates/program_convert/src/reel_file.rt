@@ -1,10 +1,12 @@
 //! The subcommand `reel`, from file to file.
+ghost use Rattle.std.specs.Prelude.{◌≡◌, false, Ok, IfErr, IsOk, OnOk};
+ghost use Rattle.program_convert.specs.Did.{IsOneFileFault};
 
 use crate::decks::reel_deck;
 use crate::listing::write_reel_listing;
 use crate::reel_fault::ReelFault;
 use crate::reels::ReelText;
-use bcd_1401::{Graphics, in_theirs};
+use bcd_1401::Graphics;
 use bytes_descriptors::{
     FileFault, WriteFault, begin_whole, end_whole, is_one_file, put_whole, read_whole_reel,
 };
@@ -22,20 +24,34 @@ use std::rt::Files;
 /// `File`, with the name as it was given; else `Memory`.
 fn read_reel_file(rt: &(impl Files + AllocGlobal), name: String) -> Result<Vec<u8>, ReelFault> {
     match read_whole_reel(rt, name.as_str()) {
-        Ok(bytes) => Ok(bytes),
+        Ok(read) => Ok(read.bytes),
         Err(FileFault::Memory) => Err(ReelFault::Memory),
         Err(fault) => Err(ReelFault::File(name, fault)),
     }
 }
 
-/// The fault of two names that lead to one file.
-fn one_file(alloc: Global, first: &str, second: &str) -> ReelFault {
+/// What two names are refused for, if it is found that they lead to one file.
+fn unless_one(
+    alloc: Global,
+    first: &str,
+    second: &str,
+    found: Result<bool, WriteFault>,
+) -> Result<(), ReelFault>
+    ensures two { found ≡ Ok false → IsOk result }
+    ensures one { OnOk result (found ≡ Ok false) }
+    ensures names { IfErr result (IsOneFileFault first.now second.now) }
+{
+    match found {
+        Ok(false) => return Ok(()),
+        Ok(true) => {}
+        Err(_) => return Err(ReelFault::Memory),
+    }
     match (
         String::from_str(alloc, first),
         String::from_str(alloc, second),
     ) {
-        (Ok(first), Ok(second)) => ReelFault::OneFile(first, second),
-        _ => ReelFault::Memory,
+        (Ok(first), Ok(second)) => Err(ReelFault::OneFile(first, second)),
+        _ => Err(ReelFault::Memory),
     }
 }
 
@@ -45,11 +61,7 @@ fn one_file(alloc: Global, first: &str, second: &str) -> ReelFault {
 ///
 /// `OneFile` if they lead to one file, or `Memory`.
 pub fn check_names<R: Files + AllocGlobal>(rt: &R, file: &str, out: &str) -> Result<(), ReelFault> {
-    match is_one_file(rt, file, out) {
-        Ok(false) => Ok(()),
-        Ok(true) => Err(one_file(rt.alloc(), file, out)),
-        Err(_) => Err(ReelFault::Memory),
-    }
+    unless_one(rt.alloc(), file, out, is_one_file(rt, file, out))
 }
 
 /// What a file of this name that isn't written is reported as.
@@ -57,35 +69,6 @@ fn unwritten(name: String, fault: WriteFault) -> ReelFault {
     match fault {
         WriteFault::Memory => ReelFault::Memory,
         WriteFault::Unwritten => ReelFault::Unwritten(name),
-    }
-}
-
-/// Writes a text to the file of this name, whole or not at all; or to standard output, if the name is its.
-fn put_file(
-    rt: &(impl Files + Print + AllocGlobal),
-    name: String,
-    text: &[u8],
-) -> Result<(), ReelFault> {
-    match put_whole(rt, name.as_str(), text) {
-        Ok(()) => Ok(()),
-        Err(fault) => Err(unwritten(name, fault)),
-    }
-}
-
-/// Writes the text of a reel as it is made, to the file of this name, whole or not at all; or to standard output, if the
-/// name is its.
-fn put_reel_file(
-    rt: &(impl Files + Print + AllocGlobal),
-    name: &str,
-    text: ReelText<'_>,
-) -> Result<(), WriteFault> {
-    match begin_whole(rt, name) {
-        Ok(file) => {
-            let mut writer = ToWriter::new(file);
-            let written = text.write(&mut writer);
-            end_whole(rt, writer.into_inner(), written.is_ok())
-        }
-        Err(fault) => Err(fault),
     }
 }
 
@@ -126,23 +109,14 @@ pub fn write_reel_deck<R: Files + Print + AllocGlobal>(
         Ok(()) => {}
         Err(fault) => return Err(fault),
     }
-    match deck_of_file(rt, file, asked, parity) {
-        Ok(deck) => put_file(rt, out, deck.as_slice()),
-        Err(fault) => Err(fault),
-    }
-}
-
-/// The deck of the reel of a file, in the graphics of the chain that is asked for.
-fn deck_of_file<R: Files + AllocGlobal>(
-    rt: &R,
-    file: String,
-    asked: Option<Graphics>,
-    parity: Parity,
-) -> Result<Vec<u8>, ReelFault> {
-    match read_reel_file(rt, file) {
-        Ok(text) => match reel_deck(rt.alloc(), text.as_slice(), parity) {
-            Ok(deck) => Ok(in_theirs(asked, deck)),
-            Err(fault) => Err(fault),
+    let text = match read_reel_file(rt, file) {
+        Ok(text) => text,
+        Err(fault) => return Err(fault),
+    };
+    match reel_deck(rt.alloc(), text.as_slice(), asked, parity) {
+        Ok(deck) => match put_whole(rt, out.as_str(), deck.as_slice()) {
+            Ok(()) => Ok(()),
+            Err(fault) => Err(unwritten(out, fault)),
         },
         Err(fault) => Err(fault),
     }
@@ -160,10 +134,19 @@ pub fn write_reel<R: Files + Print + AllocGlobal>(
     parity: Parity,
 ) -> Result<(), ReelFault> {
     match ReelText::new(rt.alloc(), cards, parity) {
-        Ok(text) => match put_reel_file(rt, out.as_str(), text) {
-            Ok(()) => Ok(()),
-            Err(fault) => Err(unwritten(out, fault)),
-        },
+        Ok(text) => {
+            let file = match begin_whole(rt, out.as_str()) {
+                Ok(file) => file,
+                Err(fault) => return Err(unwritten(out, fault)),
+            };
+            // The text is written as it is made.
+            let mut writer = ToWriter::new(file);
+            let written = text.write(&mut writer);
+            match end_whole(rt, writer.into_inner(), written.is_ok()) {
+                Ok(()) => Ok(()),
+                Err(fault) => Err(unwritten(out, fault)),
+            }
+        }
         Err(fault) => Err(fault),
     }
 }

@@ -12,12 +12,14 @@ use Rattle.machine_tapes.specs.declared.taped_machine.TapedMachine.{TapedMachine
 use Rattle.program_call.specs.declared.call.Job.{Job}
 use Rattle.program_run.specs.Run.{job_outcome, outcome_after}
 use Rattle.program_run.specs.ReelPlaces.{places_of}
+use Rattle.program_run.specs.WhyStopped.{IsWhyStopped}
 use Rattle.program_run.specs.RunDeck.{IsAtEndOf, started_job}
 use Rattle.program_run.specs.RunEnd.{EndsAs, EndsWith, IfStopped, IsBegunFor, IsHalt, IsReadFor, Ran}
 use Rattle.program_run.specs.RunFile.{IsFaultOf, written_of}
 use Rattle.program_run.specs.RunJob.{HasHalted, IsBegun, ReportsJob, begun_with, report_on}
+use Rattle.program_run.specs.GivenReels.{GivenReel}
 use Rattle.program_run.specs.RunReels.{AreMounted, IsUnwrittenReel}
-use Rattle.program_run.specs.WrittenReels.{HandsOver, ReelFile, files_of}
+use Rattle.program_run.specs.WrittenReels.{HandsOver, KnownFiles, files_of}
 use Rattle.program_run.specs.declared.ending.Ending.{Ending}
 use Rattle.program_run.specs.declared.fault.RunFault.{RunFault}
 use Rattle.program_run.specs.declared.fault.RunFault.TheVariants as fault
@@ -27,21 +29,21 @@ use Rattle.program_run.proofs.FaultLemmas.{no_stop, unwritten_reel_untold}
 use Rattle.program_run.proofs.ReelLemmas.{unwritten_of_run}
 
 -- what was read for a job
-pub read_for : (job : Job) (it : Begun) (machine : State) (cards : List Card) (tapes : Tapes)
+pub read_for : (job : Job) (before after : Option (List GivenReel)) (it : Begun) (machine : State) (cards : List Card) (tapes : Tapes)
     → it.taped.machine ≡ machine → it.taped.tapes ≡ tapes → it.cards ≡ cards
     → IsBegun job.start job.language job.size (option_map string_bytes job.cards) machine cards
-    → AreMounted job.reels.items no_tapes tapes → IsReadFor job it
-read_for job it machine cards tapes machine_is tapes_are cards_are begun reels = record {
+    → AreMounted job.reels.items before after no_tapes tapes → IsReadFor job before after it
+read_for job before after it machine cards tapes machine_is tapes_are cards_are begun reels = record {
   begun =
       subst (λ (s : State). IsBegun job.start job.language job.size (option_map string_bytes job.cards) s it.cards)
       (sym machine_is)
       (subst (λ (each : List Card). IsBegun job.start job.language job.size (option_map string_bytes job.cards) machine each)
       (sym cards_are) begun);
-  reels = subst (λ (each : Tapes). AreMounted job.reels.items no_tapes each) (sym tapes_are) reels;
+  reels = subst (λ (each : Tapes). AreMounted job.reels.items before after no_tapes each) (sym tapes_are) reels;
 }
 
 -- what is reported of a job that has ended
-outcome_ran : (job : Job) (old new : Option (List ReelFile)) (ending : Ending) → EndsAs job ending old new
+outcome_ran : (job : Job) (old new : KnownFiles) (ending : Ending) → EndsAs job ending old new
     → Ran job old new (job_outcome ending)
 outcome_ran job old new ending is = by ending.report.stop refl
   where
@@ -62,7 +64,7 @@ outcome_ran job old new ending is = by ending.report.stop refl
     by stop.Tape e = (inr (inr (inr (λ h. cc))), is)
 
 -- and of one whose reels may not all be written
-pub ended_ran : (job : Job) (old new : Option (List ReelFile)) (ending : Ending) (written result : Result ⊤ RunFault)
+pub ended_ran : (job : Job) (old new : KnownFiles) (ending : Ending) (written result : Result ⊤ RunFault)
     → OnOk written (result ≡ job_outcome ending) → IfErr written (λ (why : RunFault). result ≡ Err why)
     → OnOk written (EndsAs job ending old new) → IfErr written (IsUnwrittenReel job.reels.items)
     → Ran job old new result
@@ -75,32 +77,41 @@ ended_ran job old new ending (Err why) result whole err is unwritten =
     )
 
 -- the job has come to its end, with each reel that is written
-pub ends_if_whole : (job : Job) (it : Begun) (ending : Ending) (report : JobReport) (old new : Option (List ReelFile))
-    (after : TapedMachine) (written : Result ⊤ RunFault) → IsBegunFor job it
+pub ends_if_whole : (job : Job) (it : Begun) (ending : Ending) (report : JobReport) (old new : KnownFiles)
+    (after : TapedMachine) (written : Result ⊤ RunFault) → IsBegunFor job old.given new.given it
     → report ≡ report_on job.start job.limit (taped_with_deck it.cards it.taped)
     → IsAtEndOf (started_job job.start job.limit (taped_with_deck it.cards it.taped)) after
     → ending.report ≡ report → ending.reels ≡ places_of after.tapes
-    → OnOk written (HandsOver old new (files_of after.tapes job.reels.items)) → OnOk written (EndsAs job ending old new)
-ends_if_whole job it ending report old new after (Ok done) is report_is end same places files = record {
+    → IsWhyStopped job.start after report.stop ending.reason
+    → OnOk written (HandsOver old.handed new.handed (files_of after.tapes job.reels.items)) → OnOk written (EndsAs job ending old new)
+ends_if_whole job it ending report old new after (Ok done) is report_is end same places so files = record {
   machine = is.machine;
   cards = it.cards;
   tapes = it.taped.tapes;
   begun = is.begun;
   reels = is.reels;
   ended =
-      subst (λ (s : State). EndsWith job.start job.limit (begun_with s it.taped.tapes it.cards) job.reels.items ending old new)
+      subst (λ (s : State). EndsWith job.start job.limit (begun_with s it.taped.tapes it.cards) job.reels.items ending old.handed new.handed)
       is.machine_is
-      (record { after = after; end = end; report_is = same ∙ report_is; places_are = places; files = files });
+      (record {
+        after = after;
+        end = end;
+        report_is = same ∙ report_is;
+        places_are = places;
+        reason_is =
+            subst (λ (each : JobReport). IsWhyStopped job.start after each.stop ending.reason) (sym same) so;
+        files = files;
+      });
 }
-ends_if_whole job it ending report old new after (Err why) is report_is end same places files = tt
+ends_if_whole job it ending report old new after (Err why) is report_is end same places so files = tt
 
 -- so the clauses of a run are known
-pub halts : (job : Job) (old new : Option (List ReelFile)) (result : Result ⊤ RunFault) → Ran job old new result
+pub halts : (job : Job) (old new : KnownFiles) (result : Result ⊤ RunFault) → Ran job old new result
     → OnOk result (IsHalt (λ ending. EndsAs job ending old new))
 halts job old new (Ok done) ran = ran
 halts job old new (Err why) ran = tt
 
-pub has_halted : (job : Job) (old new : Option (List ReelFile)) (result : Result ⊤ RunFault) → Ran job old new result
+pub has_halted : (job : Job) (old new : KnownFiles) (result : Result ⊤ RunFault) → Ran job old new result
     → OnOk result (HasHalted job)
 has_halted job old new (Ok done) ran = (
   ran.ending.report,
@@ -108,6 +119,8 @@ has_halted job old new (Ok done) ran = (
     machine = ran.is.machine;
     cards = ran.is.cards;
     tapes = ran.is.tapes;
+    before = old.given;
+    after = new.given;
     begun = ran.is.begun;
     reels = ran.is.reels;
     report_is = ran.is.ended.report_is;
@@ -116,17 +129,17 @@ has_halted job old new (Ok done) ran = (
 )
 has_halted job old new (Err why) ran = tt
 
-pub fails : (job : Job) (old new : Option (List ReelFile)) (result : Result ⊤ RunFault) → Ran job old new result
+pub fails : (job : Job) (old new : KnownFiles) (result : Result ⊤ RunFault) → Ran job old new result
     → IfErr result (IsFaultOf job)
 fails job old new (Ok done) ran = tt
 fails job old new (Err why) ran = ran.0
 
-pub tells : (job : Job) (old new : Option (List ReelFile)) (result : Result ⊤ RunFault) → Ran job old new result
+pub tells : (job : Job) (old new : KnownFiles) (result : Result ⊤ RunFault) → Ran job old new result
     → IfErr result (IfStopped (λ ending. EndsAs job ending old new))
 tells job old new (Ok done) ran = tt
 tells job old new (Err why) ran = ran.1
 
-told_reports : (job : Job) (old new : Option (List ReelFile)) (why : RunFault)
+told_reports : (job : Job) (old new : KnownFiles) (why : RunFault)
     → IfStopped (λ ending. EndsAs job ending old new) why → ReportsJob job why
 told_reports job old new fault.Output is = tt
 told_reports job old new fault.Size is = tt
@@ -140,6 +153,8 @@ told_reports job old new (fault.Stopped ending) is =
       machine = is.machine;
       cards = is.cards;
       tapes = is.tapes;
+      before = old.given;
+      after = new.given;
       begun = is.begun;
       reels = is.reels;
       report_is = is.ended.report_is;
@@ -148,9 +163,10 @@ told_reports job old new (fault.Source why) is = tt
 told_reports job old new (fault.Image why) is = tt
 told_reports job old new (fault.Reel name why) is = tt
 told_reports job old new (fault.Exists name) is = tt
+told_reports job old new (fault.Replaced name beside) is = tt
 told_reports job old new fault.Memory is = tt
 
-pub reports : (job : Job) (old new : Option (List ReelFile)) (result : Result ⊤ RunFault) → Ran job old new result
+pub reports : (job : Job) (old new : KnownFiles) (result : Result ⊤ RunFault) → Ran job old new result
     → IfErr result (ReportsJob job)
 reports job old new (Ok done) ran = tt
 reports job old new (Err why) ran = told_reports job old new why ran.1

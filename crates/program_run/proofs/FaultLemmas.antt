@@ -11,9 +11,9 @@ use Rattle.program_call.specs.declared.call.Start.TheVariants as start
 use Rattle.program_run.specs.OneFile.{IsClashOf}
 use Rattle.program_run.specs.RunEnd.{IfStopped, IsNoStopOf, Ran}
 use Rattle.program_run.specs.RunFile.{IsUnloaded, IsUnread, IsUnwrittenFile, IsWrittenName, inputs_of, written_of}
-use Rattle.program_run.specs.RunReels.{IsNotPut, IsOfReelFile, IsThere, IsUnmadeOf, IsUnmounted, IsUnmountedOf}
+use Rattle.program_run.specs.RunReels.{IsNotPut, IsOfReelFile, IsReplaced, IsThere, IsUnmadeOf, IsUnmounted, IsUnmountedOf}
 use Rattle.program_run.specs.RunReels.{IsUnwrittenOf, IsUnwrittenReel, IsWrittenReel, IsWrittenTo}
-use Rattle.program_run.specs.WrittenReels.{ReelFile}
+use Rattle.program_run.specs.WrittenReels.{KnownFiles}
 use Rattle.program_run.specs.declared.ending.Ending.{Ending}
 use Rattle.program_run.specs.declared.fault.RunFault.{RunFault}
 use Rattle.program_run.specs.declared.fault.RunFault.TheVariants as fault
@@ -43,6 +43,7 @@ unread_untold job (fault.Source why) is = tt
 unread_untold job (fault.Image why) is = tt
 unread_untold job (fault.Reel name why) is = tt
 unread_untold job (fault.Exists name) is = tt
+unread_untold job (fault.Replaced name beside) is = tt
 unread_untold job fault.Memory is = tt
 
 pub unread_of : (job : Job) (why : RunFault) → IsUnread job.start job.size (inputs_of job) why → IsNoStopOf job why
@@ -112,6 +113,9 @@ not_put_untold : (file : List ℕ) (why : RunFault) → IsNotPut file why → If
 not_put_untold file why (inl e) = subst (IfStopped (λ _. ⊥)) (sym e) tt
 not_put_untold file why (inr is) = subst (IfStopped (λ _. ⊥)) (sym is.1) tt
 
+replaced_untold : (file : List ℕ) (why : RunFault) → IsReplaced file why → IfStopped (λ _. ⊥) why
+replaced_untold file why is = subst (IfStopped (λ _. ⊥)) (sym is.1.1) tt
+
 unmounted_of_untold : (from : ReelSource) (why : RunFault) → IsUnmountedOf from why → IfStopped (λ _. ⊥) why
 unmounted_of_untold (source.File name) why is = of_file_untold (string_bytes name) why is
 unmounted_of_untold (source.Ringed name) why is = of_file_untold (string_bytes name) why is
@@ -129,7 +133,8 @@ unmounted_of job why is = (inr (inl is), unmounted_untold job.reels.items why is
 -- or not written
 unwritten_of_untold : (from : ReelSource) (why : RunFault) → IsUnwrittenOf from why → IfStopped (λ _. ⊥) why
 unwritten_of_untold (source.File name) why is = absurd is
-unwritten_of_untold (source.Ringed name) why is = not_put_untold (string_bytes name) why is
+unwritten_of_untold (source.Ringed name) why (inl is) = not_put_untold (string_bytes name) why is
+unwritten_of_untold (source.Ringed name) why (inr is) = replaced_untold (string_bytes name) why is
 unwritten_of_untold (source.New name) why (inl is) = not_put_untold (string_bytes name) why is
 unwritten_of_untold (source.New name) why (inr is) = there_untold (string_bytes name) why is
 unwritten_of_untold source.Scratch why is = absurd is
@@ -154,8 +159,9 @@ no_stop Is (fault.Source why) is = tt
 no_stop Is (fault.Image why) is = tt
 no_stop Is (fault.Reel name why) is = tt
 no_stop Is (fault.Exists name) is = tt
+no_stop Is (fault.Replaced name beside) is = tt
 no_stop Is fault.Memory is = tt
 
-pub no_stop_ran : (job : Job) (old new : Option (List ReelFile)) (why : RunFault) → IsNoStopOf job why
+pub no_stop_ran : (job : Job) (old new : KnownFiles) (why : RunFault) → IsNoStopOf job why
     → Ran job old new (Err why)
 no_stop_ran job old new why is = (is.0, no_stop _ why is.1)

@@ -4,8 +4,8 @@ use Rattle.program_call.specs.declared.call.MountedReel.{MountedReel}
 use Rattle.program_call.specs.declared.call.ReelSource.{ReelSource}
 use Rattle.program_call.specs.declared.call.ReelSource.TheVariants as source
 use Rattle.program_run.specs.RunFile.{IsOfRun, IsUnreadFile, WrittenNames}
-use Rattle.program_run.specs.RunReels.{IsNewFile, IsNewReel, IsNotPut, IsOfReelFile, IsThere, IsUnmounted}
-use Rattle.program_run.specs.RunReels.{IsUnwrittenOf, IsUnwrittenReel, IsWrittenReel, IsWrittenTo}
+use Rattle.program_run.specs.RunReels.{IsNewFile, IsNewReel, IsNotPut, IsOfReelFile, IsReplaced, IsRingedFile, IsRingedReel, IsThere}
+use Rattle.program_run.specs.RunReels.{IsUnmounted, IsUnwrittenOf, IsUnwrittenReel, IsWrittenReel, IsWrittenTo}
 use Rattle.program_run.specs.declared.fault.RunFault.{RunFault}
 use Rattle.program_run.specs.declared.fault.RunFault.TheVariants as fault
 
@@ -23,6 +23,7 @@ unread_reel file (fault.Source why) is = absurd is
 unread_reel file (fault.Image why) is = absurd is
 unread_reel file (fault.Reel name why) is = absurd is
 unread_reel file (fault.Exists name) is = absurd is
+unread_reel file (fault.Replaced name beside) is = absurd is
 unread_reel file fault.Memory is = inl refl
 
 -- memory may be refused for any reels
@@ -45,28 +46,40 @@ there_of_run names file why there (inr is) =
     subst (λ (each : RunFault). IsOfRun names each) (sym is.1)
     (subst (λ (name : List ℕ). IsNewReel names.reels name) (sym is.2) there)
 
+replaced_of_run : (names : WrittenNames) (file : List ℕ) (why : RunFault) → IsRingedReel names.reels file
+    → IsReplaced file why → IsOfRun names why
+replaced_of_run names file why there is =
+    subst (λ (each : RunFault). IsOfRun names each) (sym is.1.1)
+    (subst (λ (name : List ℕ). IsRingedReel names.reels name) (sym is.1.2) there)
+
 unwritten_of_run_of : (names : WrittenNames) (from : ReelSource) (why : RunFault)
     → ((file : List ℕ) → IsWrittenTo from file → IsWrittenReel names.reels file)
     → ((file : List ℕ) → IsNewFile from file → IsNewReel names.reels file)
+    → ((file : List ℕ) → IsRingedFile from file → IsRingedReel names.reels file)
     → IsUnwrittenOf from why → IsOfRun names why
-unwritten_of_run_of names (source.File name) why written new is = absurd is
-unwritten_of_run_of names (source.Ringed name) why written new is =
+unwritten_of_run_of names (source.File name) why written new ringed is = absurd is
+unwritten_of_run_of names (source.Ringed name) why written new ringed (inl is) =
     not_put_of_run names (string_bytes name) why (written (string_bytes name) refl) is
-unwritten_of_run_of names (source.New name) why written new (inl is) =
+unwritten_of_run_of names (source.Ringed name) why written new ringed (inr is) =
+    replaced_of_run names (string_bytes name) why (ringed (string_bytes name) refl) is
+unwritten_of_run_of names (source.New name) why written new ringed (inl is) =
     not_put_of_run names (string_bytes name) why (written (string_bytes name) refl) is
-unwritten_of_run_of names (source.New name) why written new (inr is) =
+unwritten_of_run_of names (source.New name) why written new ringed (inr is) =
     there_of_run names (string_bytes name) why (new (string_bytes name) refl) is
-unwritten_of_run_of names source.Scratch why written new is = absurd is
+unwritten_of_run_of names source.Scratch why written new ringed is = absurd is
 
 unwritten_among : (names : WrittenNames) (reels : List MountedReel) (why : RunFault)
     → ((file : List ℕ) → IsWrittenReel reels file → IsWrittenReel names.reels file)
     → ((file : List ℕ) → IsNewReel reels file → IsNewReel names.reels file)
+    → ((file : List ℕ) → IsRingedReel reels file → IsRingedReel names.reels file)
     → IsUnwrittenReel reels why → IsOfRun names why
-unwritten_among names [] why written new is = absurd is
-unwritten_among names (first ∷ reels) why written new (inl is) =
-    unwritten_of_run_of names first.reel why (λ file each. written file (inl each)) (λ file each. new file (inl each)) is
-unwritten_among names (first ∷ reels) why written new (inr is) =
-    unwritten_among names reels why (λ file each. written file (inr each)) (λ file each. new file (inr each)) is
+unwritten_among names [] why written new ringed is = absurd is
+unwritten_among names (first ∷ reels) why written new ringed (inl is) =
+    unwritten_of_run_of names first.reel why (λ file each. written file (inl each)) (λ file each. new file (inl each))
+    (λ file each. ringed file (inl each)) is
+unwritten_among names (first ∷ reels) why written new ringed (inr is) =
+    unwritten_among names reels why (λ file each. written file (inr each)) (λ file each. new file (inr each))
+    (λ file each. ringed file (inr each)) is
 
 pub unwritten_of_run : (names : WrittenNames) (why : RunFault) → IsUnwrittenReel names.reels why → IsOfRun names why
-unwritten_of_run names why is = unwritten_among names names.reels why (λ file each. each) (λ file each. each) is
+unwritten_of_run names why is = unwritten_among names names.reels why (λ file each. each) (λ file each. each) (λ file each. each) is

@@ -7,7 +7,9 @@ pub mod RunFile
 pub mod RunJob
 pub mod OneFile
 pub mod RunStart
+pub mod GivenReels
 pub mod RunReels
 pub mod WrittenReels
 pub mod ReelPlaces
+pub mod WhyStopped
 pub mod RunEnd

@@ -8,7 +8,7 @@ use Rattle.program_call.specs.declared.call.Start.{Start}
 use Rattle.program_call.specs.declared.call.Start.TheVariants as start
 use Rattle.program_call.specs.declared.call.MountedReel.{MountedReel}
 use Rattle.program_call.specs.Sizes.{is_refused}
-use Rattle.program_run.specs.RunReels.{IsNewReel, IsNotPut, IsReadReel, IsUnmounted, IsWrittenReel}
+use Rattle.program_run.specs.RunReels.{IsNewReel, IsNotPut, IsReadReel, IsRingedReel, IsUnmounted, IsWrittenReel}
 use Rattle.program_run.specs.declared.fault.RunFault.{RunFault}
 use Rattle.program_run.specs.declared.fault.RunFault.TheVariants as fault
 
@@ -26,6 +26,7 @@ IsUnreadFile file (fault.Source why) = ⊥
 IsUnreadFile file (fault.Image why) = ⊥
 IsUnreadFile file (fault.Reel name why) = ⊥
 IsUnreadFile file (fault.Exists name) = ⊥
+IsUnreadFile file (fault.Replaced name beside) = ⊥
 IsUnreadFile file fault.Memory = ⊤
 
 -- a file of this name that can't be read, or is no deck
@@ -42,6 +43,7 @@ IsOfFile file (fault.Source why) = ⊥
 IsOfFile file (fault.Image why) = ⊥
 IsOfFile file (fault.Reel name why) = ⊥
 IsOfFile file (fault.Exists name) = ⊥
+IsOfFile file (fault.Replaced name beside) = ⊥
 IsOfFile file fault.Memory = ⊤
 
 -- the names of the files that a run reads: its program, and its deck if it has one
@@ -74,6 +76,7 @@ IsUnread how size names (fault.Source why) = how ≡ start.Entry
 IsUnread how size names (fault.Image why) = how ≡ start.Entry
 IsUnread how size names (fault.Reel name why) = ⊥
 IsUnread how size names (fault.Exists name) = ⊥
+IsUnread how size names (fault.Replaced name beside) = ⊥
 IsUnread how size names fault.Memory = ⊤
 
 -- the names of the files that a run writes, each if there is one; and its reels, of which some are read and written
@@ -104,7 +107,8 @@ IsUnwrittenFile file why = (name : List ℕ) × (file ≡ Some name) × IsNotPut
 abbrev pub IsUnloaded : RunFault → Type 0
 IsUnloaded why = (why ≡ fault.Memory) ⊎ ((cause : LoadFault) × (why ≡ fault.Unloaded cause))
 
--- how a run fails that has begun: what isn't written, a new reel whose file is there, or a stop that is no halt
+-- how a run fails that has begun: what isn't written, a new reel whose file is there, a reel whose file has become
+-- another, or a stop that is no halt
 abbrev pub IsOfRun : WrittenNames → RunFault → Type 0
 IsOfRun names fault.Output = ⊤
 IsOfRun names fault.Size = ⊥
@@ -118,6 +122,7 @@ IsOfRun names (fault.Source why) = ⊥
 IsOfRun names (fault.Image why) = ⊥
 IsOfRun names (fault.Reel name why) = ⊥
 IsOfRun names (fault.Exists name) = IsNewReel names.reels (string_bytes name)
+IsOfRun names (fault.Replaced name beside) = IsRingedReel names.reels (string_bytes name)
 IsOfRun names fault.Memory = ⊤
 
 -- the names of the files that a job reads, and of those that it writes
@@ -147,6 +152,7 @@ IsOneFile inputs outputs (fault.Source why) = ⊥
 IsOneFile inputs outputs (fault.Image why) = ⊥
 IsOneFile inputs outputs (fault.Reel name why) = ⊥
 IsOneFile inputs outputs (fault.Exists name) = ⊥
+IsOneFile inputs outputs (fault.Replaced name beside) = ⊥
 IsOneFile inputs outputs fault.Memory = ⊤
 
 -- what a run of files fails by

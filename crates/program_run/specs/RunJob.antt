@@ -24,6 +24,7 @@ use Rattle.machine_tables.specs.declared.stop.Stop.TheVariants as stop
 use Rattle.autocoder_statements.specs.declared.language.Language.{Language}
 use Rattle.program_run.specs.Program.{is_meant_as_image, with_image}
 use Rattle.program_run.specs.RunDeck.{report_of, started_job}
+use Rattle.program_run.specs.GivenReels.{GivenReel}
 use Rattle.program_run.specs.RunReels.{AreMounted}
 use Rattle.program_run.specs.declared.fault.RunFault.{RunFault}
 use Rattle.program_run.specs.declared.fault.RunFault.TheVariants as fault
@@ -122,8 +123,10 @@ pub record IsReportOf (job : Job) (report : JobReport) : Type 0 where
   pub machine : State
   pub cards : List Card
   pub tapes : Tapes
+  pub before : Option (List GivenReel)
+  pub after : Option (List GivenReel)
   pub begun : IsBegun job.start job.language job.size (option_map string_bytes job.cards) machine cards
-  pub reels : AreMounted job.reels.items no_tapes tapes
+  pub reels : AreMounted job.reels.items before after no_tapes tapes
   pub report_is :
       report ≡ report_on job.start job.limit (begun_with (set_up job.features job.switches machine) tapes cards)
 
@@ -145,6 +148,7 @@ ReportsStop report (fault.Source why) = ⊤
 ReportsStop report (fault.Image why) = ⊤
 ReportsStop report (fault.Reel name why) = ⊤
 ReportsStop report (fault.Exists name) = ⊤
+ReportsStop report (fault.Replaced name beside) = ⊤
 ReportsStop report fault.Memory = ⊤
 
 -- a fault that reports a stop has the report of a job
@@ -161,4 +165,5 @@ ReportsJob job (fault.Source why) = ⊤
 ReportsJob job (fault.Image why) = ⊤
 ReportsJob job (fault.Reel name why) = ⊤
 ReportsJob job (fault.Exists name) = ⊤
+ReportsJob job (fault.Replaced name beside) = ⊤
 ReportsJob job fault.Memory = ⊤

@@ -9,6 +9,7 @@ use Rattle.machine_tapes.specs.Tapes.{Tapes, unit_of}
 use Rattle.program_call.specs.declared.call.MountedReel.{MountedReel}
 use Rattle.program_call.specs.declared.call.ReelSource.{ReelSource}
 use Rattle.program_call.specs.declared.call.ReelSource.TheVariants as source
+use Rattle.program_run.specs.GivenReels.{GivenReel}
 
 -- what is handed over for a file: its name, whether it is to be a new one, and its text; no text if memory for it is
 -- refused
@@ -19,6 +20,14 @@ pub record ReelFile : Type 0 where
 
 abbrev pub reel_file : List ℕ → Bool → Option (List ℕ) → ReelFile
 reel_file name is_new text = record { name = name; is_new = is_new; text = text }
+
+-- what is known of the files of reels: what was read, and what was handed over
+pub record KnownFiles : Type 0 where
+  pub given : Option (List GivenReel)
+  pub handed : Option (List ReelFile)
+
+abbrev pub known_files : Option (List GivenReel) → Option (List ReelFile) → KnownFiles
+known_files given handed = record { given = given; handed = handed }
 
 -- after what was handed over, if that is known, these files are
 abbrev pub HandsOver : Option (List ReelFile) → Option (List ReelFile) → List ReelFile → Type 0

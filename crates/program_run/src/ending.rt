@@ -2,12 +2,13 @@
 ghost use Rattle.std.specs.Prelude.{◌≡◌, IfSome, length};
 ghost use Rattle.job_steps.specs.Reason.{stop_named};
 ghost use Rattle.program_run.specs.ReelPlaces.{place_of, places_of};
+ghost use Rattle.program_run.specs.WhyStopped.{IsWhyStopped};
 
 use crate::job_report::JobReport;
 use crate::stopped_at::{RunSource, instruction_text};
 use bcd_1401::Cell;
 use core_1401::Core;
-use cpu_1401::{Machine, Stop};
+use cpu_1401::Stop;
 use job_steps::{Reason, halt_address, load_reason_told, taped_reason_told};
 use machine_tapes::{Drive, TapeRecords, TapedMachine, Tapes};
 use program_call::Start;
@@ -83,7 +84,8 @@ fn reel_places(tapes: &Tapes) -> [Option<ReelPlace>; 6]
 
 /// Why a machine that was started so has stopped: why its next step stops, or why its first record isn't loaded.
 fn why_stopped(taped: &TapedMachine, start: Start, stop: Stop) -> Option<Reason>
-    ensures { IfSome result (λ why. stop_named why ≡ stop) }
+    ensures stop { IfSome result (λ why. stop_named why ≡ stop) }
+    ensures so { IsWhyStopped start taped.now stop result }
 {
     match (taped_reason_told(taped, stop), start) {
         (Some(why), _) => Some(why),
@@ -101,35 +103,28 @@ fn cell_at(core: &Core, at: u16) -> Option<Cell> {
     }
 }
 
-/// Whether a branch on the last card begins at a place: `B`, an address and `A`.
-fn is_last_card_branch(core: &Core, at: u16) -> bool {
-    let (Some(operation), Some(d)) = (cell_at(core, at), cell_at(core, at.saturating_add(4))) else {
-        return false;
-    };
-    let is_ended = match cell_at(core, at.saturating_add(5)) {
-        Some(cell) => cell.mark,
-        None => true,
-    };
-    is_ended
-        && operation.mark
-        && operation.char.graphic() == b'B'
-        && !d.mark
-        && d.char.graphic() == b'A'
-}
-
-/// Whether core storage has a branch on the last card, which is never taken while sense switch A is off.
+/// Whether core storage has a branch on the last card, which is never taken while sense switch A is off: `B`, an address
+/// and `A`.
 fn tests_last_card(core: &Core) -> bool {
     for at in 0..core.size() {
-        if is_last_card_branch(core, at) {
+        let (Some(operation), Some(d)) = (cell_at(core, at), cell_at(core, at.saturating_add(4)))
+        else {
+            return false;
+        };
+        let is_ended = match cell_at(core, at.saturating_add(5)) {
+            Some(cell) => cell.mark,
+            None => true,
+        };
+        if is_ended
+            && operation.mark
+            && operation.char.graphic() == b'B'
+            && !d.mark
+            && d.char.graphic() == b'A'
+        {
             return true;
         }
     }
     false
-}
-
-/// Whether a job that ended so may want sense switch A.
-fn lacks_switch(report: JobReport, machine: &Machine) -> bool {
-    report.stop == Stop::Reader && !machine.regs().switches[0] && tests_last_card(machine.core())
 }
 
 impl Ending {
@@ -144,10 +139,18 @@ impl Ending {
     ) -> Ending
         ensures report { result.report ≡ report }
         ensures reason { IfSome result.reason (λ why. stop_named why ≡ report.stop) }
+        ensures so { IsWhyStopped start taped.now report.stop result.reason }
         ensures reels { result.reels ≡ places_of taped.now.tapes }
     {
         let machine = &taped.machine;
-        let at = stop_address(report, machine);
+        // The address of the instruction that halted or couldn't be carried out.
+        let at = match report.stop {
+            Stop::Halt => halt_address(machine),
+            Stop::Limit | Stop::Reader | Stop::Forms | Stop::Stacker => report.i,
+            Stop::NoMark | Stop::OpCode | Stop::Length => report.i,
+            Stop::Address | Stop::Overlap | Stop::Carriage => report.i,
+            Stop::NotFitted | Stop::DChar | Stop::Tape => report.i,
+        };
         let instruction = match instruction_text(alloc, machine, at, source) {
             Ok(text) => text,
             Err(_) => None,
@@ -157,20 +160,11 @@ impl Ending {
             at,
             instruction,
             reason: why_stopped(taped, start, report.stop),
-            lacks_switch: lacks_switch(report, machine),
+            lacks_switch: report.stop == Stop::Reader
+                && !machine.regs().switches[0]
+                && tests_last_card(machine.core()),
             reels: reel_places(&taped.tapes),
         }
-    }
-}
-
-/// The address of the instruction that halted or couldn't be carried out.
-fn stop_address(report: JobReport, machine: &Machine) -> u16 {
-    match report.stop {
-        Stop::Halt => halt_address(machine),
-        Stop::Limit | Stop::Reader | Stop::Forms | Stop::Stacker => report.i,
-        Stop::NoMark | Stop::OpCode | Stop::Length => report.i,
-        Stop::Address | Stop::Overlap | Stop::Carriage => report.i,
-        Stop::NotFitted | Stop::DChar | Stop::Tape => report.i,
     }
 }
 
@@ -205,21 +199,16 @@ fn put_reason<W: fmt::Write>(f: &mut fmt::Formatter<W>, ending: &Ending) -> fmt:
     Ok(())
 }
 
-/// How far each reel is.
-fn put_reels<W: fmt::Write>(f: &mut fmt::Formatter<W>, reels: &[Option<ReelPlace>]) -> fmt::Result {
-    for (n, reel) in reels.iter().enumerate() {
-        if let Some(ReelPlace { passed, records }) = *reel {
-            write!(f, ", tape {} at record {passed} of {records}", n + 1)?;
-        }
-    }
-    Ok(())
-}
-
 impl fmt::Display for Ending {
     fn fmt<W: fmt::Write>(&self, f: &mut fmt::Formatter<W>) -> fmt::Result {
         put_stop(f, self)?;
         put_reason(f, self)?;
         write!(f, " after {}", self.report)?;
-        put_reels(f, &self.reels)
+        for (n, reel) in self.reels.iter().enumerate() {
+            if let Some(ReelPlace { passed, records }) = *reel {
+                write!(f, ", tape {} at record {passed} of {records}", n + 1)?;
+            }
+        }
+        Ok(())
     }
 }

@@ -51,6 +51,10 @@ pub enum RunFault {
     /// There is a file of this name already, which a new reel would overwrite.
     #[error("{0}: already exists")]
     Exists(String),
+    /// The name of a reel's file has become another file's, or nothing's, since it was read; the reel was written to the
+    /// file of the second name.
+    #[error("{0} is no longer the file that was read: its reel is in {1}")]
+    Replaced(String, String),
     /// Memory was refused.
     #[error("memory refused")]
     Memory,

@@ -17,9 +17,9 @@ use crate::stopped_at::RunSource;
 use autocoder_1401::{AsmFault, AsmKind};
 use autocoder_statements::Language;
 use bcd_1401::{Graphics, Suggestion, in_ours, suggest, suggest_for_source};
-use bytes_descriptors::{FileFault, read_whole, read_whole_reel};
+use bytes_descriptors::{FileFault, read_whole};
 use cpu_1401::Machine;
-use job_runner::{CardList, DeckTextFault, ReadDeck, read_deck};
+use job_runner::{CardList, DeckTextFault, read_deck};
 use program_call::{DEFAULT_SIZE, Job, Start};
 use std::alloc::Global;
 use std::rt::Files;
@@ -39,29 +39,12 @@ fn read_file(rt: &(impl Files + AllocGlobal), name: &str) -> Result<Vec<u8>, Run
 }
 
 /// The fault of a file of this name that can't be read.
-fn unread(alloc: Global, name: &str, fault: FileFault) -> RunFault
+pub(crate) fn unread(alloc: Global, name: &str, fault: FileFault) -> RunFault
     ensures { IsUnreadFile name.now result }
 {
     match (fault, String::from_str(alloc, name)) {
         (FileFault::Memory, _) | (_, Err(_)) => RunFault::Memory,
         (fault, Ok(name)) => RunFault::File(name, fault),
-    }
-}
-
-/// The bytes of the file of a reel.
-///
-/// # Errors
-///
-/// As of `read_file`.
-pub(crate) fn read_reel_file(
-    rt: &(impl Files + AllocGlobal),
-    name: &str,
-) -> Result<Vec<u8>, RunFault>
-    ensures { IfErr result (IsUnreadFile name.now) }
-{
-    match read_whole_reel(rt, name) {
-        Ok(bytes) => Ok(bytes),
-        Err(fault) => Err(unread(rt.alloc(), name, fault)),
     }
 }
 
@@ -75,13 +58,6 @@ fn report_suggestion(rt: &impl Eprint, name: &str, suggested: Option<Suggestion>
     if let Some(suggested) = suggested {
         let _ = eprintln!(rt; "ibm1401: {name}: {suggested}");
     }
-}
-
-/// The deck of a text that has the graphics of the chain that was asked for.
-fn deck_in(alloc: Global, asked: Option<Graphics>, text: Vec<u8>) -> Result<ReadDeck, DeckTextFault>
-    ensures { IfOk result (λ deck. deck_of (map (ours_of (chain_of asked)) text.items) ≡ Ok deck.cards) }
-{
-    read_deck(alloc, in_ours(asked, text).as_slice())
 }
 
 /// The fault of a deck of this name that is none.
@@ -121,12 +97,24 @@ fn cards_of(
     ensures cards { IfOk result IsDeckText }
     ensures fault { IfErr result (IsOfFile name.now) }
 {
-    let text = match read_file(rt, name) {
-        Ok(text) => text,
-        Err(fault) => return Err(fault),
-    };
+    match read_file(rt, name) {
+        Ok(text) => cards_in(rt, name, text, asked),
+        Err(fault) => Err(fault),
+    }
+}
+
+/// The cards of this text of a deck's file.
+fn cards_in(
+    rt: &(impl Eprint + AllocGlobal),
+    name: &str,
+    text: Vec<u8>,
+    asked: Option<Graphics>,
+) -> Result<CardList, RunFault>
+    ensures cards { IfOk result (λ cards. deck_of (map (ours_of (chain_of asked)) text.items) ≡ Ok cards) }
+    ensures fault { IfErr result (IsOfFile name.now) }
+{
     report_suggestion(rt, name, suggest(asked, text.as_slice()));
-    match deck_in(rt.alloc(), asked, text) {
+    match read_deck(rt.alloc(), in_ours(asked, text).as_slice()) {
         Ok(deck) => {
             if deck.has_small_letters {
                 tell_small_letters(rt, name);

@@ -12,7 +12,6 @@ ghost use Rattle.program_run.specs.WrittenReels.{AreHandedOver, HandsOver, IsHan
 ghost use Rattle.program_run.specs.WrittenReels.{text_on};
 
 use crate::fault::RunFault;
-use crate::inputs::read_reel_file;
 use crate::reel_files::{ReelFiles, exists};
 use bytes_descriptors::is_there;
 use machine_tables::TAPE_UNITS;
@@ -39,14 +38,15 @@ fn refused_reel(alloc: Global, name: &str, fault: TapFault) -> RunFault
 /// # Errors
 ///
 /// `File` if the file can't be read, `Reel` if it has no reel's text, or `Memory`.
-fn read_reel(rt: &(impl Files + AllocGlobal), name: &str) -> Result<Reel, RunFault>
-    ensures reel { IfOk result IsReelText }
+fn read_reel<D: ReelFiles>(alloc: Global, files: &mut D, name: &str) -> Result<Reel, RunFault>
+    ensures reel { IfOk result (IsReelText (D.given files.old) (D.given files.new) name.now) }
+    ensures handed { D.handed files.new ≡ D.handed files.old }
     ensures fault { IfErr result (IsOfReelFile name.now) }
 {
-    match read_reel_file(rt, name) {
-        Ok(text) => match read_tap(rt.alloc(), text.as_slice(), ROOM) {
+    match files.read(name) {
+        Ok(text) => match read_tap(alloc, text.as_slice(), ROOM) {
             Ok(reel) => Ok(reel),
-            Err(fault) => Err(refused_reel(rt.alloc(), name, fault)),
+            Err(fault) => Err(refused_reel(alloc, name, fault)),
         },
         Err(fault) => Err(fault),
     }
@@ -86,13 +86,18 @@ fn new_reel(rt: &(impl Files + AllocGlobal), name: &str) -> Result<Reel, RunFaul
 /// # Errors
 ///
 /// `File`, `Reel`, `Exists` or `Memory`.
-fn reel_of(rt: &(impl Files + AllocGlobal), source: &ReelSource) -> Result<Reel, RunFault>
-    ensures reel { IfOk result (IsReelOf source.now) }
+fn reel_of<D: ReelFiles>(
+    rt: &(impl Files + AllocGlobal),
+    files: &mut D,
+    source: &ReelSource,
+) -> Result<Reel, RunFault>
+    ensures reel { IfOk result (IsReelOf source.now (D.given files.old) (D.given files.new)) }
+    ensures handed { D.handed files.new ≡ D.handed files.old }
     ensures fault { IfErr result (IsUnmountedOf source.now) }
 {
     match source {
-        ReelSource::File(name) => read_reel(rt, name.as_str()),
-        ReelSource::Ringed(name) => read_reel(rt, name.as_str()),
+        ReelSource::File(name) => read_reel(rt.alloc(), files, name.as_str()),
+        ReelSource::Ringed(name) => read_reel(rt.alloc(), files, name.as_str()),
         ReelSource::New(name) => new_reel(rt, name.as_str()),
         ReelSource::Scratch => empty_reel(rt.alloc()),
     }
@@ -108,15 +113,18 @@ fn put_on(tapes: &mut Tapes, number: u8, reel: Reel, has_ring: bool)
 }
 
 /// Mounts a reel.
-fn mount(
+fn mount<D: ReelFiles>(
     rt: &(impl Files + AllocGlobal),
+    files: &mut D,
     tapes: &mut Tapes,
     mounted: &MountedReel,
 ) -> Result<(), RunFault>
-    ensures mounted { OnOk result (IsMounted mounted.now tapes.old tapes.new) }
+    ensures mounted { OnOk result
+        (IsMounted mounted.now (D.given files.old) (D.given files.new) tapes.old tapes.new) }
+    ensures handed { D.handed files.new ≡ D.handed files.old }
     ensures fault { IfErr result (IsUnmountedOf mounted.now.reel) }
 {
-    match reel_of(rt, &mounted.reel) {
+    match reel_of(rt, files, &mounted.reel) {
         Ok(reel) => {
             put_on(tapes, mounted.unit, reel, mounted.reel.has_ring());
             Ok(())
@@ -131,11 +139,14 @@ fn mount(
 ///
 /// `File` if a reel's file can't be read, `Reel` if it has no reel's text, `Exists` if a new reel's file is there, or
 /// `Memory`.
-pub(crate) fn read_reels(
+pub(crate) fn read_reels<D: ReelFiles>(
     rt: &(impl Files + AllocGlobal),
+    files: &mut D,
     reels: &[MountedReel],
 ) -> Result<Tapes, RunFault>
-    ensures mounted { IfOk result (λ tapes. AreMounted reels.now no_tapes tapes) }
+    ensures mounted { IfOk result
+        (λ tapes. AreMounted reels.now (D.given files.old) (D.given files.new) no_tapes tapes) }
+    ensures handed { D.handed files.new ≡ D.handed files.old }
     ensures fault { IfErr result (IsUnmounted reels.now) }
 {
     let Ok(mut tapes) = Tapes::none(rt.alloc()) else {
@@ -143,7 +154,7 @@ pub(crate) fn read_reels(
     };
     let mut rest = reels;
     while let [first, beyond @ ..] = rest {
-        match mount(rt, &mut tapes, first) {
+        match mount(rt, files, &mut tapes, first) {
             Ok(()) => {}
             Err(fault) => return Err(fault),
         }
@@ -166,7 +177,7 @@ fn reel_text(alloc: Global, reel: &Reel) -> Option<Vec<u8>>
 ///
 /// # Errors
 ///
-/// `Unwritten`, `Exists` if a new reel's file is there, or `Memory`.
+/// `Unwritten`, `Exists` if a new reel's file is there, `Replaced` if a file has become another, or `Memory`.
 fn write_reel<D: ReelFiles>(
     alloc: Global,
     files: &mut D,
@@ -177,6 +188,7 @@ fn write_reel<D: ReelFiles>(
         (file_with (Some (tap_text (records_of reel.now))) source.now)) }
     ensures handed { IsHandedOver (tap_text (records_of reel.now)) (λ text. file_with text source.now)
         (D.handed files.old) (D.handed files.new) }
+    ensures given { D.given files.new ≡ D.given files.old }
     ensures fault { IfErr result (IsUnwrittenOf source.now) }
 {
     match source {
@@ -198,6 +210,7 @@ fn write_mounted<D: ReelFiles>(
         (file_of (Some (text_on tapes.now mounted.now.unit)) mounted.now)) }
     ensures handed { IsHandedOver (text_on tapes.now mounted.now.unit) (λ text. file_of text mounted.now)
         (D.handed files.old) (D.handed files.new) }
+    ensures given { D.given files.new ≡ D.given files.old }
     ensures fault { IfErr result (IsUnwrittenOf mounted.now.reel) }
 {
     if 1 <= mounted.unit && mounted.unit <= TAPE_UNITS {
@@ -224,7 +237,8 @@ fn first_fault(first: Result<(), RunFault>, other: Result<(), RunFault>) -> Resu
 ///
 /// # Errors
 ///
-/// The first: `Unwritten` if a file isn't written, `Exists` if a new reel's file is there, or `Memory`.
+/// The first: `Unwritten` if a file isn't written, `Exists` if a new reel's file is there, `Replaced` if a file has become
+/// another since it was read, or `Memory`.
 #[tactic(auto, using(crate::proofs::HandedLemmas::whole_more, crate::proofs::HandedLemmas::handed_more, crate::proofs::HandedLemmas::whole_end))]
 pub(crate) fn write_reels<D: ReelFiles>(
     alloc: Global,
@@ -237,6 +251,7 @@ pub(crate) fn write_reels<D: ReelFiles>(
 
     // Whatever isn't written, each is handed over, unless memory for its text is refused.
     ensures handed { AreHandedOver tapes.now reels.now (D.handed files.old) (D.handed files.new) }
+    ensures given { D.given files.new ≡ D.given files.old }
     ensures fault { IfErr result (IsUnwrittenReel reels.now) }
 {
     let mut outcome = Ok(());

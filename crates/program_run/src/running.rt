@@ -1,12 +1,13 @@
 //! What the subcommand `run` does.
-ghost use Rattle.std.specs.Prelude.{◌≡◌, ◌⊎◌, true, false, Err, IfOk, IfErr, OnOk};
+ghost use Rattle.std.specs.Prelude.{◌≡◌, ◌⊎◌, true, false, Err, IfOk, IfErr, List, OnOk, Option};
 ghost use Rattle.job_runner.specs.Unattended.{taped_with_deck};
 ghost use Rattle.program_run.specs.RunDeck.{IsAtEndOf, started_job};
 ghost use Rattle.program_run.specs.Run.{job_outcome};
 ghost use Rattle.program_run.specs.RunFile.{IsFaultOf};
 ghost use Rattle.program_run.specs.RunJob.{HasHalted, ReportsJob, report_on, set_up, with_switches};
 ghost use Rattle.program_run.specs.RunEnd.{EndsAs, IfStopped, IsBegunFor, IsHalt, IsNoStopOf, IsReadFor, Ran};
-ghost use Rattle.program_run.specs.WrittenReels.{AreAllHandedOver};
+ghost use Rattle.program_run.specs.GivenReels.{GivenReel};
+ghost use Rattle.program_run.specs.WrittenReels.{AreAllHandedOver, known_files};
 ghost use Rattle.program_call.specs.Sizes.{is_refused};
 
 use crate::deck_running::{Broken, run_started};
@@ -25,7 +26,7 @@ use bytes_streams::{Sink, ToWriter};
 use cpu_1401::{Machine, Stop};
 use job_runner::CardList;
 use machine_tables::Features;
-use machine_tapes::{TapedMachine, Tapes};
+use machine_tapes::TapedMachine;
 use program_call::{Job, is_refused};
 use std::cell::Cell;
 use std::io;
@@ -259,8 +260,10 @@ pub fn run_job<R: Files + Print + Eprint + Clock + AllocGlobal, D: ReelFiles>(
 
     // The files that are handed over are those of the reels that have a ring or are new, and the text of each is that of
     // the reel which its unit has at the end of the job.
-    ensures ended { OnOk result (IsHalt (λ ending. EndsAs job ending (D.handed files.old) (D.handed files.new))) }
-    ensures told { IfErr result (IfStopped (λ ending. EndsAs job ending (D.handed files.old) (D.handed files.new))) }
+    ensures ended { OnOk result (IsHalt (λ ending. EndsAs job ending
+        (known_files (D.given files.old) (D.handed files.old)) (known_files (D.given files.new) (D.handed files.new)))) }
+    ensures told { IfErr result (IfStopped (λ ending. EndsAs job ending
+        (known_files (D.given files.old) (D.handed files.old)) (known_files (D.given files.new) (D.handed files.new)))) }
 
     // Whatever fault there is, either none is handed over, or each of them, with the text of what its unit has then.
     ensures handed { (D.handed files.new ≡ D.handed files.old)
@@ -277,23 +280,29 @@ fn run_lent<R: Files + Print + Eprint + Clock + AllocGlobal, D: ReelFiles>(
     files: &mut D,
 ) -> Result<(), RunFault>
     ensures size { is_refused job.now.size ≡ true → result ≡ Err RunFault.Size }
-    ensures ran { Ran job.now (D.handed files.old) (D.handed files.new) result }
+    ensures ran { Ran job.now (known_files (D.given files.old) (D.handed files.old))
+        (known_files (D.given files.new) (D.handed files.new)) result }
     ensures handed { (D.handed files.new ≡ D.handed files.old)
         ⊎ AreAllHandedOver job.now.reels.items (D.handed files.old) (D.handed files.new) }
 {
     if is_refused(job.size) {
         return Err(RunFault::Size);
     }
-    match read_job(rt, job) {
+    match read_job(rt, job, files) {
         Ok(mut begun) => run_begun(rt, error_output, job, &mut begun, files),
         Err(fault) => Err(fault),
     }
 }
 
 /// What is read for a job: a machine with its program and deck, and tape units with its reels.
-fn read_job<R: Files + Eprint + AllocGlobal>(rt: &R, job: &Job) -> Result<Begun, RunFault>
+fn read_job<R: Files + Eprint + AllocGlobal, D: ReelFiles>(
+    rt: &R,
+    job: &Job,
+    files: &mut D,
+) -> Result<Begun, RunFault>
     requires { is_refused job.now.size ≡ false }
-    ensures read { IfOk result (IsReadFor job.now) }
+    ensures read { IfOk result (IsReadFor job.now (D.given files.old) (D.given files.new)) }
+    ensures handed { D.handed files.new ≡ D.handed files.old }
     ensures fault { IfErr result (IsNoStopOf job.now) }
 {
     match check_names(rt, job) {
@@ -304,27 +313,20 @@ fn read_job<R: Files + Eprint + AllocGlobal>(rt: &R, job: &Job) -> Result<Begun,
         Ok(inputs) => inputs,
         Err(fault) => return Err(fault),
     };
-    match read_reels(rt, job.reels.as_slice()) {
-        Ok(tapes) => Ok(begun_with(inputs, tapes)),
+    match read_reels(rt, files, job.reels.as_slice()) {
+        Ok(tapes) => {
+            let Inputs {
+                machine,
+                cards,
+                source,
+            } = inputs;
+            Ok(Begun {
+                taped: TapedMachine { machine, tapes },
+                cards,
+                source,
+            })
+        }
         Err(fault) => Err(fault),
-    }
-}
-
-/// What was read for a job, with these tape units.
-fn begun_with(inputs: Inputs, tapes: Tapes) -> Begun
-    ensures machine { result.taped.machine ≡ inputs.machine }
-    ensures tapes { result.taped.tapes ≡ tapes }
-    ensures cards { result.cards ≡ inputs.cards }
-{
-    let Inputs {
-        machine,
-        cards,
-        source,
-    } = inputs;
-    Begun {
-        taped: TapedMachine { machine, tapes },
-        cards,
-        source,
     }
 }
 
@@ -337,8 +339,9 @@ fn run_begun<R: Files + Print + Eprint + Clock + AllocGlobal, D: ReelFiles>(
     files: &mut D,
 ) -> Result<(), RunFault>
     requires size { is_refused job.now.size ≡ false }
-    requires read { IsReadFor job.now begun.old }
-    ensures ran { Ran job.now (D.handed files.old) (D.handed files.new) result }
+    ensures ran { (before : Option (List GivenReel)) → IsReadFor job.now before (D.given files.old) begun.old
+        → Ran job.now (known_files before (D.handed files.old)) (known_files (D.given files.new) (D.handed files.new))
+        result }
     ensures handed { (D.handed files.new ≡ D.handed files.old)
         ⊎ AreAllHandedOver job.now.reels.items (D.handed files.old) (D.handed files.new) }
 {
@@ -358,8 +361,9 @@ fn run_and_tell<R: Files + Print + Eprint + Clock + AllocGlobal, D: ReelFiles>(
     begun: &mut Begun,
     files: &mut D,
 ) -> Result<(), RunFault>
-    requires { IsBegunFor job.now begun.old }
-    ensures ran { Ran job.now (D.handed files.old) (D.handed files.new) result }
+    ensures ran { (before : Option (List GivenReel)) → IsBegunFor job.now before (D.given files.old) begun.old
+        → Ran job.now (known_files before (D.handed files.old)) (known_files (D.given files.new) (D.handed files.new))
+        result }
     ensures handed { AreAllHandedOver job.now.reels.items (D.handed files.old) (D.handed files.new) }
 {
     let ran = run_inputs(rt, error_output, job, begun);

@@ -60,8 +60,10 @@ pub fn instruction_text(
             return Ok(Some(text));
         }
     }
-    put_disassembled(alloc, &mut text, cells.as_slice())?;
-    Ok(Some(text))
+    match put_disassembled(alloc, &mut text, cells.as_slice()) {
+        Ok(()) => Ok(Some(text)),
+        Err(refused) => Err(refused),
+    }
 }
 
 /// The cells of the instruction at a place.

@@ -1,5 +1,5 @@
 -- What was read, and faults of a job.
-use Rattle.std.proofs.Common.{List, subst}
+use Rattle.std.proofs.Common.{List, refl, subst}
 use Rattle.machine_tapes.specs.Tapes.{no_tapes}
 use Rattle.program_call.specs.declared.call.MountedReel.{MountedReel}
 use Rattle.program_run.specs.RunReels.{AreMounted, IsUnmounted}
@@ -15,9 +15,10 @@ pub returns-in-Ok-read_reels-clause-read : goal.returns-in-Ok-read_reels-clause-
 returns-in-Ok-read_reels-clause-read g c =
     let inputs = c.in-Ok-read_inputs.inputs in
     let tapes = c.in-Ok-read_reels.tapes in
-    read_for c.args.job.now c.begun_with.result inputs.machine inputs.cards tapes c.begun_with.ensures.machine
-    c.begun_with.ensures.tapes c.begun_with.ensures.cards c.in-Ok-read_inputs.ensures.begun
-    (subst (λ (reels : List MountedReel). AreMounted reels no_tapes tapes) c.as_slice.ensures.value
+    let before = g.D.ReelFiles.given c.args.files.now in
+    let after = g.D.ReelFiles.given c.read_reels.new.files in
+    read_for c.args.job.now before after _ inputs.machine inputs.cards tapes refl refl refl c.in-Ok-read_inputs.ensures.begun
+    (subst (λ (reels : List MountedReel). AreMounted reels before after no_tapes tapes) c.as_slice.ensures.value
     c.in-Ok-read_reels.ensures.mounted)
 
 pub returns-in-Err-read_reels-clause-fault : goal.returns-in-Err-read_reels-clause-fault
