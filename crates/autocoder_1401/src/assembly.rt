@@ -10,19 +10,17 @@ ghost use Rattle.autocoder_symbols.specs.Reading.{lines_in};
 ghost use Rattle.autocoder_symbols.specs.Symbols.{sites_of};
 ghost use Rattle.autocoder_symbols.specs.View.{chains_view};
 ghost use Rattle.autocoder_diagnostics.specs.FirstFault.{IsFaultless};
-ghost use Rattle.autocoder_placing.specs.Placement.{placed};
 ghost use Rattle.autocoder_placing.specs.Values.{first_outside};
 ghost use Rattle.autocoder_placing.specs.PlacedImage.{image_of, placed_cells};
 ghost use Rattle.autocoder_placing.specs.Laws.{IsFirstOutside, IsCutOf};
 ghost use Rattle.autocoder_placing.specs.PlacementLaws.{IsPlacedInTurn};
-ghost use Rattle.autocoder_placing.specs.View.{places_of};
 ghost use Rattle.autocoder_1401.specs.Assembly.{assembly_with, assembly_in, with_listing, IsFaultOf};
 ghost use Rattle.autocoder_1401.specs.Languages.{AgreesWithPlain};
 
 use autocoder_diagnostics::FaultlessLines;
 use autocoder_image::make_image;
 use autocoder_listing::{Listing, make_listing};
-use autocoder_placing::{Placing, place_all};
+use autocoder_placing::place_all;
 use autocoder_statements::Language;
 use autocoder_symbols::{AsmFault, Chains, Lines, SourceHashing};
 use machine_image::Image;
@@ -35,31 +33,6 @@ pub struct Assembly {
     pub image: Image,
     /// The source with the addresses and the cells that its lines stand for.
     pub listing: Listing,
-}
-
-/// The image and the listing of lines, of which this is the source, once all is placed.
-///
-/// # Errors
-///
-/// `OutOfCore` for the first line of which something isn't in core; `Memory` if there is no room.
-pub(crate) fn make_assembly(
-    alloc: Global,
-    all: &Placing<'_>,
-    source: &[u8],
-    lines: &Lines<'_>,
-    size: u16,
-) -> Result<Assembly, AsmFault>
-    requires as_many { length lines.now ≡ length (lines_of source.now) }
-    requires few { length lines.now < 2 ^ 32 }
-    requires placed { places_of all.now ≡ placed lines.now }
-    ensures ok { IfOk result (λ assembly. assembly ≡ assembly_with size lines.now source.now) }
-    ensures inside { OnOk result (first_outside size lines.now ≡ None) }
-    ensures outside { IfErr result (λ fault. IsMemory fault
-        ⊎ ((first_outside size lines.now ≡ Some fault) × IsFirstOutside size lines.now fault)) }
-{
-    let image = make_image(alloc, all, lines, size)?;
-    let listing = make_listing(alloc, all, source, lines)?;
-    Ok(Assembly { image, listing })
 }
 
 /// The image and the listing of lines without a fault, of which this is the source.
@@ -80,7 +53,9 @@ fn faultless_assembly(
         ⊎ ((first_outside size lines.now ≡ Some fault) × IsFirstOutside size lines.now fault)) }
 {
     let all = place_all(alloc, hashing, chains, lines)?;
-    make_assembly(alloc, &all, source, lines, size)
+    let image = make_image(alloc, &all, lines, size)?;
+    let listing = make_listing(alloc, &all, source, lines)?;
+    Ok(Assembly { image, listing })
 }
 
 /// The core image and the listing of a source in the plain language, in core storage of this size.

@@ -1,9 +1,10 @@
 //! The faults of a source as editors read them, a page after the other.
 
-use crate::messages::{help_of, outside_help, suffix_in};
+use crate::messages::{put_help, put_outside_help, put_position, string_of, suffix_in};
 use autocoder_diagnostics::{Cause, Explanation, ExplanationPages, explanation_pages};
 use autocoder_statements::{Language, split_line};
-use autocoder_symbols::AsmFault;
+use autocoder_symbols::{AsmFault, AsmKind};
+use bytes_text::Text;
 use std::alloc::{AllocError, Global};
 
 /// How many lines' faults are a page: so many are held.
@@ -26,15 +27,15 @@ struct FaultTexts<'s> {
     suffix: Option<u8>,
 }
 
-/// The name of a kind of fault, which is printed as its number and its name.
-fn kind_name(alloc: Global, fault: AsmFault) -> Result<String, AllocError> {
-    let kind = fault.kind;
-    let kind = format!(in alloc; "{kind}")?;
-    let name = kind
-        .as_str()
-        .split_once(' ')
-        .map_or(kind.as_str(), |(_, name)| name);
-    String::from_str(alloc, name)
+/// Adds the name of a kind of fault, which is printed as its number and its name.
+fn put_kind(alloc: Global, text: &mut Text, kind: AsmKind) {
+    match format!(in alloc; "{kind}") {
+        Ok(kind) => text.put(match kind.as_bytes() {
+            [_, b' ', name @ ..] | [_, _, b' ', name @ ..] => name,
+            name => name,
+        }),
+        Err(_) => text.fail(),
+    }
 }
 
 impl<'s> FaultTexts<'s> {
@@ -62,29 +63,14 @@ impl<'s> FaultTexts<'s> {
         self.passed = number;
     }
 
-    /// What is wrong at a fault of the line that was read last.
-    fn help(&self, alloc: Global, explanation: Explanation) -> Result<String, AllocError> {
+    /// Adds what is wrong at a fault of the line that was read last.
+    fn put_help(&self, alloc: Global, text: &mut Text, explanation: &Explanation) {
         match explanation.cause {
-            Cause::OutOfCore => outside_help(alloc, self.language, self.source, self.size),
-            _ => help_of(alloc, self.language, explanation, self.line, self.suffix),
+            Cause::OutOfCore => {
+                put_outside_help(alloc, text, self.language, self.source, self.size);
+            }
+            _ => put_help(text, self.language, explanation, self.line, self.suffix),
         }
-    }
-
-    /// Adds the line of the next fault of the source of this file.
-    fn put_next(
-        &mut self,
-        alloc: Global,
-        file: &str,
-        explanation: Explanation,
-        lines: &mut String,
-    ) -> Result<(), AllocError> {
-        let line = explanation.fault.line;
-        let column = explanation.columns.column;
-        self.read_to(line);
-        let name = kind_name(alloc, explanation.fault)?;
-        let help = self.help(alloc, explanation)?;
-        let shown = format!(in alloc; "{file}:{line}:{column}: {name}: {help}\n")?;
-        lines.push_str(shown.as_str())
     }
 
     /// A line for each of the next faults of the source of this file.
@@ -94,11 +80,17 @@ impl<'s> FaultTexts<'s> {
         file: &str,
         faults: &[Explanation],
     ) -> Result<String, AllocError> {
-        let mut lines = String::new(alloc);
+        let mut lines = Text::new(alloc);
         for explanation in faults {
-            self.put_next(alloc, file, *explanation, &mut lines)?;
+            let fault = explanation.fault;
+            self.read_to(fault.line);
+            put_position(&mut lines, file, fault.line, explanation.columns.column);
+            put_kind(alloc, &mut lines, fault.kind);
+            lines.put(b": ");
+            self.put_help(alloc, &mut lines, explanation);
+            lines.put(b"\n");
         }
-        Ok(lines)
+        string_of(lines)
     }
 }
 
@@ -112,8 +104,10 @@ pub fn fault_help(
     explanation: Explanation,
 ) -> Result<String, AllocError> {
     let mut texts = FaultTexts::new(language, source, size);
+    let mut help = Text::new(alloc);
     texts.read_to(explanation.fault.line);
-    texts.help(alloc, explanation)
+    texts.put_help(alloc, &mut help, &explanation);
+    string_of(help)
 }
 
 /// A line for each fault of the source of this file, for core storage of this size: `sales.source:4:16: OPERATION: ..`.
@@ -125,8 +119,7 @@ pub fn fault_lines(
     size: u16,
     faults: &[Explanation],
 ) -> Result<String, AllocError> {
-    let mut texts = FaultTexts::new(language, source, size);
-    texts.next_lines(alloc, file, faults)
+    FaultTexts::new(language, source, size).next_lines(alloc, file, faults)
 }
 
 /// The faults of a source's lines that aren't printed yet.
@@ -168,9 +161,6 @@ impl<'s> FaultPages<'s> {
     pub fn next_page(&mut self, alloc: Global, file: &str) -> Result<String, AsmFault> {
         let mut found = Vec::new(alloc);
         self.explanations.put_page(PAGE, &mut found)?;
-        match self.texts.next_lines(alloc, file, &found) {
-            Ok(lines) => Ok(lines),
-            Err(_) => Err(AsmFault::MEMORY),
-        }
+        Ok(self.texts.next_lines(alloc, file, &found)?)
     }
 }

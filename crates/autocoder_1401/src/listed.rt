@@ -6,9 +6,7 @@ ghost use Rattle.autocoder_symbols.specs.Fault.{IsMemory};
 ghost use Rattle.autocoder_symbols.specs.Symbols.{sites_of};
 ghost use Rattle.autocoder_symbols.specs.View.{chains_view};
 ghost use Rattle.autocoder_placing.specs.Laws.{IsFirstOutside};
-ghost use Rattle.autocoder_placing.specs.Placement.{placed};
 ghost use Rattle.autocoder_placing.specs.Values.{first_outside};
-ghost use Rattle.autocoder_placing.specs.View.{places_of};
 ghost use Rattle.autocoder_listing.specs.Listing.{listing_of, listing_text, listing_with};
 ghost use Rattle.autocoder_listing.specs.Writing.{IsReadyFor, text_for};
 ghost use Rattle.autocoder_1401.specs.Assembly.{assembly_in, assembly_of};
@@ -17,33 +15,10 @@ ghost use Rattle.autocoder_1401.specs.Languages.{AgreesWithPlain};
 use autocoder_diagnostics::FaultlessLines;
 use autocoder_image::check_places;
 use autocoder_listing::{ReadyListing, ready_listing};
-use autocoder_placing::{Placing, place_all};
+use autocoder_placing::place_all;
 use autocoder_statements::Language;
 use autocoder_symbols::{AsmFault, Chains, Lines, SourceHashing};
 use std::alloc::Global;
-
-/// The listing of the lines of this source, once all is placed.
-fn placed_listing(
-    alloc: Global,
-    all: &Placing<'_>,
-    source: &[u8],
-    lines: &Lines<'_>,
-    size: u16,
-) -> Result<ReadyListing, AsmFault>
-    requires as_many { length lines.now ≡ length (lines_of source.now) }
-    requires few { length lines.now < 2 ^ 32 }
-    requires placed { places_of all.now ≡ placed lines.now }
-    ensures text { IfOk result (λ ready. text_for source.now ready
-        ≡ listing_text (listing_with lines.now (lines_of source.now))) }
-    ensures ready { IfOk result (IsReadyFor source.now) }
-    ensures inside { OnOk result (first_outside size lines.now ≡ None) }
-    ensures outside { IfErr result (λ fault. IsMemory fault
-        ⊎ ((first_outside size lines.now ≡ Some fault) × IsFirstOutside size lines.now fault)) }
-{
-    check_places(alloc, all, lines, size)?;
-    let ready = ready_listing(alloc, all, source, lines)?;
-    Ok(ready)
-}
 
 /// The listing of the lines of this source, which have no fault.
 fn faultless_listing(
@@ -65,7 +40,9 @@ fn faultless_listing(
         ⊎ ((first_outside size lines.now ≡ Some fault) × IsFirstOutside size lines.now fault)) }
 {
     let all = place_all(alloc, hashing, chains, lines)?;
-    placed_listing(alloc, &all, source, lines, size)
+    check_places(alloc, &all, lines, size)?;
+    let ready = ready_listing(alloc, &all, source, lines)?;
+    Ok(ready)
 }
 
 /// The listing of a source in this language, ready to be written: the lines of that of `assemble_in`, each with its line

@@ -53,11 +53,6 @@ fn part_at(size: u16, part: OutsidePart, place: i64) -> Option<Outside>
     }
 }
 
-/// The units place of an index register.
-fn register_place(number: u8) -> i64 {
-    84 + 5 * i64::from(number)
-}
-
 /// The value of an address once all is placed, with this place for an asterisk.
 fn address_place(all: &Placing<'_>, here: i64, address: Address) -> Result<i64, AsmFault>
     ensures err { IfErr result IsMemory }
@@ -66,7 +61,8 @@ fn address_place(all: &Placing<'_>, here: i64, address: Address) -> Result<i64, 
         Base::Number(number) => i64::from(number),
         Base::Symbol(label) => all.symbol(label)?.value,
         Base::Here | Base::NextHundred => here,
-        Base::Register(number) => register_place(number),
+        // The units place of an index register.
+        Base::Register(number) => 84 + 5 * i64::from(number),
     };
     checked_sum(base, i64::from(address.adjustment))
 }
@@ -121,7 +117,7 @@ fn operand_outside(
         | OperandField::Absent
         | OperandField::Malformed => return Ok(None),
     };
-    Ok(part_at(size, part_of(all, part, field)?, place))
+    value_outside(all, size, part, field, place)
 }
 
 /// How many places the literals take that are used and not placed.
@@ -174,14 +170,19 @@ fn places_outside(
     }
 }
 
-/// What an earlier value is: the operand of ORG and LTORG, or the first place of a constant elsewhere.
-fn value_part(next: Next) -> OutsidePart {
-    match next {
-        Next::Elsewhere => OutsidePart::FirstPlace,
-        Next::Beyond | Next::Literals | Next::Value | Next::LiteralsAtValue => {
-            OutsidePart::OnlyOperand
-        }
-    }
+/// The value of an operand, if it isn't in core: this part, unless the operand counts from the name of a unit.
+fn value_outside(
+    all: &Placing<'_>,
+    size: u16,
+    part: OutsidePart,
+    field: OperandField,
+    value: i64,
+) -> Result<Option<Outside>, AsmFault>
+    ensures place { IfOk result (λ found. IfSome found (λ o. is_in_core size o.place ≡ false)) }
+    ensures err { IfErr result IsMemory }
+{
+    let part = part_of(all, part, field)?;
+    Ok(part_at(size, part, value))
 }
 
 /// What of the operands of a statement with this row isn't in core.
@@ -209,18 +210,22 @@ fn operands_outside(
         }
         Addressing::EarlierValue(operands) => {
             let value = so_far.point_value(so_far, row, Point::Value)?;
-            let part = part_of(all, value_part(row.next), operands.a)?;
-            Ok(part_at(size, part, value))
+            // A constant elsewhere has its first place as its value.
+            let part = match row.next {
+                Next::Elsewhere => OutsidePart::FirstPlace,
+                Next::Beyond | Next::Literals | Next::Value | Next::LiteralsAtValue => {
+                    OutsidePart::OnlyOperand
+                }
+            };
+            value_outside(all, size, part, operands.a, value)
         }
         Addressing::Equal(operands) | Addressing::Value(operands) => {
             let value = so_far.point_value(all, row, Point::Value)?;
-            let part = part_of(all, OutsidePart::OnlyOperand, operands.a)?;
-            Ok(part_at(size, part, value))
+            value_outside(all, size, OutsidePart::OnlyOperand, operands.a, value)
         }
         Addressing::Entry(operands) => {
             let value = all.entry_value(operands.a)?;
-            let part = part_of(all, OutsidePart::OnlyOperand, operands.a)?;
-            Ok(part_at(size, part, value))
+            value_outside(all, size, OutsidePart::OnlyOperand, operands.a, value)
         }
     }
 }

@@ -9,9 +9,7 @@ ghost use Rattle.autocoder_symbols.specs.Symbols.{sites_of};
 ghost use Rattle.autocoder_symbols.specs.View.{chains_view};
 ghost use Rattle.autocoder_placing.specs.Laws.{IsFirstOutside};
 ghost use Rattle.autocoder_placing.specs.PlacedImage.{image_of};
-ghost use Rattle.autocoder_placing.specs.Placement.{placed};
 ghost use Rattle.autocoder_placing.specs.Values.{first_outside};
-ghost use Rattle.autocoder_placing.specs.View.{places_of};
 ghost use Rattle.autocoder_listing.specs.Rows.{rows_of};
 ghost use Rattle.autocoder_listing.specs.SymbolTable.{symbols_in};
 ghost use Rattle.autocoder_1401.specs.Assembly.{assembly_in, with_listing};
@@ -21,7 +19,7 @@ ghost use Rattle.autocoder_1401.specs.declared.program.AssemblyProgram.{Assembly
 use autocoder_diagnostics::FaultlessLines;
 use autocoder_image::{PackedImage, pack_image};
 use autocoder_listing::{Rows, Symbol, make_rows, make_symbols};
-use autocoder_placing::{Placing, place_all};
+use autocoder_placing::place_all;
 use autocoder_statements::Language;
 use autocoder_symbols::{AsmFault, Chains, Lines, SourceHashing};
 use std::alloc::Global;
@@ -35,32 +33,6 @@ pub struct AssemblyProgram {
     pub rows: Rows,
     /// The labels, each with its address, in the order of the lines that declare them.
     pub symbols: Vec<Symbol>,
-}
-
-/// The image, the rows and the symbols of lines, once all is placed.
-fn make_assembly_program(
-    alloc: Global,
-    all: &Placing<'_>,
-    lines: &Lines<'_>,
-    size: u16,
-) -> Result<AssemblyProgram, AsmFault>
-    requires few { length lines.now < 2 ^ 32 }
-    requires placed { places_of all.now ≡ placed lines.now }
-    ensures image { IfOk result (λ made. made.image ≡ image_of size lines.now) }
-    ensures rows { IfOk result (λ made. made.rows ≡ rows_of lines.now) }
-    ensures symbols { IfOk result (λ made. made.symbols.items ≡ symbols_in lines.now) }
-    ensures inside { OnOk result (first_outside size lines.now ≡ None) }
-    ensures outside { IfErr result (λ fault. IsMemory fault
-        ⊎ ((first_outside size lines.now ≡ Some fault) × IsFirstOutside size lines.now fault)) }
-{
-    let image = pack_image(alloc, all, lines, size)?;
-    let rows = make_rows(alloc, all, lines)?;
-    let symbols = make_symbols(alloc, all, lines)?;
-    Ok(AssemblyProgram {
-        image,
-        rows,
-        symbols,
-    })
 }
 
 /// The image, the rows and the symbols of lines without a fault.
@@ -81,7 +53,14 @@ fn faultless_program(
         ⊎ ((first_outside size lines.now ≡ Some fault) × IsFirstOutside size lines.now fault)) }
 {
     let all = place_all(alloc, hashing, chains, lines)?;
-    make_assembly_program(alloc, &all, lines, size)
+    let image = pack_image(alloc, &all, lines, size)?;
+    let rows = make_rows(alloc, &all, lines)?;
+    let symbols = make_symbols(alloc, &all, lines)?;
+    Ok(AssemblyProgram {
+        image,
+        rows,
+        symbols,
+    })
 }
 
 /// The core image of a source in this language, as `assemble_image` answers it, with the rows of its listing that have

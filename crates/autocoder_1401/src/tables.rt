@@ -8,9 +8,7 @@ ghost use Rattle.autocoder_symbols.specs.Symbols.{sites_of};
 ghost use Rattle.autocoder_symbols.specs.View.{chains_view};
 ghost use Rattle.autocoder_placing.specs.Laws.{IsFirstOutside};
 ghost use Rattle.autocoder_placing.specs.PlacedImage.{image_of};
-ghost use Rattle.autocoder_placing.specs.Placement.{placed};
 ghost use Rattle.autocoder_placing.specs.Values.{first_outside};
-ghost use Rattle.autocoder_placing.specs.View.{places_of};
 ghost use Rattle.autocoder_listing.specs.CrossReference.{references_text};
 ghost use Rattle.autocoder_listing.specs.Listing.{listing_of, listing_text, listing_with};
 ghost use Rattle.autocoder_listing.specs.SymbolTable.{symbols_text};
@@ -22,7 +20,7 @@ ghost use Rattle.autocoder_1401.specs.declared.tables.AssemblyTables.{AssemblyTa
 use autocoder_diagnostics::FaultlessLines;
 use autocoder_image::make_image;
 use autocoder_listing::{ReadyListing, Tables, make_tables, ready_listing};
-use autocoder_placing::{Placing, place_all};
+use autocoder_placing::place_all;
 use autocoder_statements::Language;
 use autocoder_symbols::{AsmFault, Chains, Lines, SourceHashing};
 use machine_image::Image;
@@ -39,42 +37,6 @@ pub struct AssemblyTables {
     pub symbols: Vec<u8>,
     /// The cross-reference: a line for each label.
     pub references: Vec<u8>,
-}
-
-/// The image, the listing and the tables of lines, of which this is the source, once all is placed.
-fn make_assembly_tables(
-    alloc: Global,
-    hashing: SourceHashing,
-    all: &Placing<'_>,
-    source: &[u8],
-    lines: &Lines<'_>,
-    size: u16,
-) -> Result<AssemblyTables, AsmFault>
-    requires as_many { length lines.now ≡ length (lines_of source.now) }
-    requires few { length lines.now < 2 ^ 32 }
-    requires placed { places_of all.now ≡ placed lines.now }
-    ensures image { IfOk result (λ made. made.image ≡ image_of size lines.now) }
-    ensures listing { IfOk result (λ made. text_for source.now made.listing
-        ≡ listing_text (listing_with lines.now (lines_of source.now))) }
-    ensures ready { IfOk result (λ made. IsReadyFor source.now made.listing) }
-    ensures symbols { IfOk result (λ made. made.symbols.items ≡ symbols_text lines.now) }
-    ensures references { IfOk result (λ made. made.references.items ≡ references_text lines.now) }
-    ensures inside { OnOk result (first_outside size lines.now ≡ None) }
-    ensures outside { IfErr result (λ fault. IsMemory fault
-        ⊎ ((first_outside size lines.now ≡ Some fault) × IsFirstOutside size lines.now fault)) }
-{
-    let image = make_image(alloc, all, lines, size)?;
-    let listing = ready_listing(alloc, all, source, lines)?;
-    let Tables {
-        symbols,
-        references,
-    } = make_tables(alloc, hashing, all, lines)?;
-    Ok(AssemblyTables {
-        image,
-        listing,
-        symbols,
-        references,
-    })
 }
 
 /// The image, the listing and the tables of lines without a fault, of which this is the source.
@@ -100,7 +62,18 @@ fn faultless_tables(
         ⊎ ((first_outside size lines.now ≡ Some fault) × IsFirstOutside size lines.now fault)) }
 {
     let all = place_all(alloc, hashing, chains, lines)?;
-    make_assembly_tables(alloc, hashing, &all, source, lines, size)
+    let image = make_image(alloc, &all, lines, size)?;
+    let listing = ready_listing(alloc, &all, source, lines)?;
+    let Tables {
+        symbols,
+        references,
+    } = make_tables(alloc, hashing, &all, lines)?;
+    Ok(AssemblyTables {
+        image,
+        listing,
+        symbols,
+        references,
+    })
 }
 
 /// The core image and the listing of a source in this language, ready to be written, with its symbol table and its

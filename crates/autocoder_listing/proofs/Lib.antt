@@ -2,7 +2,7 @@ pub mod BlanksLemmas
 pub mod CrossReferenceLemmas
 pub mod DigitsLemmas
 pub mod HeadsLemmas
-pub mod PageLemmas
+pub mod PagesLemmas
 pub mod RowLawLemmas
 pub mod RowsLemmas
 mod HeadsExamples

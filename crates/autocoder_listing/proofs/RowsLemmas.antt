@@ -1,24 +1,28 @@
--- A line shows eight characters; the last of rows is the last of them and of those after them.
-use Rattle.std.proofs.Common.{◌≡◌, ℕ, ◌-◌, ◌≤◌, List, [], ◌∷◌, ◌++◌, length, map, take, replicate, Option, Some, cond, refl}
-use Rattle.std.proofs.Common.{◌∙◌, arith}
-use Rattle.std.proofs.lemmas.List.{length-append, length-map, length-replicate, length-take}
+-- The characters of a line; the last of rows is the last of them and of those after them.
+use Rattle.std.proofs.Common.{◌≡◌, ℕ, List, [], ◌∷◌, ◌++◌, Option, Some, cond, refl}
+use Rattle.std.specs.Prelude.{slice_index_or}
+use Rattle.bcd_1401.specs.Graphic.{graphics}
 use Rattle.bcd_1401.specs.declared.cell.Cell.{Cell}
-use Rattle.autocoder_statements.specs.SourceLine.{padded}
-use Rattle.autocoder_listing.specs.Listing.{characters_text, graphic_of}
+use Rattle.autocoder_listing.specs.Listing.{blank, characters_text, graphic_of}
 use Rattle.autocoder_listing.specs.Rows.{is_at, last_at}
 use Rattle.autocoder_listing.specs.declared.rows.Row.{Row}
 
-padded_to : (n : ℕ) (text : List ℕ) → length text ≤ n → length (padded n text) ≡ n
-padded_to n text few =
-    length-append text (replicate {A = ℕ} (n - length text) 32)
-    ∙ omega (arith, few, length-replicate {A = ℕ} (n - length text) 32)
+abbrev graphic_at : List Cell → ℕ → ℕ
+graphic_at cells place = graphic_of (slice_index_or cells place blank)
 
-at_most_eight : (cells : List Cell) → length (map graphic_of (take 8 cells)) ≤ 8
-at_most_eight cells = omega (arith, length-map (take 8 cells) graphic_of, length-take 8 cells)
-
-pub eight_characters : (cells : List Cell) → length (characters_text cells) ≡ 8
-unfolding characters_text
-eight_characters cells = padded_to 8 (map graphic_of (take 8 cells)) (at_most_eight cells)
+-- cell by cell
+pub first_eight : (cells : List Cell) → graphic_at cells 0 ∷ graphic_at cells 1 ∷ graphic_at cells 2 ∷ graphic_at cells 3
+    ∷ graphic_at cells 4 ∷ graphic_at cells 5 ∷ graphic_at cells 6 ∷ graphic_at cells 7 ∷ [] ≡ characters_text cells
+unfolding characters_text graphics
+first_eight [] = refl
+first_eight (a ∷ []) = refl
+first_eight (a ∷ b ∷ []) = refl
+first_eight (a ∷ b ∷ c ∷ []) = refl
+first_eight (a ∷ b ∷ c ∷ d ∷ []) = refl
+first_eight (a ∷ b ∷ c ∷ d ∷ e ∷ []) = refl
+first_eight (a ∷ b ∷ c ∷ d ∷ e ∷ f ∷ []) = refl
+first_eight (a ∷ b ∷ c ∷ d ∷ e ∷ f ∷ g ∷ []) = refl
+first_eight (a ∷ b ∷ c ∷ d ∷ e ∷ f ∷ g ∷ h ∷ more) = refl
 
 pub last_of_more : (at : ℕ) (characters : List ℕ) (found : Option ℕ) (rows more : List Row)
     → last_at at characters found (rows ++ more) ≡ last_at at characters (last_at at characters found rows) more

@@ -1,6 +1,6 @@
 -- The lines of a listing (Autocoder, "Assembler Control"; their columns own).
 use Rattle.std.specs.Prelude.{ℕ, ◌+◌, ◌-◌, Bool, List, [], ◌∷◌, ◌++◌, length, map, take, drop, slice_index, ℤ, pos}
-use Rattle.std.specs.Prelude.{nat_abs, int_lt, if◌then◌else◌, Option, Some, None, codes}
+use Rattle.std.specs.Prelude.{false, nat_abs, int_lt, if◌then◌else◌, Option, Some, None, codes}
 use Rattle.std.specs.Ordering.{int_eq}
 use Rattle.std.specs.List.{flat_map, suffix_len}
 use Rattle.bcd_1401.specs.Graphic.{graphics}
@@ -46,6 +46,10 @@ address_text (Some address) = digits_in 5 (nat_abs address)
 -- a cell by its graphic, whether it has a word mark or not
 abbrev pub graphic_of : Cell → ℕ
 graphic_of cell = slice_index graphics cell.char
+
+-- a blank without a word mark
+abbrev pub blank : Cell
+blank = record { char = 0; mark = false }
 
 -- the first eight cells, with blanks after them if there are fewer
 unfoldable pub characters_text : List Cell → List ℕ

@@ -1,6 +1,5 @@
 -- A listing that is ready to be written, a page after the other (own).
 use Rattle.std.specs.Prelude.{◌≡◌, ◌<◌, ◌≤◌, ◌^◌, ℕ, List, [], length, vec_capacity}
-use Rattle.bytes_streams.specs.Page.{most_in_page}
 use Rattle.autocoder_statements.specs.SourceLine.{lines_of}
 use Rattle.autocoder_listing.specs.Heads.{written}
 use Rattle.autocoder_listing.specs.declared.writing.ReadyListing.{ReadyListing}
@@ -9,10 +8,10 @@ use Rattle.autocoder_listing.specs.declared.writing.ReadyListing.{ReadyListing}
 abbrev pub most_in_front : ℕ
 most_in_front = 64
 
--- nothing is in the page, and there is room for all
+-- nothing is in the page, and there is room for what precedes a line of the source
 abbrev pub HasRoom : ReadyListing → Type 0
 HasRoom ready =
-    (ready.page.items ≡ []) × (most_in_page ≤ vec_capacity ready.page) × (most_in_front ≤ vec_capacity ready.front)
+    (ready.page ≡ []) × (most_in_front ≤ vec_capacity ready.front)
 
 -- ready for the lines of this source, which can be numbered
 abbrev pub IsReadyFor : List ℕ → ReadyListing → Type 0

@@ -1,6 +1,7 @@
 //! The cross-reference of a source: each label with the lines that name it.
 ghost use Rattle.std.specs.Prelude.{◌≡◌, ◌<◌, ◌^◌, ◌++◌, ◌||◌, length, IfOk, IfErr, OnOk};
 ghost use Rattle.std.specs.List.{flat_map};
+ghost use Rattle.bytes_text.specs.Written.{Adds};
 ghost use Rattle.autocoder_statements.specs.declared.label.Label.{Label as ALabel};
 ghost use Rattle.autocoder_symbols.specs.Fault.{IsMemory};
 ghost use Rattle.autocoder_symbols.specs.Symbols.{has_label, same_label};
@@ -12,8 +13,8 @@ use crate::symbol_table::{LINE_DIGITS, Symbol};
 use autocoder_diagnostics::symbol_in;
 use autocoder_statements::{Label, Line, Statement};
 use autocoder_symbols::{AsmFault, Lines, SourceHashing};
+use bytes_text::Text;
 use indexmap::IndexMap;
-use machine_notation::put_digits;
 use std::alloc::Global;
 
 /// For each label that is named the numbers of the lines that name it.
@@ -93,50 +94,34 @@ pub(crate) fn uses_of(
 }
 
 /// Adds the numbers of lines.
-fn put_uses(text: &mut Vec<u8>, numbers: &[u64]) -> Result<(), AsmFault>
-    ensures ok { OnOk result (text.new.items ≡ text.old.items ++ flat_map use_text numbers.now) }
-    ensures err { IfErr result IsMemory }
+fn put_uses(text: &mut Text, numbers: &[u64])
+    ensures { Adds text.old text.new (flat_map use_text numbers.now) }
 {
     for number in numbers {
-        text.push(b' ')?;
-        put_digits(text, LINE_DIGITS, *number)?;
+        text.put(b" ");
+        text.put_number(LINE_DIGITS, *number);
     }
-    Ok(())
 }
 
 /// Adds the line of a symbol.
 #[tactic(auto, unfolding(crate::specs::CrossReference::reference_line))]
-fn put_reference_line(text: &mut Vec<u8>, uses: &Uses, symbol: Symbol) -> Result<(), AsmFault>
-    ensures ok { OnOk result (text.new.items
-        ≡ text.old.items ++ reference_line (lines_naming uses.now) symbol) }
-    ensures err { IfErr result IsMemory }
+fn put_reference_line(text: &mut Text, uses: &Uses, symbol: &Symbol)
+    ensures { Adds text.old text.new (reference_line (lines_naming uses.now) symbol.now) }
 {
-    text.extend_from_slice(symbol.label.text.as_slice())?;
-    text.push(b' ')?;
-    put_digits(text, LINE_DIGITS, symbol.line)?;
+    text.put(symbol.label.text.as_slice());
+    text.put(b" ");
+    text.put_number(LINE_DIGITS, symbol.line);
     if let Some(numbers) = uses.get(&symbol.label) {
-        put_uses(text, numbers.as_slice())?;
+        put_uses(text, numbers.as_slice());
     }
-    text.push(b'\n')?;
-    Ok(())
+    text.put(b"\n");
 }
 
-/// The cross-reference: the lines of these symbols.
-///
-/// # Errors
-///
-/// `Memory` if there is no room for the text.
-pub(crate) fn references_text(
-    alloc: Global,
-    uses: &Uses,
-    symbols: &[Symbol],
-) -> Result<Vec<u8>, AsmFault>
-    ensures ok { IfOk result (λ text. text.items ≡ flat_map (reference_line (lines_naming uses.now)) symbols.now) }
-    ensures err { IfErr result IsMemory }
+/// Adds the cross-reference: the lines of these symbols.
+pub(crate) fn put_references(text: &mut Text, uses: &Uses, symbols: &[Symbol])
+    ensures { Adds text.old text.new (flat_map (reference_line (lines_naming uses.now)) symbols.now) }
 {
-    let mut text = Vec::new(alloc);
     for symbol in symbols {
-        put_reference_line(&mut text, uses, *symbol)?;
+        put_reference_line(text, uses, symbol);
     }
-    Ok(text)
 }

@@ -1,18 +1,16 @@
 //! What the lines of a listing have besides the lines of the source. It is made before the first of them is written.
-ghost use Rattle.std.specs.Prelude.{◌≡◌, ◌++◌, ◌<◌, ◌^◌, drop, length, None, Some, IfOk, IfErr, OnOk};
+ghost use Rattle.std.specs.Prelude.{◌≡◌, ◌++◌, ◌<◌, ◌^◌, drop, length, IfOk, IfErr, OnOk};
 ghost use Rattle.std.specs.List.{flat_map};
 ghost use Rattle.autocoder_symbols.specs.Fault.{IsMemory};
-ghost use Rattle.autocoder_placing.specs.Cells.{literal_cells};
-ghost use Rattle.autocoder_placing.specs.Literals.{key_of};
 ghost use Rattle.autocoder_placing.specs.Placement.{placed_after, unplaced};
 ghost use Rattle.autocoder_placing.specs.View.{places_of};
-ghost use Rattle.autocoder_listing.specs.Heads.{literals_text, headed, heads_at, heads_from, literals_from};
-ghost use Rattle.autocoder_listing.specs.Listing.{literal_lines, literal_spelling, line_text, listing_line};
+ghost use Rattle.autocoder_listing.specs.Heads.{literals_text, heads_at, heads_from, literals_from};
+ghost use Rattle.autocoder_listing.specs.Listing.{literal_lines, line_text};
 
 use crate::listing::{ListingLine, first_literal, literal_line};
 use crate::rows::{Row, row_of};
 use autocoder_placing::{LiteralKey, Placing};
-use autocoder_statements::{Line, Literal};
+use autocoder_statements::Line;
 use autocoder_symbols::{AsmFault, Lines, checked_sum};
 use std::alloc::Global;
 
@@ -47,23 +45,6 @@ fn put_text(text: &mut Vec<u8>, line: &ListingLine) -> Result<(), AsmFault>
     Ok(())
 }
 
-/// Adds the line of a literal that is placed at a place.
-fn put_literal(
-    alloc: Global,
-    all: &Placing<'_>,
-    from: i64,
-    literal: Literal,
-    text: &mut Vec<u8>,
-) -> Result<(), AsmFault>
-    ensures ok { OnOk result (text.new.items ≡ text.old.items
-        ++ line_text (listing_line None (Some from) (literal_cells (places_of all.now) (key_of literal))
-        (literal_spelling literal))) }
-    ensures err { IfErr result IsMemory }
-{
-    let line = literal_line(alloc, all, from, literal)?;
-    put_text(text, &line)
-}
-
 /// Adds the lines of the literals that are used here from one on, placed one after the other from a place on.
 fn put_literals(
     alloc: Global,
@@ -80,7 +61,7 @@ fn put_literals(
     let mut next = from;
     for i in first..so_far.literals_used() {
         let literal = so_far.literal(i);
-        put_literal(alloc, all, next, literal, text)?;
+        put_text(text, &literal_line(alloc, all, next, literal)?)?;
         next = checked_sum(next, i64::from(LiteralKey::from_literal(literal).len()))?;
     }
     Ok(())
@@ -107,17 +88,6 @@ fn put_literals_of(
     put_literals(alloc, all, from, so_far, first, text)
 }
 
-/// Adds the head of a row after literals whose lines have this many bytes, if there is a row.
-fn put_head(heads: &mut Vec<Head>, row: Option<Row>, literals: usize) -> Result<(), AsmFault>
-    ensures ok { OnOk result (heads.new.items ≡ heads.old.items ++ headed literals row) }
-    ensures err { IfErr result IsMemory }
-{
-    if let Some(row) = row {
-        heads.push(Head { row, literals })?;
-    }
-    Ok(())
-}
-
 impl Heads {
     /// Adds what the line here of this number has, with these lines after it.
     fn put_line<'a>(
@@ -137,8 +107,11 @@ impl Heads {
     {
         let before = self.literals.len();
         put_literals_of(alloc, all, so_far, line, &mut self.literals)?;
-        let row = row_of(alloc, all, so_far, number, line, beyond)?;
-        put_head(&mut self.heads, row, self.literals.len() - before)
+        let literals = self.literals.len() - before;
+        if let Some(row) = row_of(alloc, all, so_far, number, line, beyond)? {
+            self.heads.push(Head { row, literals })?;
+        }
+        Ok(())
     }
 
     /// Adds what lines have, and places them.

@@ -21,6 +21,7 @@ pub mod source_listing; // the same, line by line
 pub mod rows; // what has an address in it
 pub mod placing_line; // the line that placed cells
 mod heads; // what the lines have besides the source
+pub mod pages; // a text that goes to a sink a page after the other
 pub mod writing; // the listing, written as it is made
 pub mod symbol_table; // each label with its address, its length and its line
 mod cross_reference; // the lines that name each label

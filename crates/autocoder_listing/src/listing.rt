@@ -1,24 +1,22 @@
 //! The listing of a source: its lines with the addresses and the cells that they stand for.
-ghost use Rattle.std.specs.Prelude.{◌≡◌, ◌∷◌, ◌++◌, ◌<◌, [], length, drop, codes, Some, None, IfOk, IfErr, OnOk};
-ghost use Rattle.autocoder_statements.specs.Description.{describe};
+ghost use Rattle.std.specs.Prelude.{◌≡◌, ◌∷◌, ◌++◌, ◌<◌, [], length, drop, codes, Some, None, IsTrue, IfOk, IfErr, OnOk};
+ghost use Rattle.bytes_text.specs.Written.{Adds};
 ghost use Rattle.autocoder_symbols.specs.Fault.{IsMemory};
-ghost use Rattle.autocoder_placing.specs.Cells.{literal_cells, contents_cells};
+ghost use Rattle.autocoder_placing.specs.Cells.{literal_cells};
 ghost use Rattle.autocoder_placing.specs.Literals.{key_of};
-ghost use Rattle.autocoder_placing.specs.Placement.{point_value, start_of};
+ghost use Rattle.autocoder_placing.specs.Placement.{start_of};
 ghost use Rattle.autocoder_placing.specs.View.{places_of};
 ghost use Rattle.autocoder_listing.specs.Listing.{listing_line, literal_spelling, literal_lines, literals_by};
-ghost use Rattle.autocoder_listing.specs.Listing.{placed_for};
-ghost use Rattle.autocoder_listing.specs.Listing.{number_text, address_text, characters_text, address_shown};
-ghost use Rattle.autocoder_listing.specs.Listing.{literals_in};
-ghost use Rattle.autocoder_listing.specs.Listing.{line_for};
+ghost use Rattle.autocoder_listing.specs.Listing.{placed_for, number_text, address_text, address_shown, cells_at};
+ghost use Rattle.autocoder_listing.specs.Listing.{characters_text, literals_in, line_for, without_last_blanks};
 
 use crate::printing::{
-    cut_last_blanks, put_address, put_characters, put_literal_spelling, put_number,
+    characters_of, cut_last_blanks, put_address, put_literal_spelling, put_number,
 };
 use autocoder_placing::{LiteralKey, Placing, put_contents, put_literal};
-use autocoder_statements::{Addressing, Body, Description, Line, Literal, Next};
+use autocoder_statements::{Addressing, Line, Literal, Next, Statement};
 use autocoder_symbols::{AsmFault, Lines, checked_sum};
-use bcd_1401::Cell;
+use bytes_text::Text;
 use std::alloc::Global;
 use std::marker::Model;
 
@@ -78,45 +76,47 @@ pub(crate) struct WrittenLine<'s> {
     pub text: &'s [u8],
 }
 
-/// Adds the number of a line of the source, an address, cells and the line itself.
-fn put_columns(
-    text: &mut Vec<u8>,
-    number: Option<u64>,
-    address: Option<i64>,
-    cells: &[Cell],
-    source: &[u8],
-) -> Result<(), AsmFault>
-    ensures ok { OnOk result (text.new.items ≡ text.old.items
-        ++ (number_text number ++ codes " " ++ address_text address ++ codes " " ++ characters_text cells.now
-        ++ codes " " ++ source.now)) }
-    ensures err { IfErr result IsMemory }
+/// Adds what precedes the line of the source: a number, an address and characters.
+fn put_columns(text: &mut Text, number: Option<u64>, address: Option<i64>, characters: &[u8; 8])
+    ensures { Adds text.old text.new
+        (number_text number ++ codes " " ++ address_text address ++ codes " " ++ characters.now ++ codes " ") }
 {
-    put_number(text, number)?;
-    text.push(b' ')?;
-    put_address(text, address)?;
-    text.push(b' ')?;
-    put_characters(text, cells)?;
-    text.push(b' ')?;
-    text.extend_from_slice(source)?;
-    Ok(())
+    put_number(text, number);
+    text.put(b" ");
+    put_address(text, address);
+    text.put(b" ");
+    text.put(characters);
+    text.put(b" ");
 }
 
-/// A line with the number of a line of the source, an address and cells.
-#[tactic(auto, unfolding(crate::specs::Listing::listing_line))]
-fn listing_line(
-    alloc: Global,
-    number: Option<u64>,
-    address: Option<i64>,
-    cells: &[Cell],
-    source: &[u8],
-) -> Result<ListingLine, AsmFault>
-    ensures ok { IfOk result (λ line. line ≡ listing_line number address cells.now source.now) }
+/// The line of a text, which has no blanks at its end.
+fn line_of(text: Text) -> Result<ListingLine, AsmFault>
+    ensures ok { IfOk result (λ line. IsTrue text.is_whole × (line ≡ without_last_blanks text.items)) }
     ensures err { IfErr result IsMemory }
 {
-    let mut text = Vec::new(alloc);
-    put_columns(&mut text, number, address, cells, source)?;
+    let mut text = text.into_bytes()?;
     cut_last_blanks(&mut text);
     Ok(ListingLine { text })
+}
+
+/// The line of a literal that is placed at a place.
+#[tactic(auto, unfolding(crate::specs::Listing::listing_line))]
+pub(crate) fn literal_line(
+    alloc: Global,
+    all: &Placing<'_>,
+    from: i64,
+    literal: Literal,
+) -> Result<ListingLine, AsmFault>
+    ensures ok { IfOk result (λ line. line ≡ listing_line None (Some from)
+        (literal_cells (places_of all.now) (key_of literal)) (literal_spelling literal)) }
+    ensures err { IfErr result IsMemory }
+{
+    let mut cells = Vec::new(alloc);
+    put_literal(all, LiteralKey::from_literal(literal), &mut cells)?;
+    let mut text = Text::new(alloc);
+    put_columns(&mut text, None, Some(from), &characters_of(&cells));
+    put_literal_spelling(&mut text, literal);
+    line_of(text)
 }
 
 /// Adds the lines of the literals that are used here from one on, placed one after the other from a place on.
@@ -141,24 +141,6 @@ fn put_literal_lines(
     Ok(())
 }
 
-/// The line of a literal that is placed at a place.
-pub(crate) fn literal_line(
-    alloc: Global,
-    all: &Placing<'_>,
-    from: i64,
-    literal: Literal,
-) -> Result<ListingLine, AsmFault>
-    ensures ok { IfOk result (λ line. line ≡ listing_line None (Some from)
-        (literal_cells (places_of all.now) (key_of literal)) (literal_spelling literal)) }
-    ensures err { IfErr result IsMemory }
-{
-    let mut cells = Vec::new(alloc);
-    put_literal(all, LiteralKey::from_literal(literal), &mut cells)?;
-    let mut source = Vec::new(alloc);
-    put_literal_spelling(&mut source, literal)?;
-    listing_line(alloc, None, Some(from), &cells, &source)
-}
-
 /// The first of the literals that a statement with this effect on the location counter places: they are all that are
 /// used here from this one on.
 pub(crate) fn first_literal(so_far: &Placing<'_>, next: Next) -> usize
@@ -170,60 +152,59 @@ pub(crate) fn first_literal(so_far: &Placing<'_>, next: Next) -> usize
     }
 }
 
-/// The address of a statement here with this row, by the values of all labels.
-fn address_at<'a>(
-    all: &Placing<'a>,
-    so_far: &Placing<'a>,
-    row: &Description,
-) -> Result<i64, AsmFault>
-    ensures value { IfOk result (λ at. at ≡ point_value
-        (placed_for (places_of all.now) (places_of so_far.now) row.now.addressing) (places_of so_far.now) row.now
-        row.now.shows) }
-    ensures err { IfErr result IsMemory }
+/// What the line of a statement shows besides the source.
+#[derive(Clone, Copy)]
+pub(crate) struct Shown {
+    /// The address, if it shows one.
+    pub address: Option<i64>,
+    /// The graphics of the first eight cells, with blanks after them if there are fewer.
+    pub characters: [u8; 8],
+}
+
+/// What is placed by the lines whose labels an operand may name.
+fn placed_for<'p, 'a>(
+    all: &'p Placing<'a>,
+    so_far: &'p Placing<'a>,
+    addressing: Addressing,
+) -> &'p Placing<'a>
+    ensures { places_of result.now ≡ placed_for (places_of all.now) (places_of so_far.now) addressing }
 {
-    match row.addressing {
-        Addressing::Equal(_) | Addressing::Value(_) | Addressing::Entry(_) => {
-            so_far.point_value(all, row, row.shows)
-        },
-        Addressing::Nothing | Addressing::Addresses(_) | Addressing::EarlierValue(_) => {
-            so_far.point_value(so_far, row, row.shows)
-        },
+    match addressing {
+        Addressing::Equal(_) | Addressing::Value(_) | Addressing::Entry(_) => all,
+        Addressing::Nothing | Addressing::Addresses(_) | Addressing::EarlierValue(_) => so_far,
     }
 }
 
-/// The address that the line of a statement here with this row shows, if it shows one.
-pub(crate) fn address_shown<'a>(
-    all: &Placing<'a>,
-    so_far: &Placing<'a>,
-    body: &Body,
-    row: &Description,
-) -> Result<Option<i64>, AsmFault>
-    requires { row.now ≡ describe body.now }
-    ensures value { IfOk result (λ at. at ≡ address_shown (places_of all.now) (places_of so_far.now) body.now) }
-    ensures err { IfErr result IsMemory }
-{
-    if row.is_remark {
-        return Ok(None);
-    }
-    let address = address_at(all, so_far, row)?;
-    Ok(Some(address))
-}
-
-/// The cells that the line of a statement here with this row shows, with these lines after it.
-pub(crate) fn cells_at(
+/// What the line of a statement here shows, with these lines after it.
+pub(crate) fn shown_by<'a>(
     alloc: Global,
-    all: &Placing<'_>,
-    so_far: &Placing<'_>,
-    row: &Description,
+    all: &Placing<'a>,
+    so_far: &Placing<'a>,
+    statement: &Statement,
     lines: &Lines<'_>,
-) -> Result<Vec<Cell>, AsmFault>
-    ensures ok { IfOk result (λ cells. cells.items
-        ≡ contents_cells (places_of all.now) (places_of so_far.now) row.now.contents lines.now) }
+) -> Result<Shown, AsmFault>
+    ensures address { IfOk result (λ shown.
+        shown.address ≡ address_shown (places_of all.now) (places_of so_far.now) statement.now.body) }
+    ensures characters { IfOk result (λ shown. shown.characters
+        ≡ characters_text (cells_at (places_of all.now) (places_of so_far.now) statement.now.body lines.now)) }
     ensures err { IfErr result IsMemory }
 {
+    let row = statement.body.describe();
     let mut cells = Vec::new(alloc);
     put_contents(alloc, all, so_far, &row.contents, lines, &mut cells)?;
-    Ok(cells)
+    let characters = characters_of(&cells);
+    if row.is_remark {
+        return Ok(Shown {
+            address: None,
+            characters,
+        });
+    }
+    let by = placed_for(all, so_far, row.addressing);
+    let address = so_far.point_value(by, &row, row.shows)?;
+    Ok(Shown {
+        address: Some(address),
+        characters,
+    })
 }
 
 /// Adds the lines of the literals that a line here places.
@@ -248,7 +229,25 @@ fn put_literals_of(
     put_literal_lines(alloc, all, from, so_far, first, lines)
 }
 
+/// The line for a line of the source with an address and characters.
+fn source_line(
+    alloc: Global,
+    source: WrittenLine<'_>,
+    address: Option<i64>,
+    characters: &[u8; 8],
+) -> Result<ListingLine, AsmFault>
+    ensures ok { IfOk result (λ line. line ≡ without_last_blanks (number_text (Some source.entry.number) ++ codes " "
+        ++ address_text address ++ codes " " ++ characters.now ++ codes " " ++ source.entry.text.now)) }
+    ensures err { IfErr result IsMemory }
+{
+    let mut text = Text::new(alloc);
+    put_columns(&mut text, Some(source.number), address, characters);
+    text.put(source.text);
+    line_of(text)
+}
+
 /// The line of the listing for a line of the source here, with these lines after it.
+#[tactic(auto, unfolding(crate::specs::Listing::listing_line))]
 fn line_for<'a>(
     alloc: Global,
     all: &Placing<'a>,
@@ -264,12 +263,10 @@ fn line_for<'a>(
 {
     match &line.statement {
         Some(statement) => {
-            let row = statement.body.describe();
-            let address = address_shown(all, so_far, &statement.body, &row)?;
-            let cells = cells_at(alloc, all, so_far, &row, beyond)?;
-            listing_line(alloc, Some(source.number), address, &cells, source.text)
-        },
-        None => listing_line(alloc, Some(source.number), None, &[], source.text),
+            let shown = shown_by(alloc, all, so_far, statement, beyond)?;
+            source_line(alloc, source, shown.address, &shown.characters)
+        }
+        None => source_line(alloc, source, None, &characters_of(&[])),
     }
 }
 

@@ -6,8 +6,8 @@ ghost use Rattle.autocoder_placing.specs.View.{places_of};
 ghost use Rattle.autocoder_listing.specs.Listing.{characters_text};
 ghost use Rattle.autocoder_listing.specs.Rows.{last_at, line_of, listed, rows_from, rows_of, IsLastAt};
 
-use crate::printing::SHOWN_CELLS;
-use crate::rows::{Row, characters_of, is_at, row_of};
+use crate::printing::{SHOWN_CELLS, characters_of};
+use crate::rows::{Row, is_at, row_of};
 use autocoder_placing::Placing;
 use autocoder_symbols::{AsmFault, Lines};
 use bcd_1401::Cell;
@@ -54,23 +54,6 @@ fn last_of_lines<'a>(
     Ok(found)
 }
 
-/// The number of the last of all lines that shows these characters at a place, once all is placed.
-fn last_shown(
-    alloc: Global,
-    all: &Placing<'_>,
-    lines: &Lines<'_>,
-    at: u16,
-    characters: &[u8; 8],
-) -> Result<Option<u64>, AsmFault>
-    requires few { length lines.now < 2 ^ 32 }
-    requires placed { places_of all.now ≡ placed lines.now }
-    ensures ok { IfOk result (λ number. number ≡ last_at at characters.now None (rows_of lines.now)) }
-    ensures err { IfErr result IsMemory }
-{
-    let mut so_far = all.again(alloc);
-    last_of_lines(alloc, all, &mut so_far, lines, at, characters)
-}
-
 /// The number of the last line that placed these cells at a place, if there is one, as `Rows::line_of` finds it in the
 /// rows. A line shows eight characters, so there is none for more cells.
 ///
@@ -112,6 +95,6 @@ fn shown_line(
     if cells.len() > SHOWN_CELLS {
         return Ok(None);
     }
-    let characters = characters_of(alloc, cells)?;
-    last_shown(alloc, all, lines, at, &characters)
+    let mut so_far = all.again(alloc);
+    last_of_lines(alloc, all, &mut so_far, lines, at, &characters_of(cells))
 }

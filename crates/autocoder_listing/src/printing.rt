@@ -1,107 +1,73 @@
 //! The text of a line of the listing.
-ghost use Rattle.std.specs.Prelude.{◌≡◌, ◌+◌, ◌<◌, ◌≤◌, ◌-◌, ◌++◌, length, map, replicate, vec_capacity, IfErr, OnOk, OnErr};
+ghost use Rattle.std.specs.Prelude.{◌≡◌, ◌<◌, ◌≤◌, ◌-◌, ◌++◌, length, slice_index_or, vec_capacity, codes};
 ghost use Rattle.std.specs.List.{suffix_len};
 ghost use Rattle.autocoder_statements.specs.SourceLine.{is_blank};
-ghost use Rattle.machine_notation.specs.Digits.{digits_in};
-ghost use Rattle.autocoder_symbols.specs.Fault.{IsMemory};
-ghost use Rattle.autocoder_listing.specs.Listing.{most_digits, number_text, address_text, graphic_of, characters_text};
+ghost use Rattle.bytes_text.specs.Written.{Adds};
+ghost use Rattle.autocoder_listing.specs.Listing.{blank, number_text, address_text, graphic_of, characters_text};
 ghost use Rattle.autocoder_listing.specs.Listing.{without_last_blanks, spelling, base_spelling, sign_spelling};
 ghost use Rattle.autocoder_listing.specs.Listing.{adjustment_spelling, index_spelling, literal_spelling};
 
 use autocoder_statements::{Base, Constant, Label, Literal};
-use autocoder_symbols::AsmFault;
 use bcd_1401::Cell;
-use machine_notation::put_digits;
+use bytes_text::Text;
 
 /// How many digits the number of a line has at the least.
-const NUMBER_DIGITS: u8 = 4;
+pub(crate) const NUMBER_DIGITS: u8 = 4;
 
 /// How many digits an address has.
-const ADDRESS_DIGITS: u8 = 5;
+pub(crate) const ADDRESS_DIGITS: u8 = 5;
 
 /// The most cells that a line shows.
 pub(crate) const SHOWN_CELLS: usize = 8;
 
-/// Adds blanks, as many as are asked for.
-fn put_blanks(text: &mut Vec<u8>, count: usize) -> Result<(), AsmFault>
-    ensures ok { OnOk result (text.new.items ≡ text.old.items ++ replicate count 32) }
-    ensures err { IfErr result IsMemory }
-{
-    let mut done = 0;
-    while done < count {
-        text.push(b' ')?;
-        done += 1;
-    }
-    Ok(())
-}
-
-/// Adds a number with leading zeros up to the width: no more than 20 digits.
-#[tactic(auto, using(crate::proofs::DigitsLemmas::few_added, crate::proofs::DigitsLemmas::few_lacking))]
-fn put_few_digits(text: &mut Vec<u8>, width: u8, number: u64) -> Result<(), AsmFault>
-    requires { width ≤ most_digits }
-    ensures ok { OnOk result (text.new.items ≡ text.old.items ++ digits_in width number) }
-    ensures few { OnOk result (length text.new.items ≤ length text.old.items + most_digits) }
-    ensures full { OnErr result (vec_capacity text.old < length text.old.items + most_digits) }
-    ensures capacity { vec_capacity text.old ≤ vec_capacity text.new }
-    ensures err { IfErr result IsMemory }
-{
-    put_digits(text, width, number)?;
-    Ok(())
-}
-
 /// Adds the number of a line of the source, or blanks for a line that isn't there.
 #[tactic(auto, unfolding(crate::specs::Listing::number_text))]
-pub(crate) fn put_number(text: &mut Vec<u8>, number: Option<u64>) -> Result<(), AsmFault>
-    ensures ok { OnOk result (text.new.items ≡ text.old.items ++ number_text number) }
-    ensures few { OnOk result (length text.new.items ≤ length text.old.items + most_digits) }
-    ensures full { OnErr result (vec_capacity text.old < length text.old.items + most_digits) }
-    ensures capacity { vec_capacity text.old ≤ vec_capacity text.new }
-    ensures err { IfErr result IsMemory }
+pub(crate) fn put_number(text: &mut Text, number: Option<u64>)
+    ensures { Adds text.old text.new (number_text number) }
 {
     match number {
-        Some(number) => put_few_digits(text, NUMBER_DIGITS, number)?,
-        None => text.extend_from_slice(b"    ")?,
+        Some(number) => text.put_number(NUMBER_DIGITS, number),
+        None => text.put(b"    "),
     }
-    Ok(())
 }
 
 /// Adds an address, or blanks for a line that has none.
 #[tactic(auto, unfolding(crate::specs::Listing::address_text))]
-pub(crate) fn put_address(text: &mut Vec<u8>, address: Option<i64>) -> Result<(), AsmFault>
-    ensures ok { OnOk result (text.new.items ≡ text.old.items ++ address_text address) }
-    ensures few { OnOk result (length text.new.items ≤ length text.old.items + most_digits) }
-    ensures full { OnErr result (vec_capacity text.old < length text.old.items + most_digits) }
-    ensures capacity { vec_capacity text.old ≤ vec_capacity text.new }
-    ensures err { IfErr result IsMemory }
+pub(crate) fn put_address(text: &mut Text, address: Option<i64>)
+    ensures { Adds text.old text.new (address_text address) }
 {
     match address {
-        Some(address) => put_few_digits(text, ADDRESS_DIGITS, address.unsigned_abs())?,
-        None => text.extend_from_slice(b"     ")?,
+        Some(address) => text.put_number(ADDRESS_DIGITS, address.unsigned_abs()),
+        None => text.put(b"     "),
     }
-    Ok(())
 }
 
-/// Adds cells by their graphics.
-fn put_graphics(text: &mut Vec<u8>, cells: &[Cell]) -> Result<(), AsmFault>
-    ensures ok { OnOk result (text.new.items ≡ text.old.items ++ map graphic_of cells.now) }
-    ensures err { IfErr result IsMemory }
+/// The graphic of the cell at a place; a blank if there are fewer.
+fn graphic_at(cells: &[Cell], place: usize) -> u8
+    ensures { result ≡ graphic_of (slice_index_or cells.now place blank) }
 {
-    for cell in cells {
-        text.push(cell.char.graphic())?;
+    if place < cells.len() {
+        cells[place].char.graphic()
+    } else {
+        Cell::BLANK.char.graphic()
     }
-    Ok(())
 }
 
-/// Adds the first eight cells by their graphics, with blanks after them if there are fewer.
-#[tactic(auto, unfolding(crate::specs::Listing::characters_text))]
-pub(crate) fn put_characters(text: &mut Vec<u8>, cells: &[Cell]) -> Result<(), AsmFault>
-    ensures ok { OnOk result (text.new.items ≡ text.old.items ++ characters_text cells.now) }
-    ensures err { IfErr result IsMemory }
+/// The first eight cells by their graphics, with blanks after them if there are fewer.
+#[tactic(auto, using(crate::proofs::RowsLemmas::first_eight))]
+pub(crate) fn characters_of(cells: &[Cell]) -> [u8; 8]
+    ensures { result ≡ characters_text cells.now }
 {
-    let shown = &cells[..cells.len().min(SHOWN_CELLS)];
-    put_graphics(text, shown)?;
-    put_blanks(text, SHOWN_CELLS - shown.len())?;
-    Ok(())
+    [
+        graphic_at(cells, 0),
+        graphic_at(cells, 1),
+        graphic_at(cells, 2),
+        graphic_at(cells, 3),
+        graphic_at(cells, 4),
+        graphic_at(cells, 5),
+        graphic_at(cells, 6),
+        graphic_at(cells, 7),
+    ]
 }
 
 /// Cuts off the blanks at the end of a text.
@@ -128,117 +94,103 @@ pub(crate) fn len_without_last_blanks(text: &[u8]) -> usize
 
 /// Adds a constant as a source writes it.
 #[tactic(auto, unfolding(crate::specs::Listing::spelling))]
-fn put_spelling(text: &mut Vec<u8>, constant: Constant) -> Result<(), AsmFault>
-    ensures ok { OnOk result (text.new.items ≡ text.old.items ++ spelling constant) }
-    ensures err { IfErr result IsMemory }
+fn put_spelling(text: &mut Text, constant: Constant)
+    ensures { Adds text.old text.new (spelling constant) }
 {
     match constant {
         Constant::Text(letters) => {
-            text.push(b'@')?;
-            text.extend_from_slice(letters.as_slice())?;
-            text.push(b'@')?;
-        },
-        Constant::Number(digits) => text.extend_from_slice(digits.as_slice())?,
+            text.put(b"@");
+            text.put(letters.as_slice());
+            text.put(b"@");
+        }
+        Constant::Number(digits) => text.put(digits.as_slice()),
         Constant::Plus(digits) => {
-            text.push(b'+')?;
-            text.extend_from_slice(digits.as_slice())?;
-        },
+            text.put(b"+");
+            text.put(digits.as_slice());
+        }
         Constant::Minus(digits) => {
-            text.push(b'-')?;
-            text.extend_from_slice(digits.as_slice())?;
-        },
+            text.put(b"-");
+            text.put(digits.as_slice());
+        }
         Constant::Blanks(count) => {
-            text.push(b'#')?;
-            put_digits(text, 1, u64::from(count))?;
-        },
+            text.put(b"#");
+            text.put_number(1, u64::from(count));
+        }
     }
-    Ok(())
 }
 
 /// Adds a label without the blanks at its end.
 #[tactic(auto, unfolding(crate::specs::Listing::without_last_blanks))]
-fn put_label(text: &mut Vec<u8>, label: Label) -> Result<(), AsmFault>
-    ensures ok { OnOk result (text.new.items ≡ text.old.items ++ without_last_blanks label.text) }
-    ensures err { IfErr result IsMemory }
+fn put_label(text: &mut Text, label: Label)
+    ensures { Adds text.old text.new (without_last_blanks label.text) }
 {
     let count = len_without_last_blanks(&label.text);
-    text.extend_from_slice(&label.text[..count])?;
-    Ok(())
+    text.put(&label.text[..count]);
 }
 
 /// Adds what an address is counted from, as a source writes it.
 #[tactic(auto, unfolding(crate::specs::Listing::base_spelling))]
-fn put_base(text: &mut Vec<u8>, base: Base) -> Result<(), AsmFault>
-    ensures ok { OnOk result (text.new.items ≡ text.old.items ++ base_spelling base) }
-    ensures err { IfErr result IsMemory }
+fn put_base(text: &mut Text, base: Base)
+    ensures { Adds text.old text.new (base_spelling base) }
 {
     match base {
-        Base::Number(number) => put_digits(text, 1, u64::from(number))?,
-        Base::Symbol(label) => put_label(text, label)?,
-        Base::Here => text.push(b'*')?,
+        Base::Number(number) => text.put_number(1, u64::from(number)),
+        Base::Symbol(label) => put_label(text, label),
+        Base::Here => text.put(b"*"),
         Base::Register(number) => {
-            text.push(b'X')?;
-            put_digits(text, 1, u64::from(number))?;
-        },
-        Base::NextHundred => text.extend_from_slice(b"*+X00")?,
+            text.put(b"X");
+            text.put_number(1, u64::from(number));
+        }
+        Base::NextHundred => text.put(b"*+X00"),
     }
-    Ok(())
 }
 
 /// Adds a sign.
-fn put_sign(text: &mut Vec<u8>, is_negative: bool) -> Result<(), AsmFault>
-    ensures ok { OnOk result (text.new.items ≡ text.old.items ++ sign_spelling is_negative) }
-    ensures err { IfErr result IsMemory }
+fn put_sign(text: &mut Text, is_negative: bool)
+    ensures { Adds text.old text.new (sign_spelling is_negative) }
 {
-    text.push(if is_negative { b'-' } else { b'+' })?;
-    Ok(())
+    text.put(if is_negative { b"-" } else { b"+" });
 }
 
 /// Adds an adjustment, but for 0.
 #[tactic(auto, unfolding(crate::specs::Listing::adjustment_spelling))]
-fn put_adjustment(text: &mut Vec<u8>, adjustment: i32) -> Result<(), AsmFault>
-    ensures ok { OnOk result (text.new.items ≡ text.old.items ++ adjustment_spelling adjustment) }
-    ensures err { IfErr result IsMemory }
+fn put_adjustment(text: &mut Text, adjustment: i32)
+    ensures { Adds text.old text.new (adjustment_spelling adjustment) }
 {
     if adjustment != 0 {
-        put_sign(text, adjustment < 0)?;
-        put_digits(text, 1, u64::from(adjustment.unsigned_abs()))?;
+        put_sign(text, adjustment < 0);
+        text.put_number(1, u64::from(adjustment.unsigned_abs()));
     }
-    Ok(())
 }
 
 /// Adds an index register, or that there is none, if it is named.
 #[tactic(auto, unfolding(crate::specs::Listing::index_spelling))]
-fn put_index(text: &mut Vec<u8>, index: Option<u8>) -> Result<(), AsmFault>
-    ensures ok { OnOk result (text.new.items ≡ text.old.items ++ index_spelling index) }
-    ensures err { IfErr result IsMemory }
+fn put_index(text: &mut Text, index: Option<u8>)
+    ensures { Adds text.old text.new (index_spelling index) }
 {
     if let Some(index) = index {
-        text.extend_from_slice(b"+X")?;
-        put_digits(text, 1, u64::from(index))?;
+        text.put(b"+X");
+        text.put_number(1, u64::from(index));
     }
-    Ok(())
 }
 
 /// Adds a literal as a source writes it.
 #[tactic(auto, unfolding(crate::specs::Listing::literal_spelling))]
-pub(crate) fn put_literal_spelling(text: &mut Vec<u8>, literal: Literal) -> Result<(), AsmFault>
-    ensures ok { OnOk result (text.new.items ≡ text.old.items ++ literal_spelling literal) }
-    ensures err { IfErr result IsMemory }
+pub(crate) fn put_literal_spelling(text: &mut Text, literal: Literal)
+    ensures { Adds text.old text.new (literal_spelling literal) }
 {
     match literal {
-        Literal::Constant(constant) => put_spelling(text, constant)?,
+        Literal::Constant(constant) => put_spelling(text, constant),
         Literal::Address(literal) => {
-            put_sign(text, literal.is_negative)?;
-            put_base(text, literal.address.base)?;
-            put_adjustment(text, literal.address.adjustment)?;
-            put_index(text, literal.address.index)?;
-        },
+            put_sign(text, literal.is_negative);
+            put_base(text, literal.address.base);
+            put_adjustment(text, literal.address.adjustment);
+            put_index(text, literal.address.index);
+        }
         Literal::Area(literal) => {
-            put_label(text, literal.label)?;
-            text.push(b'#')?;
-            put_digits(text, 1, u64::from(literal.places))?;
-        },
+            put_label(text, literal.label);
+            text.put(b"#");
+            text.put_number(1, u64::from(literal.places));
+        }
     }
-    Ok(())
 }

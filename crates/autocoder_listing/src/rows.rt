@@ -8,10 +8,10 @@ ghost use Rattle.autocoder_listing.specs.Listing.{characters_text};
 ghost use Rattle.autocoder_listing.specs.Rows.{row_of, listed, rows_from, rows_of, is_at, last_at, line_of};
 ghost use Rattle.autocoder_listing.specs.Rows.{IsLastAt};
 
-use crate::listing::{address_shown, cells_at};
-use crate::printing::{SHOWN_CELLS, put_characters};
+use crate::listing::{Shown, shown_by};
+use crate::printing::{SHOWN_CELLS, characters_of};
 use autocoder_placing::Placing;
-use autocoder_statements::{Line, Statement};
+use autocoder_statements::Line;
 use autocoder_symbols::{AsmFault, Lines};
 use bcd_1401::Cell;
 use std::alloc::Global;
@@ -43,64 +43,7 @@ impl Model for Rows {
     ghost view = { λ rows. rows.rows.items };
 }
 
-/// These eight bytes.
-fn eight(text: &[u8]) -> [u8; 8]
-    requires { length text.now ≡ 8 }
-    ensures { result ≡ text.now }
-{
-    let mut characters = [b' '; 8];
-    characters.copy_from_slice(text);
-    characters
-}
-
-/// The text that a line shows of cells.
-#[tactic(auto, using(crate::proofs::RowsLemmas::eight_characters))]
-fn text_of(alloc: Global, cells: &[Cell]) -> Result<Vec<u8>, AsmFault>
-    ensures ok { IfOk result (λ text. text.items ≡ characters_text cells.now) }
-    ensures len { IfOk result (λ text. length text.items ≡ 8) }
-    ensures err { IfErr result IsMemory }
-{
-    let mut text = Vec::new(alloc);
-    put_characters(&mut text, cells)?;
-    Ok(text)
-}
-
-/// The characters that a line shows of cells.
-pub(crate) fn characters_of(alloc: Global, cells: &[Cell]) -> Result<[u8; 8], AsmFault>
-    ensures ok { IfOk result (λ characters. characters ≡ characters_text cells.now) }
-    ensures err { IfErr result IsMemory }
-{
-    let text = text_of(alloc, cells)?;
-    Ok(eight(text.as_slice()))
-}
-
-/// The row of a statement here on the line of this number, with these lines after it, if its line shows an address.
-fn row_with<'a>(
-    alloc: Global,
-    all: &Placing<'a>,
-    so_far: &Placing<'a>,
-    number: u64,
-    statement: &Statement,
-    beyond: &Lines<'_>,
-) -> Result<Option<Row>, AsmFault>
-    ensures ok { IfOk result (λ row. row
-        ≡ row_of (places_of all.now) (places_of so_far.now) number (Some statement.now) beyond.now) }
-    ensures err { IfErr result IsMemory }
-{
-    let row = statement.body.describe();
-    let Some(address) = address_shown(all, so_far, &statement.body, &row)? else {
-        return Ok(None);
-    };
-    let cells = cells_at(alloc, all, so_far, &row, beyond)?;
-    let characters = characters_of(alloc, &cells)?;
-    Ok(Some(Row {
-        number,
-        address,
-        characters,
-    }))
-}
-
-/// The row of a line here of this number, with these lines after it, if it has one.
+/// The row of a line here of this number, with these lines after it, if it shows an address.
 pub(crate) fn row_of<'a>(
     alloc: Global,
     all: &Placing<'a>,
@@ -113,8 +56,19 @@ pub(crate) fn row_of<'a>(
         ≡ row_of (places_of all.now) (places_of so_far.now) number line.now.statement beyond.now) }
     ensures err { IfErr result IsMemory }
 {
-    match &line.statement {
-        Some(statement) => row_with(alloc, all, so_far, number, statement, beyond),
+    let Some(statement) = &line.statement else {
+        return Ok(None);
+    };
+    let Shown {
+        address,
+        characters,
+    } = shown_by(alloc, all, so_far, statement, beyond)?;
+    match address {
+        Some(address) => Ok(Some(Row {
+            number,
+            address,
+            characters,
+        })),
         None => Ok(None),
     }
 }
@@ -209,8 +163,8 @@ impl Rows {
     ///
     /// # Errors
     ///
-    /// `Memory` if there is no room for the characters.
-    pub fn line_of(&self, alloc: Global, at: u16, cells: &[Cell]) -> Result<Option<u64>, AsmFault>
+    /// None: no memory is asked for.
+    pub fn line_of(&self, _alloc: Global, at: u16, cells: &[Cell]) -> Result<Option<u64>, AsmFault>
         ensures ok { IfOk result (λ number. number ≡ line_of self.now at cells.now) }
 
         // It is the last line that shows these characters at the place, of the lines whose rows these are.
@@ -218,19 +172,16 @@ impl Rows {
             → IfOk result (λ number. IfSome number (IsLastAt lines at (characters_text cells.now))) }
         ensures err { IfErr result IsMemory }
     {
-        let number = self.number_of(alloc, at, cells)?;
-        Ok(number)
+        Ok(self.number_of(at, cells))
     }
 
     /// The number of the last row that shows these cells at a place, if there is one.
-    fn number_of(&self, alloc: Global, at: u16, cells: &[Cell]) -> Result<Option<u64>, AsmFault>
-        ensures ok { IfOk result (λ number. number ≡ line_of self.now at cells.now) }
-        ensures err { IfErr result IsMemory }
+    fn number_of(&self, at: u16, cells: &[Cell]) -> Option<u64>
+        ensures { result ≡ line_of self.now at cells.now }
     {
         if cells.len() > SHOWN_CELLS {
-            return Ok(None);
+            return None;
         }
-        let characters = characters_of(alloc, cells)?;
-        Ok(last_at(self.rows.as_slice(), at, &characters))
+        last_at(self.rows.as_slice(), at, &characters_of(cells))
     }
 }

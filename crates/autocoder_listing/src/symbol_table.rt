@@ -1,10 +1,11 @@
 //! The symbol table of a source: each label with its address, the length of what it names, and its line.
 ghost use Rattle.std.specs.Prelude.{◌≡◌, ◌<◌, ◌^◌, ◌++◌, length, IfOk, IfErr, OnOk};
 ghost use Rattle.std.specs.List.{flat_map};
+ghost use Rattle.bytes_text.specs.Written.{Adds};
 ghost use Rattle.autocoder_symbols.specs.Fault.{IsMemory};
-ghost use Rattle.autocoder_placing.specs.Placement.{placed, unplaced};
+ghost use Rattle.autocoder_placing.specs.Placement.{placed};
 ghost use Rattle.autocoder_placing.specs.View.{places_of};
-ghost use Rattle.autocoder_listing.specs.SymbolTable.{span_length, length_named, symbol_with, symbol_at, listed};
+ghost use Rattle.autocoder_listing.specs.SymbolTable.{span_length, length_named, symbol_at, listed};
 ghost use Rattle.autocoder_listing.specs.SymbolTable.{second_area, area_symbols, symbols_at, symbols_from, symbols_in};
 ghost use Rattle.autocoder_listing.specs.SymbolTable.{length_text};
 ghost use Rattle.autocoder_listing.specs.SymbolTable.{shown_value, symbol_line};
@@ -12,10 +13,10 @@ ghost use Rattle.autocoder_listing.specs.SymbolTable.{shown_value, symbol_line};
 use crate::printing::put_address;
 use autocoder_placing::{LiteralKey, Placing, contents_length};
 use autocoder_statements::{
-    AreaLiteral, AreaRole, Description, Label, LabelField, Line, Literal, Point, Span, Statement,
+    AreaLiteral, AreaRole, Description, Label, LabelField, Line, Literal, Point, Span,
 };
 use autocoder_symbols::{AsmFault, Lines};
-use machine_notation::put_digits;
+use bytes_text::Text;
 use std::alloc::Global;
 
 /// How many digits a length has.
@@ -58,49 +59,33 @@ fn length_named(row: &Description) -> Option<u32>
     }
 }
 
-/// The symbol that a statement on the line of this number declares, once all is placed.
-fn symbol_with(
+/// Adds the symbol that the line of this number declares, if it declares one, once all is placed.
+fn put_symbol(
     all: &Placing<'_>,
     number: u64,
-    statement: Statement,
-) -> Result<Option<Symbol>, AsmFault>
-    ensures symbol { IfOk result (λ symbol. symbol ≡ symbol_with (places_of all.now) number statement) }
+    line: &Line,
+    symbols: &mut Vec<Symbol>,
+) -> Result<(), AsmFault>
+    ensures ok { OnOk result (symbols.new.items
+        ≡ symbols.old.items ++ listed (symbol_at (places_of all.now) number line.now.statement)) }
     ensures err { IfErr result IsMemory }
 {
+    let Some(statement) = &line.statement else {
+        return Ok(());
+    };
     match statement.label {
         LabelField::Label(label) => {
             let value = all.symbol(label)?.value;
-            Ok(Some(Symbol {
+            symbols.push(Symbol {
                 label,
                 value,
                 length: length_named(&statement.body.describe()),
                 line: number,
-            }))
-        },
-        LabelField::Absent | LabelField::Malformed => Ok(None),
+            })?;
+            Ok(())
+        }
+        LabelField::Absent | LabelField::Malformed => Ok(()),
     }
-}
-
-/// The symbol that the line of this number declares, once all is placed.
-fn symbol_at(all: &Placing<'_>, number: u64, line: &Line) -> Result<Option<Symbol>, AsmFault>
-    ensures symbol { IfOk result (λ symbol. symbol ≡ symbol_at (places_of all.now) number line.now.statement) }
-    ensures err { IfErr result IsMemory }
-{
-    match line.statement {
-        Some(statement) => symbol_with(all, number, statement),
-        None => Ok(None),
-    }
-}
-
-/// Adds a symbol, if there is one.
-fn put_symbol(symbols: &mut Vec<Symbol>, symbol: Option<Symbol>) -> Result<(), AsmFault>
-    ensures ok { OnOk result (symbols.new.items ≡ symbols.old.items ++ listed symbol) }
-    ensures err { IfErr result IsMemory }
-{
-    if let Some(symbol) = symbol {
-        symbols.push(symbol)?;
-    }
-    Ok(())
 }
 
 /// The area literal that the second of two operands is, unless the first is the same.
@@ -162,35 +147,29 @@ fn put_symbols(
     ensures err { IfErr result IsMemory }
 {
     let (first, second) = line.areas();
-    put_symbol(symbols, symbol_at(all, number, line)?)?;
+    put_symbol(all, number, line, symbols)?;
     put_area(all, so_far, number, first, symbols)?;
-    put_area(all, so_far, number, second_area(first, second), symbols)?;
-    Ok(())
+    put_area(all, so_far, number, second_area(first, second), symbols)
 }
 
-/// The symbols that lines declare, in their order, once all is placed.
-///
-/// # Errors
-///
-/// `Memory` if there is no room for them.
-pub(crate) fn symbols_of(
-    alloc: Global,
-    all: &Placing<'_>,
+/// Adds the symbols that lines here declare, in their order, and places them.
+fn put_all_symbols<'a>(
+    all: &Placing<'a>,
+    so_far: &mut Placing<'a>,
     lines: &Lines<'_>,
-) -> Result<Vec<Symbol>, AsmFault>
+    symbols: &mut Vec<Symbol>,
+) -> Result<(), AsmFault>
     requires { length lines.now < 2 ^ 32 }
-    ensures ok { IfOk result (λ symbols. symbols.items
-        ≡ symbols_from (places_of all.now) (unplaced (places_of all.now)) 1 lines.now) }
+    ensures ok { OnOk result (symbols.new.items
+        ≡ symbols.old.items ++ symbols_from (places_of all.now) (places_of so_far.old) 1 lines.now) }
     ensures err { IfErr result IsMemory }
 {
-    let mut symbols = Vec::new(alloc);
-    let mut so_far = all.again(alloc);
     for i in 0..lines.len() {
         let line = &lines.line(i);
-        put_symbols(all, &so_far, i as u64 + 1, line, &mut symbols)?;
+        put_symbols(all, so_far, i as u64 + 1, line, symbols)?;
         so_far.place(line)?;
     }
-    Ok(symbols)
+    Ok(())
 }
 
 /// The symbols of lines, in the order of the lines that declare them, once all is placed.
@@ -208,58 +187,54 @@ pub fn make_symbols(
     ensures symbols { IfOk result (λ symbols. symbols.items ≡ symbols_in lines.now) }
     ensures err { IfErr result IsMemory }
 {
-    symbols_of(alloc, all, lines)
+    let mut symbols = Vec::new(alloc);
+    let mut so_far = all.again(alloc);
+    put_all_symbols(all, &mut so_far, lines, &mut symbols)?;
+    Ok(symbols)
 }
 
 /// Adds a length, or blanks if there is none.
 #[tactic(auto, unfolding(crate::specs::SymbolTable::length_text))]
-fn put_length(text: &mut Vec<u8>, length: Option<u32>) -> Result<(), AsmFault>
-    ensures ok { OnOk result (text.new.items ≡ text.old.items ++ length_text length) }
-    ensures err { IfErr result IsMemory }
+fn put_length(text: &mut Text, length: Option<u32>)
+    ensures { Adds text.old text.new (length_text length) }
 {
     match length {
-        Some(length) => put_digits(text, LENGTH_DIGITS, u64::from(length))?,
-        None => text.extend_from_slice(b"     ")?,
+        Some(length) => text.put_number(LENGTH_DIGITS, u64::from(length)),
+        None => text.put(b"     "),
     }
-    Ok(())
 }
 
 /// The address that a symbol's line shows, if its value is a place; that of a unit's name isn't.
-fn shown_value(value: i64) -> Option<i64>
-    ensures { result ≡ shown_value value }
+fn shown_value(symbol: &Symbol) -> Option<i64>
+    ensures { result ≡ shown_value symbol.now.value }
 {
-    if value < 0 { None } else { Some(value) }
+    if symbol.value < 0 {
+        None
+    } else {
+        Some(symbol.value)
+    }
 }
 
 /// Adds the line of a symbol.
 #[tactic(auto, unfolding(crate::specs::SymbolTable::symbol_line))]
-fn put_symbol_line(text: &mut Vec<u8>, symbol: Symbol) -> Result<(), AsmFault>
-    ensures ok { OnOk result (text.new.items ≡ text.old.items ++ symbol_line symbol) }
-    ensures err { IfErr result IsMemory }
+fn put_symbol_line(text: &mut Text, symbol: &Symbol)
+    ensures { Adds text.old text.new (symbol_line symbol.now) }
 {
-    text.extend_from_slice(symbol.label.text.as_slice())?;
-    text.push(b' ')?;
-    put_address(text, shown_value(symbol.value))?;
-    text.push(b' ')?;
-    put_length(text, symbol.length)?;
-    text.push(b' ')?;
-    put_digits(text, LINE_DIGITS, symbol.line)?;
-    text.push(b'\n')?;
-    Ok(())
+    text.put(&symbol.label.text);
+    text.put(b" ");
+    put_address(text, shown_value(symbol));
+    text.put(b" ");
+    put_length(text, symbol.length);
+    text.put(b" ");
+    text.put_number(LINE_DIGITS, symbol.line);
+    text.put(b"\n");
 }
 
-/// The symbol table: the lines of these symbols.
-///
-/// # Errors
-///
-/// `Memory` if there is no room for the text.
-pub(crate) fn symbols_text(alloc: Global, symbols: &[Symbol]) -> Result<Vec<u8>, AsmFault>
-    ensures ok { IfOk result (λ text. text.items ≡ flat_map symbol_line symbols.now) }
-    ensures err { IfErr result IsMemory }
+/// Adds the symbol table: the lines of these symbols.
+pub(crate) fn put_symbol_lines(text: &mut Text, symbols: &[Symbol])
+    ensures { Adds text.old text.new (flat_map symbol_line symbols.now) }
 {
-    let mut text = Vec::new(alloc);
     for symbol in symbols {
-        put_symbol_line(&mut text, *symbol)?;
+        put_symbol_line(text, symbol);
     }
-    Ok(text)
 }

@@ -5,12 +5,13 @@ ghost use Rattle.autocoder_symbols.specs.Fault.{IsMemory};
 ghost use Rattle.autocoder_placing.specs.Placement.{placed};
 ghost use Rattle.autocoder_placing.specs.View.{places_of};
 ghost use Rattle.autocoder_listing.specs.CrossReference.{uses_of, reference_line, references_text};
-ghost use Rattle.autocoder_listing.specs.SymbolTable.{symbol_line, symbols_text};
+ghost use Rattle.autocoder_listing.specs.SymbolTable.{symbols_text};
 
-use crate::cross_reference::{references_text, uses_of};
-use crate::symbol_table::{Symbol, symbols_of, symbols_text};
+use crate::cross_reference::{put_references, uses_of};
+use crate::symbol_table::{Symbol, make_symbols, put_symbol_lines};
 use autocoder_placing::Placing;
 use autocoder_symbols::{AsmFault, Lines, SourceHashing};
+use bytes_text::Text;
 use std::alloc::Global;
 
 /// The tables that a listing may end with, as texts.
@@ -34,29 +35,9 @@ fn references_of(
     ensures err { IfErr result IsMemory }
 {
     let uses = uses_of(alloc, hashing, lines)?;
-    let text = references_text(alloc, &uses, symbols)?;
-    Ok(text)
-}
-
-/// The symbol table and the cross-reference of lines with these symbols.
-fn tables_of(
-    alloc: Global,
-    hashing: SourceHashing,
-    lines: &Lines<'_>,
-    symbols: &[Symbol],
-) -> Result<Tables, AsmFault>
-    requires { length lines.now < 2 ^ 32 }
-    ensures symbols { IfOk result (λ made. made.symbols.items ≡ flat_map symbol_line symbols.now) }
-    ensures references { IfOk result (λ made. made.references.items
-        ≡ flat_map (reference_line (uses_of lines.now)) symbols.now) }
-    ensures err { IfErr result IsMemory }
-{
-    let references = references_of(alloc, hashing, lines, symbols)?;
-    let symbols = symbols_text(alloc, symbols)?;
-    Ok(Tables {
-        symbols,
-        references,
-    })
+    let mut text = Text::new(alloc);
+    put_references(&mut text, &uses, symbols);
+    Ok(text.into_bytes()?)
 }
 
 /// The symbol table and the cross-reference of lines, once all is placed.
@@ -76,6 +57,12 @@ pub fn make_tables(
     ensures references { IfOk result (λ made. made.references.items ≡ references_text lines.now) }
     ensures err { IfErr result IsMemory }
 {
-    let symbols = symbols_of(alloc, all, lines)?;
-    tables_of(alloc, hashing, lines, &symbols)
+    let symbols = make_symbols(alloc, all, lines)?;
+    let references = references_of(alloc, hashing, lines, &symbols)?;
+    let mut text = Text::new(alloc);
+    put_symbol_lines(&mut text, &symbols);
+    Ok(Tables {
+        symbols: text.into_bytes()?,
+        references,
+    })
 }

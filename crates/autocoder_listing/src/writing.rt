@@ -2,25 +2,28 @@
 ghost use Rattle.std.specs.Prelude.{◌≡◌, ◌+◌, ◌++◌, ◌<◌, ◌≤◌, ◌^◌, ℕ, Some, [], length, codes, vec_capacity, IsTrue};
 ghost use Rattle.std.specs.Prelude.{IfOk, IfErr, OnOk, OnErr};
 ghost use Rattle.std.specs.Io.KnownBytes.{Appends};
-ghost use Rattle.bytes_streams.specs.Page.{most_in_page, Sent};
 ghost use Rattle.bytes_streams.specs.Sink.{AppendsPart};
+ghost use Rattle.machine_notation.specs.Digits.{digits_in};
 ghost use Rattle.autocoder_statements.specs.SourceLine.{lines_of};
 ghost use Rattle.autocoder_symbols.specs.Fault.{IsMemory};
 ghost use Rattle.autocoder_placing.specs.Placement.{unplaced};
 ghost use Rattle.autocoder_placing.specs.View.{places_of};
-ghost use Rattle.autocoder_listing.specs.Heads.{front_text, front_of, head_at, heads_after, literals_before, literals_after};
+ghost use Rattle.autocoder_listing.specs.Heads.{front_of, head_at, heads_after, literals_before, literals_after};
 ghost use Rattle.autocoder_listing.specs.Heads.{written_for, written};
-ghost use Rattle.autocoder_listing.specs.Listing.{address_text, line_text, listing_from, listing_text, number_text};
+ghost use Rattle.autocoder_listing.specs.Listing.{address_text, most_digits, line_text, listing_from, listing_text};
 ghost use Rattle.autocoder_listing.specs.Listing.{without_last_blanks};
-ghost use Rattle.autocoder_listing.specs.Writing.{most_in_front, HasRoom, IsReadyFor, text_for};
+ghost use Rattle.autocoder_listing.specs.Pages.{Puts};
+ghost use Rattle.autocoder_listing.specs.Writing.{most_in_front, IsReadyFor, text_for};
 
 use crate::heads::{Head, Heads, make_heads};
-use crate::printing::{cut_last_blanks, len_without_last_blanks, put_address, put_number};
+use crate::pages::Pages;
+use crate::printing::{ADDRESS_DIGITS, NUMBER_DIGITS, cut_last_blanks, len_without_last_blanks};
 use autocoder_placing::Placing;
 use autocoder_statements::split_line;
 use autocoder_symbols::{AsmFault, Lines};
-use bytes_streams::{Failed, PAGE, Sink, put_all, put_through};
-use std::alloc::Global;
+use bytes_streams::{Failed, Sink};
+use machine_notation::put_digits;
+use std::alloc::{AllocError, Global};
 
 /// The most bytes that precede the line of the source on its line of the listing: a number and an address of up to 20
 /// digits, eight characters, and three blanks.
@@ -32,24 +35,9 @@ pub struct ReadyListing {
     /// What its lines have besides the source.
     heads: Heads,
     /// What isn't written yet.
-    page: Vec<u8>,
+    page: Pages,
     /// What precedes the line of the source on the line that is being made.
     front: Vec<u8>,
-}
-
-impl ReadyListing {
-    /// Room for a page, and for what precedes a line of the source.
-    fn reserve(alloc: Global, heads: Heads) -> Result<ReadyListing, AsmFault>
-        ensures room { IfOk result HasRoom }
-        ensures heads { IfOk result (λ ready. ready.heads ≡ heads) }
-        ensures err { IfErr result IsMemory }
-    {
-        Ok(ReadyListing {
-            heads,
-            page: Vec::with_capacity(alloc, PAGE)?,
-            front: Vec::with_capacity(alloc, MOST_IN_FRONT)?,
-        })
-    }
 }
 
 /// Makes the listing of the lines of this source ready to be written, once all is placed.
@@ -71,51 +59,52 @@ pub fn ready_listing(
     ensures ready { IfOk result (IsReadyFor source.now) }
     ensures err { IfErr result IsMemory }
 {
+    let page = Pages::new(alloc)?;
+    let front = Vec::with_capacity(alloc, MOST_IN_FRONT)?;
     let heads = make_heads(alloc, all, source.len(), lines)?;
-    ReadyListing::reserve(alloc, heads)
+    Ok(ReadyListing { heads, page, front })
 }
 
-/// Adds the number of a line and its address.
-fn put_numbers(text: &mut Vec<u8>, number: u64, address: Option<i64>) -> Result<(), AsmFault>
-    ensures text { OnOk result (text.new.items ≡ text.old.items
-        ++ (number_text (Some number) ++ codes " " ++ address_text address ++ codes " ")) }
-    ensures few { OnOk result (length text.new.items ≤ length text.old.items + 42) }
-    ensures full { OnErr result (vec_capacity text.old < length text.old.items + 42) }
+/// Adds a number with leading zeros up to the width: no more than 20 digits.
+#[tactic(auto, using(crate::proofs::DigitsLemmas::few_added, crate::proofs::DigitsLemmas::few_lacking))]
+fn put_few_digits(text: &mut Vec<u8>, width: u8, number: u64) -> Result<(), AllocError>
+    requires { width ≤ most_digits }
+    ensures ok { OnOk result (text.new.items ≡ text.old.items ++ digits_in width number) }
+    ensures few { OnOk result (length text.new.items ≤ length text.old.items + most_digits) }
+    ensures full { OnErr result (vec_capacity text.old < length text.old.items + most_digits) }
     ensures capacity { vec_capacity text.old ≤ vec_capacity text.new }
 {
-    put_number(text, Some(number))?;
-    text.push(b' ')?;
-    put_address(text, address)?;
-    text.push(b' ')?;
+    put_digits(text, width, number)?;
     Ok(())
 }
 
-/// Adds what precedes the line of the source: its number, an address and characters.
-fn put_front(
-    text: &mut Vec<u8>,
-    number: u64,
-    address: Option<i64>,
-    characters: &[u8; 8],
-) -> Result<(), AsmFault>
-    ensures text { OnOk result (text.new.items ≡ text.old.items ++ front_text number address characters.now) }
-    ensures full { OnErr result (vec_capacity text.old < length text.old.items + most_in_front) }
+/// Adds an address and characters.
+#[tactic(auto, unfolding(crate::specs::Listing::address_text))]
+fn put_columns(text: &mut Vec<u8>, address: i64, characters: &[u8; 8]) -> Result<(), AllocError>
+    ensures text { OnOk result (text.new.items ≡ text.old.items
+        ++ (codes " " ++ address_text (Some address) ++ codes " " ++ characters.now ++ codes " ")) }
+    ensures full { OnErr result (vec_capacity text.old < length text.old.items + 31) }
     ensures capacity { vec_capacity text.old ≤ vec_capacity text.new }
 {
-    put_numbers(text, number, address)?;
+    text.push(b' ')?;
+    put_few_digits(text, ADDRESS_DIGITS, address.unsigned_abs())?;
+    text.push(b' ')?;
     text.extend_from_slice(characters)?;
     text.push(b' ')?;
     Ok(())
 }
 
-/// Adds what precedes the line of the source with this head.
-fn put_front_of(text: &mut Vec<u8>, number: u64, head: Option<Head>) -> Result<(), AsmFault>
+/// Adds what precedes the line of the source with this head: its number, an address and characters.
+#[tactic(auto, unfolding(crate::specs::Listing::number_text, crate::specs::Listing::address_text))]
+fn put_front(text: &mut Vec<u8>, number: u64, head: Option<Head>) -> Result<(), AllocError>
     ensures text { OnOk result (text.new.items ≡ text.old.items ++ front_of number head) }
     ensures full { OnErr result (vec_capacity text.old < length text.old.items + most_in_front) }
     ensures capacity { vec_capacity text.old ≤ vec_capacity text.new }
 {
+    put_few_digits(text, NUMBER_DIGITS, number)?;
     match head {
-        Some(head) => put_front(text, number, Some(head.row.address), &head.row.characters),
-        None => put_front(text, number, None, b"        "),
+        Some(head) => put_columns(text, head.row.address, &head.row.characters),
+        None => text.extend_from_slice(b"                "),
     }
 }
 
@@ -126,7 +115,7 @@ fn make_front(front: &mut Vec<u8>, number: u64, head: Option<Head>)
     ensures capacity { vec_capacity front.old ≤ vec_capacity front.new }
 {
     front.clear();
-    match put_front_of(front, number, head) {
+    match put_front(front, number, head) {
         Ok(()) => {},
         Err(_) => unreachable!(),
     }
@@ -144,28 +133,6 @@ fn cut_line<'a>(front: &mut Vec<u8>, source: &'a [u8]) -> &'a [u8]
         return &[];
     }
     &source[..shown]
-}
-
-/// Adds the lines of literals and a line of the source, with what precedes it, to a page.
-fn put_line<W: Sink>(
-    page: &mut Vec<u8>,
-    literals: &[u8],
-    front: &[u8],
-    source: &[u8],
-    writer: &mut W,
-) -> Result<(), Failed>
-    requires { most_in_page ≤ vec_capacity page.old }
-    ensures sent { OnOk result (Sent (W.received writer.old) (W.received writer.new)
-        (page.old.items ++ (literals.now ++ line_text (front.now ++ source.now))) page.new.items) }
-    ensures part { OnErr result (AppendsPart (W.received writer.old) (W.received writer.new)
-        (page.old.items ++ (literals.now ++ line_text (front.now ++ source.now)))) }
-    ensures failed { OnErr result (IsTrue (W.has_failed writer.new)) }
-    ensures capacity { vec_capacity page.old ≤ vec_capacity page.new }
-{
-    put_through(page, literals, writer)?;
-    put_through(page, front, writer)?;
-    put_through(page, source, writer)?;
-    put_through(page, b"\n", writer)
 }
 
 /// The head of the line of this number, if the first of these is it.
@@ -210,51 +177,43 @@ fn literals_after(head: Option<Head>, literals: &[u8]) -> &[u8]
 
 /// Adds what the listing has for a line of the source to a page.
 fn write_line<W: Sink>(
-    page: &mut Vec<u8>,
+    pages: &mut Pages,
     front: &mut Vec<u8>,
     number: u64,
     head: Option<Head>,
     literals: &[u8],
     source: &[u8],
     writer: &mut W,
-) -> Result<(), Failed>
-    requires page { most_in_page ≤ vec_capacity page.old }
-    requires front { most_in_front ≤ vec_capacity front.old }
-    ensures sent { OnOk result (Sent (W.received writer.old) (W.received writer.new)
-        (page.old.items ++ written_for number head literals.now source.now) page.new.items) }
-    ensures part { OnErr result (AppendsPart (W.received writer.old) (W.received writer.new)
-        (page.old.items ++ written_for number head literals.now source.now)) }
-    ensures failed { OnErr result (IsTrue (W.has_failed writer.new)) }
-    ensures page { vec_capacity page.old ≤ vec_capacity page.new }
+)
+    requires { most_in_front ≤ vec_capacity front.old }
+    ensures text { Puts
+        (record { received = W.received writer.old; has_failed = W.has_failed writer.old; page = pages.old })
+        (record { received = W.received writer.new; has_failed = W.has_failed writer.new; page = pages.new })
+        (written_for number head literals.now source.now) }
     ensures front { vec_capacity front.old ≤ vec_capacity front.new }
 {
     make_front(front, number, head);
     let shown = cut_line(front, source);
-    put_line(
-        page,
-        literals_before(head, literals),
-        front.as_slice(),
-        shown,
-        writer,
-    )
+    pages.put(literals_before(head, literals), writer);
+    pages.put(front.as_slice(), writer);
+    pages.put(shown, writer);
+    pages.put(b"\n", writer);
 }
 
 /// Writes the lines of a listing, but for those that still have room in the page.
 fn write_lines<W: Sink>(
-    page: &mut Vec<u8>,
+    pages: &mut Pages,
     front: &mut Vec<u8>,
     heads: &Heads,
     source: &[u8],
     writer: &mut W,
-) -> Result<(), Failed>
-    requires page { most_in_page ≤ vec_capacity page.old }
+)
     requires front { most_in_front ≤ vec_capacity front.old }
     requires few { length (lines_of source.now) < 2 ^ 32 }
-    ensures sent { OnOk result (Sent (W.received writer.old) (W.received writer.new) (page.old.items
-        ++ written 1 heads.now.heads.items heads.now.literals.items (lines_of source.now)) page.new.items) }
-    ensures part { OnErr result (AppendsPart (W.received writer.old) (W.received writer.new) (page.old.items
-        ++ written 1 heads.now.heads.items heads.now.literals.items (lines_of source.now))) }
-    ensures failed { OnErr result (IsTrue (W.has_failed writer.new)) }
+    ensures { Puts
+        (record { received = W.received writer.old; has_failed = W.has_failed writer.old; page = pages.old })
+        (record { received = W.received writer.new; has_failed = W.has_failed writer.new; page = pages.new })
+        (written 1 heads.now.heads.items heads.now.literals.items (lines_of source.now)) }
 {
     let mut rest = source;
     let mut left = heads.heads.as_slice();
@@ -262,13 +221,12 @@ fn write_lines<W: Sink>(
     let mut number = 1;
     while let Some((line, beyond)) = split_line(rest) {
         let head = head_at(left, number);
-        write_line(page, front, number, head, literals, line, writer)?;
+        write_line(pages, front, number, head, literals, line, writer);
         left = heads_after(head, left);
         literals = literals_after(head, literals);
         number += 1;
         rest = beyond;
     }
-    Ok(())
 }
 
 /// Writes the listing of a source that is ready: the text of `make_listing`, each line with its line feed. One page of it
@@ -293,6 +251,6 @@ pub fn write_listing<W: Sink>(
         mut page,
         mut front,
     } = ready;
-    write_lines(&mut page, &mut front, &heads, source, writer)?;
-    put_all(writer, page.as_slice())
+    write_lines(&mut page, &mut front, &heads, source, writer);
+    page.end(writer)
 }

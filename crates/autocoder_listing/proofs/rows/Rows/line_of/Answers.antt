@@ -4,4 +4,4 @@ use Rattle.autocoder_listing.proofs.rows.Rows.line_of.Goals as goal
 
 pub returns-clause-placed : goal.returns-clause-placed
 returns-clause-placed c = λ lines same.
-    last_line lines c.args.self.now c.args.at c.args.cells.now c.in_ok-number.number same c.in_ok-number.ensures.ok
+    last_line lines c.args.self.now c.args.at c.args.cells.now c.number_of.result same c.number_of.ensures

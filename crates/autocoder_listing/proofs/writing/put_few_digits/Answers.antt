@@ -2,7 +2,7 @@
 use Rattle.std.proofs.Common.{length, vec_capacity}
 use Rattle.machine_notation.proofs.RoomLemmas.{if_so}
 use Rattle.autocoder_listing.proofs.DigitsLemmas.{few_lacking}
-use Rattle.autocoder_listing.proofs.printing.put_few_digits.Goals as goal
+use Rattle.autocoder_listing.proofs.writing.put_few_digits.Goals as goal
 
 pub returns-in_err-put_digits-clause-full : goal.returns-in_err-put_digits-clause-full
 returns-in_err-put_digits-clause-full c =

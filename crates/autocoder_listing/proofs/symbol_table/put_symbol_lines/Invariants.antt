@@ -1,0 +1,10 @@
+-- The lines so far, with those of the symbols that are left, are those of all symbols.
+use Rattle.std.proofs.Common.{drop}
+use Rattle.std.specs.List.{flat_map}
+use Rattle.bytes_text.specs.Written.{AddsBut}
+use Rattle.autocoder_listing.specs.SymbolTable.{symbol_line}
+use Rattle.autocoder_listing.proofs.symbol_table.put_symbol_lines.Given as goal
+
+abbrev pub invariant-loop-symbol : goal.invariant-loop-symbol
+invariant-loop-symbol l =
+    AddsBut l.initial.text l.text (flat_map symbol_line (drop l.symbol-index l.symbols)) (flat_map symbol_line l.symbols)
