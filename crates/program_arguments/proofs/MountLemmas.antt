@@ -1,22 +1,23 @@
 -- Reels that are mounted one after the other.
 use Rattle.std.proofs.Common.{◌≡◌, ℕ, ◌+◌, ◌<◌, ◌≤◌, Bool, true, false, List, [], ◌∷◌, ◌++◌, Bor, Option, None, Some}
-use Rattle.std.proofs.Common.{Result, Ok, Err, OnOk, append_assoc, append-nil, ap, arith, codes, get_or, length, map, refl}
+use Rattle.std.proofs.Common.{append_assoc, ap, codes, get_or, length, map, refl}
 use Rattle.std.proofs.Common.{subst, sym, take, take_all, ◌∙◌}
-use Rattle.std.proofs.lemmas.Bool.{and_parts, or_parts}
+use Rattle.std.proofs.lemmas.Bool.{and_parts, false≢true, or_parts}
 use Rattle.std.proofs.lemmas.List.{map-append, take_more}
 use Rattle.std.proofs.lemmas.List.Elements.{All-append, All-cons, All-nil}
 use Rattle.std.proofs.lemmas.List.Folds.{list_any-append}
 use Rattle.std.specs.List.{list_any}
-use Rattle.std.specs.Prelude.{⊤, All, is_some, nat_eq, not, ◌&&◌, ◌||◌}
+use Rattle.std.specs.Prelude.{is_some, nat_eq, not, ◌&&◌, ◌||◌}
 use Rattle.clap.proofs.WalkLemmas.{list_any-map}
 use Rattle.clap.specs.Words.{first_value}
 use Rattle.clap.specs.declared.parser.matches.Found.{Found}
 use Rattle.program_call.specs.declared.call.MountedReel.{MountedReel}
 use Rattle.program_call.specs.declared.call.ReelSource.{ReelSource}
-use Rattle.program_arguments.specs.Mounting.{AreMounted, AreReelsIn, IsLoadable, IsMountable, IsReelNamed, are_apart}
-use Rattle.program_arguments.specs.Mounting.{mounted_text, reel_text, texts_of}
+use Rattle.program_call.specs.declared.call.Start.{Start}
+use Rattle.program_call.specs.declared.call.Start.TheVariants as start
+use Rattle.program_arguments.specs.Mounting.{AreMounted, AreReelsIn, IsLoadable, IsMountable, IsStartIn}
+use Rattle.program_arguments.specs.Mounting.{are_apart, loads_tape, mounted_text, reel_text, texts_of}
 use Rattle.program_arguments.specs.Options.{values_in}
-use Rattle.program_arguments.specs.declared.mounting.MountFault.{MountFault}
 
 -- none is
 pub mounted_none : (reels : List MountedReel) → reels ≡ [] → AreMounted [] reels
@@ -63,16 +64,6 @@ text_of_it text digit named unit reel whole front back =
     whole ∙ ap (λ (one : List ℕ). one ++ (61 ∷ named)) front
     ∙ ap (λ (one : List ℕ). (48 + unit) ∷ 61 ∷ one) (sym back)
 
--- if there was memory for it
-pub put_more : (result : Result ⊤ MountFault) (old new : List MountedReel) (text : List ℕ) (it : MountedReel)
-    → OnOk result (new ≡ old ++ it ∷ []) → text ≡ mounted_text it → IsMountable it
-    → list_any (λ each. nat_eq each.unit it.unit) old ≡ false
-    → OnOk result ((texts : List (List ℕ)) → AreMounted texts old → AreMounted (texts ++ text ∷ []) new)
-put_more (Ok done) old new text it is said mountable other = λ texts before.
-    subst (λ (each : List MountedReel). AreMounted (texts ++ text ∷ []) each) (sym is)
-    (mounted_more texts old text it said mountable other before)
-put_more (Err why) old new text it is said mountable other = tt
-
 -- one value more
 pub values_more : (texts : List (List ℕ)) (values : List (Bor (List ℕ))) (i : ℕ) (d : Bor (List ℕ)) → i < length values
     → (texts ++ map (λ each. each.now) (take i values)) ++ ((get_or values i d).now ∷ [])
@@ -105,3 +96,10 @@ reels_are found loaded tapes reels first others are old = record {
       (subst (λ (each : List (List ℕ)). AreMounted each reels) (texts_then loaded tapes) are));
   loaded = subst (λ (each : Option (List ℕ)). is_some each ≡ true → IsLoadable reels) first old;
 }
+
+-- where a reel is loaded, it is the first one
+pub loads : (found : Found) (reels : List MountedReel) (begins : Start) → AreReelsIn found reels
+    → IsStartIn found reels begins → loads_tape begins ≡ true → IsLoadable reels
+loads found reels start.Entry are is loaded = absurd (false≢true loaded)
+loads found reels start.LoadKey are is loaded = absurd (false≢true loaded)
+loads found reels (start.LoadTape unit) are is loaded = are.loaded is.0

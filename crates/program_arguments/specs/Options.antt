@@ -1,6 +1,6 @@
 -- What the options of a subcommand say, as they were found among the words (own).
 use Rattle.std.specs.Prelude.{◌≡◌, ◌≢◌, ◌<◌, ◌^◌, ℕ, Bool, true, false, List, [], Option, None, Some, String}
-use Rattle.std.specs.Prelude.{codes, option_map, option_and_then, string_bytes, unwrap_or, if◌then◌else◌}
+use Rattle.std.specs.Prelude.{IsTrue, codes, option_map, option_and_then, string_bytes, unwrap_or, if◌then◌else◌}
 use Rattle.std.specs.Option.{option_or}
 use Rattle.std.specs.Str.{bytes_eq}
 use Rattle.std.specs.Str.Parse.{IsNumeral, digits_value, without_leading_plus}
@@ -12,6 +12,10 @@ use Rattle.bcd_1401.specs.declared.graphics.Graphics.{Graphics}
 use Rattle.bcd_1401.specs.declared.graphics.Graphics.TheVariants as chains
 use Rattle.autocoder_statements.specs.declared.language.Language.{Language}
 use Rattle.autocoder_statements.specs.declared.language.Language.TheVariants.{Ibm, Plain}
+
+-- what was read if there is no fault now: there was none before either
+abbrev pub Reads : Bool → Bool → Type 0 → Type 0
+Reads before now it = IsTrue now → IsTrue before × it
 
 -- the name that an option gives; without the option there is none
 abbrev pub IsNameIn : {Z : Type 0} → Found → List ℕ → Option (String Z) → Type 0

@@ -1,18 +1,18 @@
 //! The words of the subcommand `assemble`.
-ghost use Rattle.std.specs.Prelude.{◌≡◌, IfOk, codes};
+ghost use Rattle.std.specs.Prelude.{◌≡◌, codes};
 ghost use Rattle.clap.specs.Words.{first_value, found_of};
-ghost use Rattle.program_arguments.specs.Calls.{IsAssembled, IsAssembling, IsProductIn, are_one};
+ghost use Rattle.program_arguments.specs.Calls.{IsAssembled, IsProductIn, are_one, tells_all};
+ghost use Rattle.program_arguments.specs.Options.{IsFlagIn, Reads};
 
-use crate::commands::{Session, Subcommand, refusal};
-use crate::features::{FIT, NAMED_TWICE, features_in};
+use crate::commands::{PLAIN, Subcommand};
+use crate::faults::Faults;
+use crate::features::{FIT, features_in};
 use crate::graphics::{GRAPHICS, OUT_GRAPHICS, SOURCE_GRAPHICS, graphics_by};
 use crate::languages::{LANGUAGE, language_in};
-use crate::options::{Argument, FREE, Kind, TEXT, name_in};
+use crate::options::{Argument, FREE, Kind, TEXT};
 use crate::sizes::{SIZE, named_size_in};
-use clap::{ArgMatches, Error};
-use machine_tables::Features;
+use clap::ArgMatches;
 use program_call::{Assembling, Call, Product, Reported, Tables};
-use std::alloc::{AllocError, Global};
 
 /// The arguments of `assemble`: what is written, how, and of which source.
 const ARGUMENTS: &[Argument] = &[
@@ -75,8 +75,8 @@ static ASSEMBLE: Subcommand = Subcommand {
     name: "assemble",
     whole_name: "ibm1401 assemble",
     about: "Assembles a source, and writes its core image",
-    session: Session::Nothing,
     arguments: ARGUMENTS,
+    ..PLAIN
 };
 
 /// A reference to it.
@@ -113,47 +113,33 @@ fn names_one_file(matches: &ArgMatches<'_>) -> bool
     }
 }
 
-/// What the options of `assemble` ask for.
-pub(crate) fn assemble_call(
-    alloc: Global,
-    matches: &ArgMatches<'_>,
-    file: &str,
-) -> Result<Call, Error>
-    ensures { IfOk result (λ call. IsAssembled (found_of matches.now) file.now call) }
+/// How many faults the options of `assemble` ask for.
+fn reported_in(matches: &ArgMatches<'_>) -> Reported
+    ensures { IsFlagIn (found_of matches.now) (codes "all") (tells_all result) }
 {
-    if names_one_file(matches) {
-        return Err(refusal(alloc, assemble(), "-o and --deck name the same file"));
-    }
-    match features_in(matches) {
-        Some(features) => Ok(Call::Assemble(assembling_in(alloc, matches, file, features)?)),
-        None => Err(refusal(alloc, assemble(), NAMED_TWICE)),
-    }
-}
-
-/// How the options of `assemble` ask for this source to be assembled, for a machine with these features.
-fn assembling_in(
-    alloc: Global,
-    matches: &ArgMatches<'_>,
-    file: &str,
-    features: Features,
-) -> Result<Assembling, AllocError>
-    ensures { IfOk result (λ asked. IsAssembling (found_of matches.now) file.now features asked) }
-{
-    let told = if matches.get_flag("all") {
+    if matches.get_flag("all") {
         Reported::All
     } else {
         Reported::First
-    };
-    Ok(Assembling {
-        file: String::from_str(alloc, file)?,
+    }
+}
+
+/// What the options of `assemble` ask for.
+pub(crate) fn assemble_call(matches: &ArgMatches<'_>, file: &str, faults: &mut Faults) -> Call
+    ensures { Reads faults.old.are_none faults.new.are_none (IsAssembled (found_of matches.now) file.now result) }
+{
+    faults.check(!names_one_file(matches), "-o and --deck name the same file");
+    let features = features_in(matches, faults);
+    Call::Assemble(Assembling {
+        file: faults.own(file),
         language: language_in(matches),
         source_graphics: graphics_by(matches, "source-graphics"),
         deck_graphics: graphics_by(matches, "out-graphics"),
         size: named_size_in(matches),
         product: product_in(matches),
-        out: name_in(alloc, matches, "output")?,
-        deck: name_in(alloc, matches, "deck")?,
-        told,
+        out: faults.name(matches, "output"),
+        deck: faults.name(matches, "deck"),
+        told: reported_in(matches),
         features,
     })
 }

@@ -1,13 +1,18 @@
-//! The kinds of subcommands.
-
-use crate::options::{Argument, args_of};
-use crate::sizes::SizeTexts;
+//! The subcommands as `clap` has them.
+use crate::assembling::assemble;
+use crate::help_texts::HelpTexts;
+use crate::journals::{resume, show_journal};
+use crate::operating::operate;
+use crate::options::{Argument, arg_of};
+use crate::reading::{console, disassemble, load};
+use crate::reeling::reel;
+use crate::running::run;
+use crate::serving::serve;
 use clap::error::ErrorKind;
-use clap::{Arg, ArgGroup, Command, Error};
+use clap::{ArgGroup, Command, Error};
 use std::alloc::{AllocError, Global};
 
 /// A subcommand.
-#[derive(Clone, Copy)]
 pub(crate) struct Subcommand {
     /// Its name.
     pub name: &'static str,
@@ -15,29 +20,26 @@ pub(crate) struct Subcommand {
     pub whole_name: &'static str,
     /// What the help says that it does.
     pub about: &'static str,
-    /// How lines are given to it.
-    pub session: Session,
+    /// What the help says of the lines that are given to it.
+    pub lines: Option<&'static str>,
+    /// Whether operators have to come at ports, if they may.
+    pub ports: Option<bool>,
     /// Its arguments. In the help they have this order.
     pub arguments: &'static [Argument],
 }
 
-/// How lines are given to a subcommand.
-#[derive(Clone, Copy)]
-pub(crate) enum Session {
-    /// It takes none.
-    Nothing,
-    /// By standard input.
-    Lines,
-    /// By a person.
-    Orders,
-    /// By standard input, or at the ports.
-    LinesOrPorts,
-    /// At the ports.
-    Ports,
-}
+/// A subcommand that is given no lines, and to which no operators come.
+pub(crate) const PLAIN: Subcommand = Subcommand {
+    name: "",
+    whole_name: "",
+    about: "",
+    lines: None,
+    ports: None,
+    arguments: &[],
+};
 
 /// The lines of a session, for the help.
-const LINES: &str = "\
+pub(crate) const LINES: &str = "\
 Lines, each with one reply:
   DEPOSIT A TEXT  puts the cells of TEXT at address A and above; ~ before one gives it a word mark
   EXAMINE A [N]   shows the cell at address A, or N cells from there on, 1 to 40
@@ -53,7 +55,7 @@ Lines, each with one reply:
   QUIT            ends the session; a journal, if there is one, has what it did";
 
 /// What a person may type, for the help.
-const ORDERS: &str = "\
+pub(crate) const ORDERS: &str = "\
 Lines, each begun by a word that may be shortened; these are some of them:
   help                   lists all words
   step 3                 carries out three instructions, and shows what each did
@@ -65,79 +67,67 @@ Lines, each begun by a word that may be shortened; these are some of them:
   back 4                 goes four instructions back
   quit                   ends the console; a journal, if there is one, has what it did";
 
-/// The ports at which operators come, one or both of them.
-fn ports_group<'a>(alloc: Global, is_required: bool) -> Result<ArgGroup<'a>, AllocError> {
-    ArgGroup::new(alloc, "ports")
-        .multiple(true)
-        .required(is_required)
-        .arg("port")?
-        .arg("page")
+/// The subcommands. In the help they have this order.
+fn subcommands() -> [&'static Subcommand; 10] {
+    [
+        console(),
+        assemble(),
+        load(),
+        disassemble(),
+        reel(),
+        run(),
+        operate(),
+        serve(),
+        show_journal(),
+        resume(),
+    ]
 }
 
-/// The same as all groups of a subcommand.
-fn ports_alone<'a>(alloc: Global, is_required: bool) -> Result<Vec<ArgGroup<'a>>, AllocError> {
-    Ok(vec![in alloc; ports_group(alloc, is_required)?]?)
-}
-
-/// The groups of a subcommand to which lines are given so.
-fn groups_of<'a>(alloc: Global, session: Session) -> Result<Vec<ArgGroup<'a>>, AllocError> {
-    match session {
-        Session::Nothing | Session::Lines | Session::Orders => Ok(Vec::new(alloc)),
-        Session::LinesOrPorts => ports_alone(alloc, false),
-        Session::Ports => ports_alone(alloc, true),
-    }
-}
-
-/// The command of a subcommand, without arguments.
-fn bare<'a>(alloc: Global, of: &Subcommand) -> Command<'a> {
-    let command = Command::new(alloc, of.name).about(of.about);
-    match of.session {
-        Session::Nothing => command,
-        Session::Orders => command.after_help(ORDERS),
-        Session::Lines | Session::LinesOrPorts | Session::Ports => command.after_help(LINES),
-    }
-}
-
-/// A command with these groups and arguments, in this order.
-fn with<'a>(
-    command: Command<'a>,
-    groups: Vec<ArgGroup<'a>>,
-    args: Vec<Arg<'a>>,
-) -> Result<Command<'a>, AllocError> {
-    command.groups(groups)?.args(args)
-}
-
-/// The command of a subcommand, with the texts that the help takes from the sizes.
-pub(crate) fn command_of<'a>(
+/// The command of a subcommand, with the texts that the help takes from tables.
+fn command_of<'a>(
     alloc: Global,
-    sizes: &'a SizeTexts,
+    texts: &'a HelpTexts,
     of: &Subcommand,
 ) -> Result<Command<'a>, AllocError> {
-    let groups = groups_of(alloc, of.session)?;
-    let args = args_of(alloc, sizes, of.arguments)?;
-    with(bare(alloc, of), groups, args)
+    let mut command = Command::new(alloc, of.name).about(of.about);
+    if let Some(lines) = of.lines {
+        command = command.after_help(lines);
+    }
+    if let Some(is_required) = of.ports {
+        let ports = ArgGroup::new(alloc, "ports")
+            .multiple(true)
+            .required(is_required);
+        command = command.group(ports.arg("port")?.arg("page")?)?;
+    }
+    for each in of.arguments {
+        command = command.arg(arg_of(alloc, texts, each)?)?;
+    }
+    Ok(command)
 }
 
-/// A refusal of what is asked for with this command, which has this whole name.
-fn refusal_of(
-    command: Result<Command<'_>, AllocError>,
+/// The program with its subcommands.
+pub(crate) fn program<'a>(alloc: Global, texts: &'a HelpTexts) -> Result<Command<'a>, AllocError> {
+    let mut command = Command::new(alloc, "ibm1401")
+        .about("An IBM 1401 card system, every operation proved")
+        .subcommand_required(true);
+    for each in &subcommands() {
+        command = command.subcommand(command_of(alloc, texts, each)?)?;
+    }
+    Ok(command)
+}
+
+/// A refusal of what the subcommand of this name is asked for.
+pub(crate) fn refusal(
+    alloc: Global,
+    texts: &HelpTexts,
     name: &str,
     text: &str,
 ) -> Result<Error, AllocError> {
-    let mut command = command?.bin_name(name)?;
-    command.error(ErrorKind::ValueValidation, text)
-}
-
-/// The same, of what a subcommand is asked for.
-fn refusal_in(alloc: Global, of: &Subcommand, text: &str) -> Result<Error, AllocError> {
-    let sizes = SizeTexts::new(alloc)?;
-    refusal_of(command_of(alloc, &sizes, of), of.whole_name, text)
-}
-
-/// A refusal of what a subcommand is asked for; or `Memory`, if there is no room for its text.
-pub(crate) fn refusal(alloc: Global, of: &Subcommand, text: &str) -> Error {
-    match refusal_in(alloc, of, text) {
-        Ok(refusal) => refusal,
-        Err(fault) => Error::from(fault),
+    for each in &subcommands() {
+        if each.name == name {
+            let mut command = command_of(alloc, texts, each)?.bin_name(each.whole_name)?;
+            return command.error(ErrorKind::ValueValidation, text);
+        }
     }
+    Err(AllocError)
 }

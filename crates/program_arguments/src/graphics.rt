@@ -1,7 +1,7 @@
 //! The print chain of decks, as an option.
-ghost use Rattle.std.specs.Prelude.{◌≡◌, codes};
+ghost use Rattle.std.specs.Prelude.{◌≡◌};
 ghost use Rattle.clap.specs.Words.{first_value, found_of};
-ghost use Rattle.program_arguments.specs.Options.{graphics_by, graphics_in, graphics_named};
+ghost use Rattle.program_arguments.specs.Options.{graphics_by, graphics_in};
 
 use crate::options::{Argument, FREE, Kind};
 use bcd_1401::Graphics;
@@ -39,25 +39,14 @@ pub(crate) const OUT_GRAPHICS: Argument = Argument {
     ..GRAPHICS
 };
 
-/// The print chain of this name.
-fn graphics_named(name: &str) -> Graphics
-    ensures { result ≡ graphics_named name.now }
-{
-    if name == SIMH {
-        Graphics::Simh
-    } else if name == FORTRAN {
-        Graphics::Fortran
-    } else {
-        Graphics::Ours
-    }
-}
-
 /// The print chain that an option names, if it names one.
-fn chain_in(matches: &ArgMatches<'_>, option: &str) -> Option<Graphics>
+pub(crate) fn graphics_in(matches: &ArgMatches<'_>, option: &str) -> Option<Graphics>
     ensures { result ≡ graphics_in (first_value (found_of matches.now) option.now) }
 {
     match matches.get_str(option) {
-        Some(name) => Some(graphics_named(name)),
+        Some(SIMH) => Some(Graphics::Simh),
+        Some(FORTRAN) => Some(Graphics::Fortran),
+        Some(_) => Some(Graphics::Ours),
         None => None,
     }
 }
@@ -66,15 +55,8 @@ fn chain_in(matches: &ArgMatches<'_>, option: &str) -> Option<Graphics>
 pub(crate) fn graphics_by(matches: &ArgMatches<'_>, option: &str) -> Option<Graphics>
     ensures { result ≡ graphics_by (found_of matches.now) option.now }
 {
-    match chain_in(matches, option) {
+    match graphics_in(matches, option) {
         Some(graphics) => Some(graphics),
-        None => graphics_in(matches),
+        None => graphics_in(matches, "graphics"),
     }
-}
-
-/// The print chain that the options of a subcommand name for all, if they name one.
-pub(crate) fn graphics_in(matches: &ArgMatches<'_>) -> Option<Graphics>
-    ensures { result ≡ graphics_in (first_value (found_of matches.now) (codes "graphics")) }
-{
-    chain_in(matches, "graphics")
 }

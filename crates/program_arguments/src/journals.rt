@@ -1,19 +1,17 @@
 //! The options of journals, read by `clap`.
-ghost use Rattle.std.specs.Prelude.{◌≡◌, [], IfOk, codes, unwrap_or};
-ghost use Rattle.clap.specs.Words.{first_value, found_of};
-ghost use Rattle.program_arguments.specs.Options.{IsNumberIn};
-ghost use Rattle.program_arguments.specs.Calls.{IsJournalIn, IsOriginIn, IsResumed, IsResuming, IsSession, IsShowing};
-ghost use Rattle.program_arguments.specs.Calls.{IsShown};
+ghost use Rattle.std.specs.Prelude.{⊤, codes};
+ghost use Rattle.clap.specs.Words.{found_of};
+ghost use Rattle.program_arguments.specs.Options.{IsNumberIn, Reads};
+ghost use Rattle.program_arguments.specs.Calls.{IsJournalIn, IsResumed, IsResuming, IsSession, IsShown};
 
-use crate::commands::{Session, Subcommand, refusal};
-use crate::options::{ANY_U8, ANY_U32, Argument, FREE, Kind, TEXT, name_in};
+use crate::commands::{LINES, PLAIN, Subcommand};
+use crate::faults::Faults;
+use crate::options::{ANY_U8, ANY_U32, Argument, FREE, Kind, TEXT};
 use crate::serving::{
-    ORIGIN, PAGE, PORT, RENEW_AFTER, SEATS, operators_in, origin_in, pages_refused, seating_in,
+    ORIGIN, PAGE, PORT, RENEW_AFTER, SEATS, check_pages, operators_in, origin_in, seats_call,
 };
-use clap::{ArgMatches, Error};
+use clap::ArgMatches;
 use program_call::{Call, NewJournal, Opening, Resuming, Showing};
-use serving_http::Origin;
-use std::alloc::{AllocError, Global};
 
 /// The file in which a session's journal is kept.
 pub(crate) const JOURNAL: Argument = Argument {
@@ -74,8 +72,8 @@ static SHOW_JOURNAL: Subcommand = Subcommand {
     name: "journal",
     whole_name: "ibm1401 journal",
     about: "Shows a journal: the commands, their seats and their answers",
-    session: Session::Nothing,
     arguments: SHOWING,
+    ..PLAIN
 };
 
 /// A reference to it.
@@ -129,7 +127,8 @@ static RESUME: Subcommand = Subcommand {
     name: "resume",
     whole_name: "ibm1401 resume",
     about: "Carries out a journal's commands again, then works like console, or like serve with --port or --page",
-    session: Session::LinesOrPorts,
+    lines: Some(LINES),
+    ports: Some(false),
     arguments: RESUMING,
 };
 
@@ -139,40 +138,26 @@ pub(crate) fn resume() -> &'static Subcommand {
 }
 
 /// The new journal that the options name, if they name one.
-pub(crate) fn new_journal_in(
-    alloc: Global,
-    matches: &ArgMatches<'_>,
-) -> Result<Option<NewJournal>, AllocError>
-    ensures { IfOk result (λ journal. IsJournalIn (found_of matches.now) journal) }
+pub(crate) fn new_journal_in(matches: &ArgMatches<'_>, faults: &mut Faults) -> Option<NewJournal>
+    ensures { Reads faults.old.are_none faults.new.are_none (IsJournalIn (found_of matches.now) result) }
 {
     let sync = matches.get_flag("sync");
-    Ok(match name_in(alloc, matches, "journal")? {
+    match faults.name(matches, "journal") {
         Some(file) => Some(NewJournal { file, sync }),
         None => None,
-    })
+    }
 }
 
-/// The entries of a journal that the options of `journal` show.
-fn showing_in(alloc: Global, matches: &ArgMatches<'_>, file: &str) -> Result<Showing, AllocError>
-    ensures { IfOk result (λ asked. IsShowing (found_of matches.now) file.now asked) }
+/// What the options of `journal` ask for.
+pub(crate) fn journal_call(matches: &ArgMatches<'_>, file: &str, faults: &mut Faults) -> Call
+    ensures { Reads faults.old.are_none faults.new.are_none (IsShown (found_of matches.now) file.now result) }
 {
-    Ok(Showing {
-        file: String::from_str(alloc, file)?,
+    Call::Journal(Showing {
+        file: faults.own(file),
         seat: matches.get_one::<u8>("seat"),
         from: u64::from(matches.get_one::<u32>("from").unwrap_or(1)),
         check: matches.get_flag("check"),
     })
-}
-
-/// What the options of `journal` ask for.
-pub(crate) fn journal_call(
-    alloc: Global,
-    matches: &ArgMatches<'_>,
-    file: &str,
-) -> Result<Call, Error>
-    ensures { IfOk result (λ call. IsShown (found_of matches.now) file.now call) }
-{
-    Ok(Call::Journal(showing_in(alloc, matches, file)?))
 }
 
 /// The number of the last command that is carried out again, if the options of `resume` name one.
@@ -185,110 +170,70 @@ fn until_in(matches: &ArgMatches<'_>) -> Option<u64>
     }
 }
 
-/// The text of the numbers that the options of `resume` leave out.
-fn without_in<'a>(matches: &ArgMatches<'a>) -> &'a str
-    ensures { result.now ≡ unwrap_or (first_value (found_of matches.now) (codes "without")) [] }
+/// The numbers of a list that is parted by commas; an empty text is one of none.
+fn numbers_of(text: &str, faults: &mut Faults) -> Vec<u64>
+    ensures { Reads faults.old.are_none faults.new.are_none ⊤ }
 {
-    matches.get_str("without").unwrap_or("")
-}
-
-/// Why a journal can't be taken up as the options of `resume` ask, if it can't.
-fn resuming_refused(matches: &ArgMatches<'_>) -> Option<&'static str> {
-    let without = without_in(matches);
-    if !are_numbers(without) {
-        Some("--without takes numbers separated by commas")
-    } else if matches.get_str("journal").is_some() {
-        None
-    } else if !without.is_empty() {
-        Some("--without makes a new journal: name its file with --journal")
-    } else if matches.get_flag("sync") && until_in(matches).is_some() {
-        Some("--until records nothing without --journal, so --sync has nothing to write")
-    } else {
-        None
+    let mut numbers = Vec::new(faults.alloc);
+    let mut are_fine = true;
+    let mut are_kept = true;
+    for word in text.split(',') {
+        match word.parse::<u32>() {
+            Ok(number) => are_kept = are_kept && numbers.push(u64::from(number)).is_ok(),
+            Err(_) => are_fine = false,
+        }
     }
+    faults.check(
+        are_fine || text.is_empty(),
+        "--without takes numbers separated by commas",
+    );
+    faults.keep(are_kept);
+    numbers
 }
 
 /// The journal that the options of `resume` name, and how it is taken up.
-fn resuming_in(alloc: Global, matches: &ArgMatches<'_>, file: &str) -> Result<Resuming, AllocError>
-    ensures { IfOk result (λ asked. IsResuming (found_of matches.now) file.now asked) }
+fn resuming_in(matches: &ArgMatches<'_>, file: &str, faults: &mut Faults) -> Resuming
+    ensures { Reads faults.old.are_none faults.new.are_none (IsResuming (found_of matches.now) file.now result) }
 {
-    Ok(Resuming {
-        file: String::from_str(alloc, file)?,
-        until: until_in(matches),
-        without: numbers_of(alloc, without_in(matches))?,
-        sync: matches.get_flag("sync"),
-    })
-}
-
-/// Why the options of `resume` can't be met, if they can't.
-fn resume_refused(matches: &ArgMatches<'_>, origin: Option<&Origin>) -> Option<&'static str> {
-    match (resuming_refused(matches), operators_in(matches)) {
-        (Some(text), _) => Some(text),
-        (None, Some(operators)) => pages_refused(operators, origin),
-        (None, None) => None,
-    }
-}
-
-/// What the options of `resume` ask for.
-pub(crate) fn resume_call(
-    alloc: Global,
-    matches: &ArgMatches<'_>,
-    file: &str,
-) -> Result<Call, Error>
-    ensures { IfOk result (λ call. IsResumed (found_of matches.now) file.now call) }
-{
-    let origin = origin_in(alloc, resume(), matches)?;
-    match resume_refused(matches, origin.as_ref()) {
-        Some(text) => Err(refusal(alloc, resume(), text)),
-        None => Ok(resumed_call(alloc, matches, file, origin)?),
+    let until = until_in(matches);
+    let sync = matches.get_flag("sync");
+    let without = numbers_of(matches.get_str("without").unwrap_or(""), faults);
+    let has_journal = matches.get_str("journal").is_some();
+    faults.check(
+        has_journal || without.is_empty(),
+        "--without makes a new journal: name its file with --journal",
+    );
+    faults.check(
+        has_journal || until.is_none() || !sync,
+        "--until records nothing without --journal, so --sync has nothing to write",
+    );
+    Resuming {
+        file: faults.own(file),
+        until,
+        without,
+        sync,
     }
 }
 
 /// A session that begins so, and keeps the new journal that the options name, if they name any.
-pub(crate) fn session_call(
-    alloc: Global,
-    matches: &ArgMatches<'_>,
-    opening: Opening,
-) -> Result<Call, AllocError>
-    ensures { IfOk result (λ call. IsSession (found_of matches.now) opening call) }
+pub(crate) fn session_call(matches: &ArgMatches<'_>, opening: Opening, faults: &mut Faults) -> Call
+    ensures { Reads faults.old.are_none faults.new.are_none (IsSession (found_of matches.now) opening result) }
 {
-    let journal = new_journal_in(alloc, matches)?;
-    Ok(Call::Console(program_call::Session { opening, journal }))
+    let journal = new_journal_in(matches, faults);
+    Call::Console(program_call::Session { opening, journal })
 }
 
-/// What the options of `resume` ask for, if they can be met.
-fn resumed_call(
-    alloc: Global,
-    matches: &ArgMatches<'_>,
-    file: &str,
-    origin: Option<Origin>,
-) -> Result<Call, AllocError>
-    requires { IsOriginIn (found_of matches.now) origin }
-    ensures { IfOk result (λ call. IsResumed (found_of matches.now) file.now call) }
+/// What the options of `resume` ask for.
+pub(crate) fn resume_call(matches: &ArgMatches<'_>, file: &str, faults: &mut Faults) -> Call
+    ensures { Reads faults.old.are_none faults.new.are_none (IsResumed (found_of matches.now) file.now result) }
 {
-    let resuming = resuming_in(alloc, matches, file)?;
-    let opening = Opening::Journal(resuming);
+    let origin = origin_in(matches, faults);
+    let opening = Opening::Journal(resuming_in(matches, file, faults));
     match operators_in(matches) {
         Some(operators) => {
-            let seating = seating_in(alloc, matches, opening, operators, origin)?;
-            Ok(Call::ServeSeats(seating))
+            check_pages(operators, origin.as_ref(), faults);
+            seats_call(matches, opening, operators, origin, faults)
         }
-        None => Ok(session_call(alloc, matches, opening)?),
+        None => session_call(matches, opening, faults),
     }
-}
-
-/// Whether a text is a list of numbers that is parted by commas; an empty text is one of none.
-fn are_numbers(text: &str) -> bool {
-    text.is_empty() || text.split(',').all(|word| word.parse::<u32>().is_ok())
-}
-
-/// The numbers of a list that is parted by commas.
-fn numbers_of(alloc: Global, text: &str) -> Result<Vec<u64>, AllocError> {
-    let mut numbers = Vec::new(alloc);
-    for word in text.split(',') {
-        if let Ok(number) = word.parse::<u32>() {
-            numbers.push(u64::from(number))?;
-        }
-    }
-    Ok(numbers)
 }

@@ -5,11 +5,15 @@
 //! ```
 #![tactic(auto)]
 
-// the kinds of arguments
+// the kinds of arguments, and the texts that their help takes from tables
+mod help_texts;
 mod options;
 
 // the kinds of subcommands
 mod commands;
+
+// what is wrong with the values of a command line
+mod faults;
 
 // the words of each subcommand, and the options that several have
 mod assembling;

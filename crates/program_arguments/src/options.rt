@@ -1,15 +1,10 @@
 //! The kinds of arguments that the subcommands have.
-ghost use Rattle.std.specs.Prelude.{IfOk, OnOk};
-ghost use Rattle.clap.specs.Words.{found_of};
-ghost use Rattle.program_arguments.specs.Options.{IsNameIn};
-
-use crate::sizes::SizeTexts;
+use crate::help_texts::HelpTexts;
 use clap::builder::ValueParser;
-use clap::{Arg, ArgAction, ArgMatches};
+use clap::{Arg, ArgAction};
 use std::alloc::{AllocError, Global};
 
 /// An argument of a subcommand.
-#[derive(Clone, Copy)]
 pub(crate) struct Argument {
     /// Its name.
     pub name: &'static str,
@@ -28,7 +23,6 @@ pub(crate) struct Argument {
 }
 
 /// What an argument is.
-#[derive(Clone, Copy)]
 pub(crate) enum Kind {
     /// An option without a value.
     Flag,
@@ -71,111 +65,41 @@ const ANY_U16: ValueParser<'static> = ValueParser::Signed(0, 65_535);
 /// Any `u32`.
 pub(crate) const ANY_U32: ValueParser<'static> = ValueParser::Signed(0, 4_294_967_295);
 
-/// An option with a value, for which the help has this word, and which this parser takes.
-fn option<'a>(
+/// An argument as `clap` has it, with the texts that the help takes from tables.
+pub(crate) fn arg_of<'a>(
     alloc: Global,
-    name: &'a str,
-    value: &'a str,
-    parser: ValueParser<'a>,
-    help: &'a str,
-) -> Arg<'a> {
-    Arg::new(alloc, name)
-        .long(name)
-        .value_name(value)
-        .value_parser(parser)
-        .help(help)
-}
-
-/// An argument by itself, with the texts that the help takes from the sizes.
-fn alone<'a>(alloc: Global, sizes: &'a SizeTexts, of: &Argument) -> Arg<'a> {
-    match of.kind {
-        Kind::Flag => Arg::new(alloc, of.name)
+    texts: &'a HelpTexts,
+    of: &Argument,
+) -> Result<Arg<'a>, AllocError> {
+    let plain = Arg::new(alloc, of.name)
+        .help(of.help)
+        .required(of.is_required);
+    let arg = match of.kind {
+        Kind::File => plain.value_name("FILE"),
+        Kind::Flag => plain.long(of.name).action(ArgAction::SetTrue),
+        Kind::Value(value, parser, default) => plain
             .long(of.name)
-            .help(of.help)
-            .action(ArgAction::SetTrue),
-        Kind::Value(value, parser, default) => {
-            option(alloc, of.name, value, parser, of.help).default_values(default)
-        },
-        Kind::Repeated(value) => {
-            option(alloc, of.name, value, TEXT, of.help).action(ArgAction::Append)
-        },
-        Kind::Short(value, letter) => {
-            option(alloc, of.name, value, TEXT, of.help).short(letter)
-        },
-        Kind::Size => option(alloc, of.name, "N", ANY_U16, sizes.help.as_str()).default_value(
-            sizes.default.as_str(),
-        ),
-        Kind::List(value, names) => {
-            option(alloc, of.name, value, ValueParser::Names(names), of.help).value_delimiter(',')
-        },
-        Kind::File => Arg::new(alloc, of.name).value_name("FILE").help(of.help),
-    }
-}
-
-/// An argument among others.
-fn among<'a>(arg: Arg<'a>, of: &Argument) -> Result<Arg<'a>, AllocError> {
-    arg.required(of.is_required)
-        .required_unless_present_any(of.instead)?
+            .value_name(value)
+            .value_parser(parser)
+            .default_values(default),
+        Kind::Repeated(value) => plain
+            .long(of.name)
+            .value_name(value)
+            .action(ArgAction::Append),
+        Kind::Short(value, letter) => plain.long(of.name).value_name(value).short(letter),
+        Kind::Size => plain
+            .long(of.name)
+            .value_name("N")
+            .value_parser(ANY_U16)
+            .help(texts.sizes.as_str())
+            .default_value(texts.default_size.as_str()),
+        Kind::List(value, names) => plain
+            .long(of.name)
+            .value_name(value)
+            .value_parser(ValueParser::Names(names))
+            .value_delimiter(','),
+    };
+    arg.required_unless_present_any(of.instead)?
         .requires_all(of.needs)?
         .conflicts_with_all(of.excludes)
-}
-
-/// Adds an argument or a command, if there was room for it.
-pub(crate) fn put<T: Drop>(
-    all: &mut Vec<T>,
-    each: Result<T, AllocError>,
-) -> Result<(), AllocError> {
-    all.push(each?)?;
-    Ok(())
-}
-
-/// Adds the arguments of a subcommand.
-fn put_each<'a>(
-    alloc: Global,
-    sizes: &'a SizeTexts,
-    arguments: &[Argument],
-    args: &mut Vec<Arg<'a>>,
-) -> Result<(), AllocError> {
-    for each in arguments {
-        put(args, among(alone(alloc, sizes, each), each))?;
-    }
-    Ok(())
-}
-
-/// The arguments of a subcommand.
-pub(crate) fn args_of<'a>(
-    alloc: Global,
-    sizes: &'a SizeTexts,
-    arguments: &[Argument],
-) -> Result<Vec<Arg<'a>>, AllocError> {
-    let mut args = Vec::new(alloc);
-    put_each(alloc, sizes, arguments, &mut args)?;
-    Ok(args)
-}
-
-/// The value of an option, if it is there.
-pub(crate) fn name_in(
-    alloc: Global,
-    matches: &ArgMatches<'_>,
-    option: &str,
-) -> Result<Option<String>, AllocError>
-    ensures { IfOk result (λ name. IsNameIn (found_of matches.now) option.now name) }
-{
-    match matches.get_str(option) {
-        Some(name) => Ok(Some(String::from_str(alloc, name)?)),
-        None => Ok(None),
-    }
-}
-
-/// Puts the value of an option there, if it is named, or else none.
-pub(crate) fn put_name(
-    alloc: Global,
-    matches: &ArgMatches<'_>,
-    option: &str,
-    name: &mut Option<String>,
-) -> Result<(), AllocError>
-    ensures { OnOk result (IsNameIn (found_of matches.now) option.now name.new) }
-{
-    *name = name_in(alloc, matches, option)?;
-    Ok(())
 }

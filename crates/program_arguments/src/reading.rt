@@ -2,21 +2,22 @@
 ghost use Rattle.std.specs.Prelude.{◌≡◌, IfOk};
 ghost use Rattle.clap.specs.Words.{found_of};
 ghost use Rattle.program_arguments.specs.Calls.{IsAsked, IsConsole, IsDisassembled, IsLoad, IsOf, IsOfFile, bare_call};
+ghost use Rattle.program_arguments.specs.Options.{Reads};
 
-use crate::assembling::{assemble, assemble_call};
-use crate::commands::{Session, Subcommand, command_of, refusal};
-use crate::features::{FIT, NAMED_TWICE, features_in};
+use crate::assembling::assemble_call;
+use crate::commands::{LINES, PLAIN, Subcommand, program, refusal};
+use crate::faults::Faults;
+use crate::features::{FIT, features_in};
 use crate::graphics::{GRAPHICS, graphics_in};
-use crate::journals::{
-    JOURNAL, NEW_SYNC, journal_call, resume, resume_call, session_call, show_journal,
-};
-use crate::operating::{operate, operate_call};
-use crate::options::{Argument, FREE, Kind, put};
-use crate::reeling::{reel, reel_call};
-use crate::running::{run, run_call};
-use crate::serving::{operators_in, serve, serve_call};
-use crate::sizes::{SIZE, SizeTexts, size_in};
-use clap::{ArgMatches, Command, Error};
+use crate::help_texts::HelpTexts;
+use crate::journals::{JOURNAL, NEW_SYNC, journal_call, resume_call, session_call};
+use crate::operating::operate_call;
+use crate::options::{Argument, FREE, Kind};
+use crate::reeling::reel_call;
+use crate::running::run_call;
+use crate::serving::{operators_in, serve_call};
+use crate::sizes::{SIZE, size_in};
+use clap::{ArgMatches, Error};
 use machine_tables::Features;
 use program_call::{Call, DEFAULT_SIZE, Opening};
 use std::alloc::{AllocError, Global};
@@ -39,12 +40,13 @@ static CONSOLE: Subcommand = Subcommand {
     name: "console",
     whole_name: "ibm1401 console",
     about: "Carries out the lines of standard input, and writes their replies",
-    session: Session::Lines,
+    lines: Some(LINES),
     arguments: &[JOURNAL, NEW_SYNC, SIZE, FIT],
+    ..PLAIN
 };
 
 /// A reference to it.
-fn console() -> &'static Subcommand {
+pub(crate) fn console() -> &'static Subcommand {
     &CONSOLE
 }
 
@@ -53,12 +55,13 @@ static LOAD: Subcommand = Subcommand {
     name: "load",
     whole_name: "ibm1401 load",
     about: "Loads a core image, then works like console",
-    session: Session::Lines,
+    lines: Some(LINES),
     arguments: &[JOURNAL, NEW_SYNC, FIT, IMAGE],
+    ..PLAIN
 };
 
 /// A reference to it.
-fn load() -> &'static Subcommand {
+pub(crate) fn load() -> &'static Subcommand {
     &LOAD
 }
 
@@ -89,12 +92,12 @@ static DISASSEMBLE: Subcommand = Subcommand {
     name: "disassemble",
     whole_name: "ibm1401 disassemble",
     about: "Lists the instructions and the data of a core image, or of what a deck loads",
-    session: Session::Nothing,
     arguments: LISTING,
+    ..PLAIN
 };
 
 /// A reference to it.
-fn disassemble() -> &'static Subcommand {
+pub(crate) fn disassemble() -> &'static Subcommand {
     &DISASSEMBLE
 }
 
@@ -104,58 +107,18 @@ fn disassemble() -> &'static Subcommand {
 ///
 /// What is wrong with the command line, the text of the help, name and version, or want of memory.
 pub fn read_call(alloc: Global, words: &[impl AsStr]) -> Result<Call, Error> {
-    let sizes = SizeTexts::new(alloc)?;
-    call_with(alloc, words, &sizes)
-}
-
-/// Adds the commands of the subcommands. In the help they have this order.
-fn put_each<'a>(
-    alloc: Global,
-    sizes: &'a SizeTexts,
-    commands: &mut Vec<Command<'a>>,
-) -> Result<(), AllocError> {
-    let subcommands = [
-        console(),
-        assemble(),
-        load(),
-        disassemble(),
-        reel(),
-        run(),
-        operate(),
-        serve(),
-        show_journal(),
-        resume(),
-    ];
-    for each in &subcommands {
-        put(commands, command_of(alloc, sizes, each))?;
-    }
-    Ok(())
-}
-
-/// The program with the commands of its subcommands.
-fn program<'a>(alloc: Global, commands: Vec<Command<'a>>) -> Result<Command<'a>, AllocError> {
-    Command::new(alloc, "ibm1401")
-        .about("An IBM 1401 card system, every operation proved")
+    let texts = HelpTexts::new(alloc)?;
+    let matches = program(alloc, &texts)?
         .version(VERSION)
-        .subcommand_required(true)
-        .subcommands(commands)
-}
-
-/// The program with its subcommands.
-fn program_command<'a>(alloc: Global, sizes: &'a SizeTexts) -> Result<Command<'a>, AllocError> {
-    let mut commands = Vec::new(alloc);
-    put_each(alloc, sizes, &mut commands)?;
-    program(alloc, commands)
-}
-
-/// The same, with the texts that the help takes from the sizes.
-fn call_with<'a, S: AsStr>(
-    alloc: Global,
-    words: &'a [S],
-    sizes: &'a SizeTexts,
-) -> Result<Call, Error> {
-    let matches = program_command(alloc, sizes)?.try_get_matches_from(words)?;
-    call_of(alloc, &matches)
+        .try_get_matches_from(words)?;
+    let faults = match call_of(alloc, &matches) {
+        Ok(call) => return Ok(call),
+        Err(faults) => faults,
+    };
+    match (matches.subcommand_name(), faults.text) {
+        (Some(name), Some(text)) => Err(refusal(alloc, &texts, name, text.as_str())?),
+        _ => Err(Error::from(AllocError)),
+    }
 }
 
 /// A session on a machine of the usual size.
@@ -168,85 +131,95 @@ fn bare_call() -> Call
     })
 }
 
-/// What a command line asks for that could be read.
-fn call_of(alloc: Global, matches: &ArgMatches<'_>) -> Result<Call, Error>
+/// What a command line asks for whose words are those of a subcommand.
+///
+/// # Errors
+///
+/// The first fault of its values.
+fn call_of(alloc: Global, matches: &ArgMatches<'_>) -> Result<Call, Faults>
     ensures { IfOk result (λ call. IsAsked matches.now call) }
 {
-    match matches.subcommand() {
-        Some((name, options)) => subcommand_call(alloc, name, options),
-        None => Ok(bare_call()),
+    let Some((name, options)) = matches.subcommand() else {
+        return Ok(bare_call());
+    };
+    let mut faults = Faults {
+        alloc,
+        are_none: true,
+        text: None,
+    };
+    let call = subcommand_call(name, options, &mut faults);
+    if faults.are_none {
+        Ok(call)
+    } else {
+        Err(faults)
     }
 }
 
 /// What the subcommand of this name asks for.
-fn subcommand_call(alloc: Global, name: &str, options: &ArgMatches<'_>) -> Result<Call, Error>
-    ensures { IfOk result (λ call. IsOf name.now (found_of options.now) call) }
+fn subcommand_call(name: &str, options: &ArgMatches<'_>, faults: &mut Faults) -> Call
+    ensures { Reads faults.old.are_none faults.new.are_none (IsOf name.now (found_of options.now) result) }
 {
     match name {
-        "console" => console_call(alloc, options),
-        "operate" => operate_call(alloc, options),
+        "console" => console_call(options, faults),
+        "operate" => operate_call(options, faults),
         "serve" => match operators_in(options) {
-            Some(operators) => serve_call(alloc, options, operators),
-            None => Ok(bare_call()),
+            Some(operators) => serve_call(options, operators, faults),
+            None => bare_call(),
         },
-        _ => file_call(alloc, name, options, options.get_str("file").unwrap_or("")),
+        _ => file_call(name, options, options.get_str("file").unwrap_or(""), faults),
     }
 }
 
 /// What a subcommand with a file asks for.
-fn file_call(alloc: Global, name: &str, options: &ArgMatches<'_>, file: &str) -> Result<Call, Error>
-    ensures { IfOk result (λ call. IsOfFile name.now (found_of options.now) file.now call) }
+fn file_call(name: &str, options: &ArgMatches<'_>, file: &str, faults: &mut Faults) -> Call
+    ensures { Reads faults.old.are_none faults.new.are_none (IsOfFile name.now (found_of options.now) file.now result) }
 {
     match name {
-        "assemble" => assemble_call(alloc, options, file),
-        "load" => load_call(alloc, options, file),
-        "reel" => reel_call(alloc, options, file),
-        "run" => run_call(alloc, options, file),
-        "journal" => journal_call(alloc, options, file),
-        "resume" => resume_call(alloc, options, file),
-        _ => {
-            let call = disassemble_call(alloc, options, file)?;
-            Ok(call)
-        }
+        "assemble" => assemble_call(options, file, faults),
+        "load" => load_call(options, file, faults),
+        "reel" => reel_call(options, file, faults),
+        "run" => run_call(options, file, faults),
+        "journal" => journal_call(options, file, faults),
+        "resume" => resume_call(options, file, faults),
+        _ => disassemble_call(options, file, faults),
     }
 }
 
 /// What the options of `disassemble` ask for.
-fn disassemble_call(alloc: Global, matches: &ArgMatches<'_>, file: &str) -> Result<Call, Error>
-    ensures { IfOk result (λ call. IsDisassembled (found_of matches.now) file.now call) }
+fn disassemble_call(matches: &ArgMatches<'_>, file: &str, faults: &mut Faults) -> Call
+    ensures { Reads faults.old.are_none faults.new.are_none (IsDisassembled (found_of matches.now) file.now result) }
 {
-    let graphics = graphics_in(matches);
+    let graphics = graphics_in(matches, "graphics");
     let size = size_in(matches);
-    let file = String::from_str(alloc, file)?;
+    let file = faults.own(file);
     if matches.get_flag("load") {
-        Ok(Call::DisassembleDeck {
+        Call::DisassembleDeck {
             file,
             graphics,
             size,
-        })
+        }
     } else {
-        Ok(Call::Disassemble { file })
+        Call::Disassemble { file }
     }
 }
 
 /// What the options of `console` ask for.
-fn console_call(alloc: Global, matches: &ArgMatches<'_>) -> Result<Call, Error>
-    ensures { IfOk result (λ call. IsConsole (found_of matches.now) call) }
+fn console_call(matches: &ArgMatches<'_>, faults: &mut Faults) -> Call
+    ensures { Reads faults.old.are_none faults.new.are_none (IsConsole (found_of matches.now) result) }
 {
-    let size = size_in(matches);
-    match features_in(matches) {
-        Some(features) => Ok(session_call(alloc, matches, Opening::PowerOn(size, features))?),
-        None => Err(refusal(alloc, console(), NAMED_TWICE)),
-    }
+    let features = features_in(matches, faults);
+    session_call(
+        matches,
+        Opening::PowerOn(size_in(matches), features),
+        faults,
+    )
 }
 
 /// What the options of `load` ask for.
-fn load_call(alloc: Global, matches: &ArgMatches<'_>, file: &str) -> Result<Call, Error>
-    ensures { IfOk result (λ call. IsLoad (found_of matches.now) file.now call) }
+fn load_call(matches: &ArgMatches<'_>, file: &str, faults: &mut Faults) -> Call
+    ensures { Reads faults.old.are_none faults.new.are_none (IsLoad (found_of matches.now) file.now result) }
 {
-    let file = String::from_str(alloc, file)?;
-    match features_in(matches) {
-        Some(features) => Ok(session_call(alloc, matches, Opening::Image(file, features))?),
-        None => Err(refusal(alloc, load(), NAMED_TWICE)),
-    }
+    let file = faults.own(file);
+    let features = features_in(matches, faults);
+    session_call(matches, Opening::Image(file, features), faults)
 }

@@ -1,14 +1,15 @@
 //! The words of the subcommand `reel`.
-ghost use Rattle.std.specs.Prelude.{◌≡◌, IfOk};
+ghost use Rattle.std.specs.Prelude.{◌≡◌};
 ghost use Rattle.clap.specs.Words.{found_of};
-ghost use Rattle.program_arguments.specs.Calls.{IsParityIn, IsReel, IsReeling, IsReelTask, reel_task};
+ghost use Rattle.program_arguments.specs.Calls.{IsParityIn, IsReel, reel_task};
+ghost use Rattle.program_arguments.specs.Options.{Reads};
 
-use crate::commands::{Session, Subcommand, refusal};
+use crate::commands::{PLAIN, Subcommand};
+use crate::faults::Faults;
 use crate::graphics::{GRAPHICS, graphics_in};
-use crate::options::{Argument, FREE, Kind, TEXT, name_in};
-use clap::{ArgMatches, Error};
+use crate::options::{Argument, FREE, Kind, TEXT};
+use clap::ArgMatches;
 use program_call::{Call, Parity, ReelTask, Reeling};
-use std::alloc::{AllocError, Global};
 
 /// The arguments of `reel`: what is done with which reel or deck.
 const ARGUMENTS: &[Argument] = &[
@@ -57,8 +58,8 @@ static REEL: Subcommand = Subcommand {
     name: "reel",
     whole_name: "ibm1401 reel",
     about: "Lists a reel of tape, a .tap file; makes a deck of a reel, and a reel of a deck",
-    session: Session::Nothing,
     arguments: ARGUMENTS,
+    ..PLAIN
 };
 
 /// A reference to it.
@@ -66,29 +67,14 @@ pub(crate) fn reel() -> &'static Subcommand {
     &REEL
 }
 
-/// What is done with the file.
-fn task_in(alloc: Global, matches: &ArgMatches<'_>) -> Result<ReelTask, AllocError>
-    ensures { IfOk result (IsReelTask (found_of matches.now)) }
-{
-    let output = name_in(alloc, matches, "output")?;
-    let deck = name_in(alloc, matches, "deck")?;
-    Ok(task_of(matches.get_flag("from-deck"), output, deck))
-}
-
 /// What is done with the file if it is a deck or not, and these names are given.
 fn task_of(is_deck: bool, output: Option<String>, deck: Option<String>) -> ReelTask
     ensures { result ≡ reel_task is_deck output deck }
 {
-    if is_deck {
-        match output {
-            Some(output) => ReelTask::FromDeck(output),
-            None => ReelTask::List,
-        }
-    } else {
-        match deck {
-            Some(deck) => ReelTask::IntoDeck(deck),
-            None => ReelTask::List,
-        }
+    match (is_deck, output, deck) {
+        (true, Some(output), _) => ReelTask::FromDeck(output),
+        (false, _, Some(deck)) => ReelTask::IntoDeck(deck),
+        (true, None, _) | (false, _, None) => ReelTask::List,
     }
 }
 
@@ -103,31 +89,23 @@ fn parity_in(matches: &ArgMatches<'_>) -> Parity
     }
 }
 
-/// Whether the options of `reel` name the graphics of a deck, and no deck is read or made.
-fn lacks_deck(matches: &ArgMatches<'_>) -> bool {
-    let is_deck = matches.get_flag("from-deck") || matches.get_str("deck").is_some();
-    matches.get_str("graphics").is_some() && !is_deck
-}
-
 /// What the options of `reel` ask for.
-pub(crate) fn reel_call(alloc: Global, matches: &ArgMatches<'_>, file: &str) -> Result<Call, Error>
-    ensures { IfOk result (λ call. IsReel (found_of matches.now) file.now call) }
+pub(crate) fn reel_call(matches: &ArgMatches<'_>, file: &str, faults: &mut Faults) -> Call
+    ensures { Reads faults.old.are_none faults.new.are_none (IsReel (found_of matches.now) file.now result) }
 {
-    if lacks_deck(matches) {
-        Err(refusal(alloc, reel(), "--graphics needs --deck or --from-deck"))
-    } else {
-        Ok(Call::Reel(reeling_in(alloc, matches, file)?))
-    }
-}
-
-/// What the options of `reel` ask to be done with this file.
-fn reeling_in(alloc: Global, matches: &ArgMatches<'_>, file: &str) -> Result<Reeling, AllocError>
-    ensures { IfOk result (IsReeling (found_of matches.now) file.now) }
-{
-    Ok(Reeling {
-        file: String::from_str(alloc, file)?,
-        task: task_in(alloc, matches)?,
-        graphics: graphics_in(matches),
+    let is_deck = matches.get_flag("from-deck");
+    let graphics = graphics_in(matches, "graphics");
+    faults.check(
+        is_deck || matches.get_str("deck").is_some() || graphics.is_none(),
+        "--graphics needs --deck or --from-deck",
+    );
+    let file = faults.own(file);
+    let output = faults.name(matches, "output");
+    let deck = faults.name(matches, "deck");
+    Call::Reel(Reeling {
+        file,
+        task: task_of(is_deck, output, deck),
+        graphics,
         parity: parity_in(matches),
     })
 }

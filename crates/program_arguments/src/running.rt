@@ -1,24 +1,20 @@
 //! The words of `run`, read by `clap`.
-ghost use Rattle.std.specs.Prelude.{◌≡◌, IfOk, OnOk, codes};
+ghost use Rattle.std.specs.Prelude.{codes};
 ghost use Rattle.clap.specs.Words.{found_of};
-ghost use Rattle.program_arguments.specs.Options.{IsNameIn, IsNumberOr};
-ghost use Rattle.program_arguments.specs.Calls.{IsJob, IsRun, IsRunOn};
-ghost use Rattle.program_arguments.specs.Mounting.{AreReelsIn};
+ghost use Rattle.program_arguments.specs.Options.{IsNumberOr, Reads};
+ghost use Rattle.program_arguments.specs.Calls.{IsRun};
 
-use crate::commands::{Session, Subcommand, refusal};
-use crate::features::{FIT, NAMED_TWICE, features_in};
+use crate::commands::{PLAIN, Subcommand};
+use crate::faults::Faults;
+use crate::features::{FIT, features_in};
 use crate::graphics::{GRAPHICS, OUT_GRAPHICS, SOURCE_GRAPHICS, graphics_by, graphics_in};
 use crate::languages::{LANGUAGE, language_in};
-use crate::mounting::{
-    LOAD_TAPE, MountRefusal, TAPE, fitted_for, program_file, reels_in, start_in,
-};
-use crate::options::{ANY_U32, Argument, FREE, Kind, TEXT, put_name};
+use crate::mounting::{LOAD_TAPE, TAPE, fitted_for, program_file, reels_in, start_in};
+use crate::options::{ANY_U32, Argument, FREE, Kind, TEXT};
 use crate::sizes::{SIZE, named_size_in};
-use crate::switches::{NO_LETTERS, SWITCHES, switches_in};
-use clap::{ArgMatches, Error};
-use machine_tables::Features;
-use program_call::{Call, Job, MountedReel};
-use std::alloc::{AllocError, Global};
+use crate::switches::{SWITCHES, switches_in};
+use clap::ArgMatches;
+use program_call::{Call, Job};
 
 /// The most instructions that are carried out if no number is named.
 const DEFAULT_LIMIT: u32 = 1_000_000_000;
@@ -95,8 +91,8 @@ static RUN: Subcommand = Subcommand {
     name: "run",
     whole_name: "ibm1401 run",
     about: "Runs a source or an image with a deck, from cards to paper",
-    session: Session::Nothing,
     arguments: RUNNING,
+    ..PLAIN
 };
 
 /// A reference to it.
@@ -112,90 +108,32 @@ pub(crate) fn limit_in(matches: &ArgMatches<'_>) -> u32
 }
 
 /// What the options of `run` ask for.
-pub(crate) fn run_call(alloc: Global, matches: &ArgMatches<'_>, file: &str) -> Result<Call, Error>
-    ensures { IfOk result (λ call. IsRun (found_of matches.now) file.now call) }
+pub(crate) fn run_call(matches: &ArgMatches<'_>, file: &str, faults: &mut Faults) -> Call
+    ensures { Reads faults.old.are_none faults.new.are_none (IsRun (found_of matches.now) file.now result) }
 {
-    let Some(switches) = switches_in(matches) else {
-        return Err(refusal(alloc, run(), NO_LETTERS));
-    };
-    let Some(features) = features_in(matches) else {
-        return Err(refusal(alloc, run(), NAMED_TWICE));
-    };
-    run_on(alloc, matches, file, switches, features)
-}
-
-/// The same, with these switches and features.
-fn run_on(
-    alloc: Global,
-    matches: &ArgMatches<'_>,
-    file: &str,
-    switches: [bool; 7],
-    features: Features,
-) -> Result<Call, Error>
-    ensures { IfOk result (λ call. IsRunOn (found_of matches.now) file.now switches features call) }
-{
-    match reels_in(alloc, matches) {
-        Ok(reels) => Ok(Call::Run(job_in(alloc, matches, file, switches, features, reels)?)),
-        Err(MountRefusal::Memory) => Err(Error::from(AllocError)),
-        Err(MountRefusal::Value(text)) => Err(refusal(alloc, run(), text.as_str())),
-    }
-}
-
-/// The job of a file, with these switches, features and reels, that the options of `run` ask for.
-fn job_in(
-    alloc: Global,
-    matches: &ArgMatches<'_>,
-    file: &str,
-    switches: [bool; 7],
-    features: Features,
-    reels: Vec<MountedReel>,
-) -> Result<Job, AllocError>
-    requires { AreReelsIn (found_of matches.now) reels.items }
-    ensures { IfOk result (λ job. IsJob (found_of matches.now) file.now switches features job) }
-{
-    let start = start_in(matches, reels.as_slice());
-    let file = program_file(file, start, reels.as_slice());
-    let features = fitted_for(reels.as_slice(), features);
-    let mut job = Job {
-        file: String::from_str(alloc, file)?,
+    let switches = switches_in(matches, faults);
+    let features = features_in(matches, faults);
+    let reels = reels_in(matches, faults);
+    let mounted = reels.as_slice();
+    let start = start_in(matches, mounted);
+    let file = faults.own(program_file(file, start, mounted));
+    let features = fitted_for(mounted, features);
+    Call::Run(Job {
+        file,
         start,
         reels,
-        cards: None,
-        punch: None,
-        paper: None,
-        trace: None,
-        image: None,
+        cards: faults.name(matches, "cards"),
+        punch: faults.name(matches, "punch"),
+        paper: faults.name(matches, "paper"),
+        trace: faults.name(matches, "trace"),
+        image: faults.name(matches, "image"),
         language: language_in(matches),
-        graphics: graphics_in(matches),
+        graphics: graphics_in(matches, "graphics"),
         source_graphics: graphics_by(matches, "source-graphics"),
         punch_graphics: graphics_by(matches, "out-graphics"),
         size: named_size_in(matches),
         limit: limit_in(matches),
         switches,
         features,
-    };
-    name_files(alloc, matches, &mut job)?;
-    Ok(job)
-}
-
-/// Names the files of a job that the options of `run` name.
-fn name_files(alloc: Global, matches: &ArgMatches<'_>, job: &mut Job) -> Result<(), AllocError>
-    ensures cards { OnOk result (IsNameIn (found_of matches.now) (codes "cards") job.new.cards) }
-    ensures punch { OnOk result (IsNameIn (found_of matches.now) (codes "punch") job.new.punch) }
-    ensures paper { OnOk result (IsNameIn (found_of matches.now) (codes "paper") job.new.paper) }
-    ensures trace { OnOk result (IsNameIn (found_of matches.now) (codes "trace") job.new.trace) }
-    ensures image { OnOk result (IsNameIn (found_of matches.now) (codes "image") job.new.image) }
-    ensures rest { OnOk result (job.new ≡ record job.old {
-      cards = job.new.cards;
-      punch = job.new.punch;
-      paper = job.new.paper;
-      trace = job.new.trace;
-      image = job.new.image;
-    }) }
-{
-    put_name(alloc, matches, "cards", &mut job.cards)?;
-    put_name(alloc, matches, "punch", &mut job.punch)?;
-    put_name(alloc, matches, "paper", &mut job.paper)?;
-    put_name(alloc, matches, "trace", &mut job.trace)?;
-    put_name(alloc, matches, "image", &mut job.image)
+    })
 }

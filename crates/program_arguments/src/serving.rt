@@ -1,24 +1,29 @@
 //! The options of a room that operators share, read by `clap`.
-ghost use Rattle.std.specs.Prelude.{◌≡◌, IfOk};
+ghost use Rattle.std.specs.Prelude.{◌≡◌, ⊤};
 ghost use Rattle.clap.specs.Words.{found_of};
 ghost use Rattle.program_arguments.specs.Features.{features_in};
-ghost use Rattle.program_arguments.specs.Calls.{AreOperatorsIn, IsOpeningIn, IsOriginIn, IsPlainIn, IsRoom, IsSeating};
+ghost use Rattle.program_arguments.specs.Calls.{AreOperatorsIn, IsOpeningIn, IsOriginIn, IsPlainIn, IsRoom, IsSeated};
+ghost use Rattle.program_arguments.specs.Options.{Reads};
 
-use crate::commands::{Session, Subcommand, refusal};
-use crate::features::{FIT, NAMED_TWICE, features_in};
+use crate::commands::{LINES, Subcommand};
+use crate::faults::Faults;
+use crate::features::{FIT, features_in};
 use crate::graphics::{GRAPHICS, graphics_in};
 use crate::journals::{JOURNAL, NEW_SYNC, new_journal_in};
-use crate::options::{Argument, FREE, Kind, TEXT, name_in};
+use crate::options::{Argument, FREE, Kind, TEXT};
 use crate::sizes::{SIZE, size_in};
+use clap::ArgMatches;
 use clap::builder::ValueParser;
-use clap::{ArgMatches, Error};
 use machine_tables::Features;
 use program_call::{Call, Opening, Operators, PlainService, Seating};
 use serving_http::{Origin, OriginFault, read_origin};
-use std::alloc::{AllocError, Global};
+use std::alloc::AllocError;
 
 /// The port that a browser leaves out of an address, so that a page there couldn't know whether it was asked for.
 const UNNAMED_PORT: u16 = 80;
+
+/// The last port.
+const LAST_PORT: u32 = 65_535;
 
 /// Any port.
 const ANY_PORT: ValueParser<'static> = ValueParser::Signed(1, 65_535);
@@ -109,7 +114,8 @@ static SERVE: Subcommand = Subcommand {
     name: "serve",
     whole_name: "ibm1401 serve",
     about: "Opens a machine to operators, each with a connection or a page of their own",
-    session: Session::Ports,
+    lines: Some(LINES),
+    ports: Some(true),
     arguments: ARGUMENTS,
 };
 
@@ -131,82 +137,53 @@ pub(crate) fn operators_in(matches: &ArgMatches<'_>) -> Option<Operators>
 }
 
 /// The origin outside that the options of a subcommand name, if they name one.
-pub(crate) fn origin_in(
-    alloc: Global,
-    of: &Subcommand,
-    matches: &ArgMatches<'_>,
-) -> Result<Option<Origin>, Error>
-    ensures { IfOk result (λ origin. IsOriginIn (found_of matches.now) origin) }
+pub(crate) fn origin_in(matches: &ArgMatches<'_>, faults: &mut Faults) -> Option<Origin>
+    ensures { Reads faults.old.are_none faults.new.are_none (IsOriginIn (found_of matches.now) result) }
 {
     let Some(text) = matches.get_str("origin") else {
-        return Ok(None);
+        return None;
     };
-    match read_origin(alloc, text) {
-        Ok(origin) => Ok(Some(origin)),
-        Err(fault) => Err(origin_refusal(alloc, of, text, fault)),
+    match read_origin(faults.alloc, text) {
+        Ok(origin) => return Some(origin),
+        Err(OriginFault::Memory) => faults.refuse(Err(AllocError)),
+        Err(fault) => faults.refuse(format!(in faults.alloc;
+            "invalid value '{text}' for '--origin <ORIGIN>': {fault}"
+        )),
     }
+    None
 }
 
-/// Why an origin of a subcommand can't be read, as a text.
-fn origin_fault(alloc: Global, origin: &str, fault: OriginFault) -> Result<String, AllocError> {
-    if fault == OriginFault::Memory {
-        return Err(AllocError);
-    }
-    format!(in alloc; "invalid value '{origin}' for '--origin <ORIGIN>': {fault}")
-}
-
-/// The refusal of an origin of a subcommand that can't be read. If memory was refused for it, that is the error.
-fn origin_refusal(alloc: Global, of: &Subcommand, origin: &str, fault: OriginFault) -> Error {
-    match origin_fault(alloc, origin, fault) {
-        Ok(text) => refusal(alloc, of, text.as_str()),
-        Err(fault) => Error::from(fault),
-    }
-}
-
-/// Why there can't be pages for these operators, if there can't: here, or where a proxy brings them.
-pub(crate) fn pages_refused(operators: Operators, origin: Option<&Origin>) -> Option<&'static str> {
-    let first = operators.page?;
-    let further = u16::from(operators.seats).saturating_sub(1);
-    match first.checked_add(further) {
-        None => Some("the pages of all seats need ports beyond 65535"),
-        Some(last) if first <= UNNAMED_PORT && UNNAMED_PORT <= last => {
-            Some("no page can be at port 80, which browsers leave out of what they send")
-        }
-        Some(last) => origin_refused(first, last, further, origin?),
-    }
-}
-
-/// Why a proxy can't bring the pages at the ports from the first to the last to others, if it can't.
-fn origin_refused(first: u16, last: u16, further: u16, origin: &Origin) -> Option<&'static str> {
-    match origin.port.checked_add(further) {
-        None => Some("the pages of all seats need ports of --origin beyond 65535"),
-        Some(outside) => {
-            if origin.host.as_str() == "127.0.0.1" && origin.port <= last && first <= outside {
-                Some("--origin names ports of 127.0.0.1 at which the pages already are")
-            } else {
-                None
-            }
-        }
-    }
-}
-
-/// What the options of `serve` ask for.
-pub(crate) fn serve_call(
-    alloc: Global,
-    matches: &ArgMatches<'_>,
-    operators: Operators,
-) -> Result<Call, Error>
-    ensures { IfOk result (λ call. IsRoom (found_of matches.now) operators call) }
+/// Checks that there can be pages for these operators: here, or where a proxy brings them.
+pub(crate) fn check_pages(operators: Operators, origin: Option<&Origin>, faults: &mut Faults)
+    ensures { Reads faults.old.are_none faults.new.are_none ⊤ }
 {
-    let origin = origin_in(alloc, serve(), matches)?;
-    match (
-        pages_refused(operators, origin.as_ref()),
-        features_in(matches),
-    ) {
-        (Some(text), _) => Err(refusal(alloc, serve(), text)),
-        (None, Some(features)) => Ok(room_call(alloc, matches, operators, origin, features)?),
-        (None, None) => Err(refusal(alloc, serve(), NAMED_TWICE)),
-    }
+    let Some(first) = operators.page else {
+        return;
+    };
+    let further = u32::from(operators.seats).saturating_sub(1);
+    let last = u32::from(first) + further;
+    faults.check(
+        last <= LAST_PORT,
+        "the pages of all seats need ports beyond 65535",
+    );
+    faults.check(
+        first > UNNAMED_PORT || last < u32::from(UNNAMED_PORT),
+        "no page can be at port 80, which browsers leave out of what they send",
+    );
+    let Some(origin) = origin else {
+        return;
+    };
+    let outside = u32::from(origin.port) + further;
+    faults.check(
+        outside <= LAST_PORT,
+        "the pages of all seats need ports of --origin beyond 65535",
+    );
+    faults.check(
+        origin.host.as_str() != "127.0.0.1"
+            || u32::from(origin.port) > last
+            || u32::from(first) > outside,
+        "--origin names ports of 127.0.0.1 at which the pages already are",
+    );
 }
 
 /// Whether the options of `serve` ask for a new room that is gone with its first operators.
@@ -220,65 +197,59 @@ fn is_plain(matches: &ArgMatches<'_>) -> bool
         && !matches.get_flag("keep-seats")
 }
 
-/// The room that the options of `serve` ask for, for these operators, on a machine with these features.
-fn room_call(
-    alloc: Global,
+/// What the options of `serve` ask for, for these operators.
+pub(crate) fn serve_call(
     matches: &ArgMatches<'_>,
     operators: Operators,
-    origin: Option<Origin>,
-    features: Features,
-) -> Result<Call, AllocError>
-    requires origin { IsOriginIn (found_of matches.now) origin }
-    requires features { features ≡ features_in (found_of matches.now) }
-    ensures { IfOk result (λ call. IsRoom (found_of matches.now) operators call) }
+    faults: &mut Faults,
+) -> Call
+    ensures { Reads faults.old.are_none faults.new.are_none (IsRoom (found_of matches.now) operators result) }
 {
+    let origin = origin_in(matches, faults);
+    check_pages(operators, origin.as_ref(), faults);
+    let features = features_in(matches, faults);
     let Operators { seats, port, page } = operators;
     match (is_plain(matches), port, page) {
         (true, Some(port), None) => {
             let size = size_in(matches);
-            Ok(Call::Serve(PlainService { size, seats, port }))
+            Call::Serve(PlainService { size, seats, port })
         },
         _ => {
-            let opening = opening_in(alloc, matches, features)?;
-            let seating = seating_in(alloc, matches, opening, operators, origin)?;
-            Ok(Call::ServeSeats(seating))
+            let opening = opening_in(matches, features, faults);
+            seats_call(matches, opening, operators, origin, faults)
         }
     }
 }
 
 /// What a room on a machine with these features begins with by the options of `serve`.
-fn opening_in(
-    alloc: Global,
-    matches: &ArgMatches<'_>,
-    features: Features,
-) -> Result<Opening, AllocError>
-    requires { features ≡ features_in (found_of matches.now) }
-    ensures { IfOk result (λ opening. IsOpeningIn (found_of matches.now) opening) }
+fn opening_in(matches: &ArgMatches<'_>, features: Features, faults: &mut Faults) -> Opening
+    ensures { Reads faults.old.are_none faults.new.are_none
+        (features ≡ features_in (found_of matches.now) → IsOpeningIn (found_of matches.now) result) }
 {
-    Ok(match name_in(alloc, matches, "image")? {
+    match faults.name(matches, "image") {
         Some(file) => Opening::Image(file, features),
         None => Opening::PowerOn(size_in(matches), features),
-    })
+    }
 }
 
 /// A room that begins so, whose seats are taken again, and for which the options name the rest.
-pub(crate) fn seating_in(
-    alloc: Global,
+pub(crate) fn seats_call(
     matches: &ArgMatches<'_>,
     opening: Opening,
     operators: Operators,
     origin: Option<Origin>,
-) -> Result<Seating, AllocError>
-    requires { IsOriginIn (found_of matches.now) origin }
-    ensures { IfOk result (λ asked. IsSeating (found_of matches.now) opening operators asked) }
+    faults: &mut Faults,
+) -> Call
+    ensures { Reads faults.old.are_none faults.new.are_none
+        (IsOriginIn (found_of matches.now) origin → IsSeated (found_of matches.now) opening operators result) }
 {
-    Ok(Seating {
+    Call::ServeSeats(Seating {
         opening,
         operators,
         origin,
-        cards: name_in(alloc, matches, "cards")?,
-        graphics: graphics_in(matches),
-        journal: new_journal_in(alloc, matches)?,
+        cards: faults.name(matches, "cards"),
+        graphics: graphics_in(matches, "graphics"),
+        journal: new_journal_in(matches, faults),
         renewal: matches.get_one::<u16>("renew-after"),
     })
 }

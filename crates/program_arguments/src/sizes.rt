@@ -6,57 +6,7 @@ ghost use Rattle.program_arguments.specs.Options.{IsNamedSizeIn, IsNumberOr};
 use crate::options::{Argument, FREE, Kind};
 use clap::ArgMatches;
 use clap::parser::ValueSource;
-use core_1401::SIZES;
 use program_call::DEFAULT_SIZE;
-use std::alloc::{AllocError, Global};
-
-/// The texts of the option `--size`, from the one list of sizes.
-#[derive(Drop)]
-pub(crate) struct SizeTexts {
-    /// The help, which names each size.
-    pub(crate) help: String,
-
-    /// The default's digits.
-    pub(crate) default: String,
-}
-
-/// Adds a size to the help, with this before it.
-fn put_size_text(
-    alloc: Global,
-    help: &mut String,
-    front: &str,
-    size: u16,
-) -> Result<(), AllocError> {
-    help.push_str(format!(in alloc; "{front}{size}")?.as_str())
-}
-
-/// Adds each size to the help.
-fn put_size_texts(alloc: Global, help: &mut String) -> Result<(), AllocError> {
-    for (place, size) in SIZES.iter().enumerate() {
-        let front = if place == 0 {
-            " "
-        } else if place + 1 == SIZES.len() {
-            " or "
-        } else {
-            ", "
-        };
-        put_size_text(alloc, help, front, *size)?;
-    }
-    Ok(())
-}
-
-impl SizeTexts {
-    /// The texts of `SIZES` and `DEFAULT_SIZE`.
-    pub(crate) fn new(alloc: Global) -> Result<SizeTexts, AllocError> {
-        let mut texts = SizeTexts {
-            help: String::from_str(alloc, "The places of core storage:")?,
-            default: String::new(alloc),
-        };
-        put_size_texts(alloc, &mut texts.help)?;
-        put_size_text(alloc, &mut texts.default, "", DEFAULT_SIZE)?;
-        Ok(texts)
-    }
-}
 
 /// The size of core storage.
 pub(crate) const SIZE: Argument = Argument {

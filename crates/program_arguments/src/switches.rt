@@ -1,8 +1,10 @@
 //! The sense switches, as an option.
-ghost use Rattle.std.specs.Prelude.{◌≡◌, [], IfSome, codes, unwrap_or};
+ghost use Rattle.std.specs.Prelude.{◌≡◌, [], codes, unwrap_or};
 ghost use Rattle.clap.specs.Words.{first_value, found_of};
 ghost use Rattle.program_arguments.specs.Calls.{switches_named};
+ghost use Rattle.program_arguments.specs.Options.{Reads};
 
+use crate::faults::Faults;
 use crate::options::{Argument, FREE, Kind, TEXT};
 use clap::ArgMatches;
 
@@ -14,18 +16,18 @@ pub(crate) const SWITCHES: Argument = Argument {
     ..FREE
 };
 
-/// Why letters that name other switches are refused.
-pub(crate) const NO_LETTERS: &str = "the switches are letters from A to G";
-
-/// The switches that these letters name; none if a byte is no letter from A to G.
-fn switches_of(letters: &str) -> Option<[bool; 7]>
-    ensures { IfSome result (λ switches. switches ≡ switches_named letters.now) }
+/// The switches that the options of a subcommand turn on.
+pub(crate) fn switches_in(matches: &ArgMatches<'_>, faults: &mut Faults) -> [bool; 7]
+    ensures { Reads faults.old.are_none faults.new.are_none (result
+        ≡ switches_named (unwrap_or (first_value (found_of matches.now) (codes "switches")) [])) }
 {
-    let letters = letters.as_bytes();
-    if !letters.iter().all(|letter| matches!(*letter, b'A'..=b'G')) {
-        return None;
+    let letters = matches.get_str("switches").unwrap_or("").as_bytes();
+    let mut are_fine = true;
+    for letter in letters {
+        are_fine = are_fine && matches!(*letter, b'A'..=b'G');
     }
-    Some([
+    faults.check(are_fine, "the switches are letters from A to G");
+    [
         letters.contains(&b'A'),
         letters.contains(&b'B'),
         letters.contains(&b'C'),
@@ -33,13 +35,5 @@ fn switches_of(letters: &str) -> Option<[bool; 7]>
         letters.contains(&b'E'),
         letters.contains(&b'F'),
         letters.contains(&b'G'),
-    ])
-}
-
-/// The switches that the options of a subcommand turn on; none if a letter names no switch.
-pub(crate) fn switches_in(matches: &ArgMatches<'_>) -> Option<[bool; 7]>
-    ensures { IfSome result (λ switches. switches
-        ≡ switches_named (unwrap_or (first_value (found_of matches.now) (codes "switches")) [])) }
-{
-    switches_of(matches.get_str("switches").unwrap_or(""))
+    ]
 }

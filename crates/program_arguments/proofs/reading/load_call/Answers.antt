@@ -1,7 +1,9 @@
-use Rattle.std.proofs.Common.{rules}
+-- The file and the features are those that were read.
 use Rattle.program_arguments.proofs.reading.load_call.Goals as goal
 
--- the session begins with the file that was read
-pub returns-in_ok-session_call-in-Some : goal.returns-in_ok-session_call-in-Some
-returns-in_ok-session_call-in-Some c =
-    rw (← c.in-Some.ensures) (c.in_ok-file.file, search rules, search rules)
+pub returns : goal.returns
+returns c = λ whole.
+    let session = c.session_call.ensures whole in
+    let features = c.features_in-features.ensures session.0 in
+    let file = c.own-file.ensures features.0 in
+    (file.0, (c.own-file.result, file.1, rw (← features.1) session.1))
