@@ -18,7 +18,7 @@ class Replaced(ProgramTest):
 
     def setUp(self):
         names = ("program", "a.tap", "moved", "theirs", "a.tap.0.reel")
-        self.program, self.reel, self.moved, self.theirs, self.beside = (self.folder / each for each in names)
+        self.program, self.reel, self.moved, self.theirs, self.copy = (self.folder / each for each in names)
         self.text = between(codes("ABC")) + between(codes("DE"))
         self.reel.write_bytes(self.text)
         self.theirs.write_bytes(THEIRS)
@@ -55,11 +55,11 @@ class Replaced(ProgramTest):
 class Reels(Replaced):
     """Reels with a ring."""
 
-    def expect_beside(self, name, ran, reel, beside):
+    def expect_beside(self, name, ran, reel, copy):
         """Subtests: the reel isn't written to the file of its name but to a new one next to it."""
-        fault = f"ibm1401: {reel} is no longer the file that was read: its reel is in {beside}"
+        fault = f"ibm1401: {reel} is no longer the file that was read: its reel is in {copy}"
         self.same(name, ran, (1, b"", fault))
-        self.holds(f"{name}: the reel", beside, self.written)
+        self.holds(f"{name}: the reel", copy, self.written)
         self.holds(f"{name}: their file", self.theirs, THEIRS)
         self.same(f"{name}: nothing is left over", list(self.folder.glob("*.part")), [])
 
@@ -67,7 +67,7 @@ class Reels(Replaced):
         ran = self.run_with(self.reel, lambda: None)
         self.same("its end", ran[:2], (0, b""))
         self.holds("the reel", self.reel, self.written)
-        self.same("nothing is next to it", self.beside.exists(), False)
+        self.same("nothing is next to it", self.copy.exists(), False)
 
     def test_a_file_that_has_a_new_name_and_a_link(self):
         """By its own name, and by that of the link."""
@@ -79,17 +79,17 @@ class Reels(Replaced):
         self.holds("the reel", self.moved, self.written)
 
     def test_a_link_in_its_place(self):
-        self.expect_beside("a link", self.run_with(self.reel, self.link), self.reel, self.beside)
+        self.expect_beside("a link", self.run_with(self.reel, self.link), self.reel, self.copy)
         self.same("the link stays", os.readlink(self.reel), str(self.theirs))
         self.holds("the file that was read", self.moved, self.text)
 
     def test_another_file_in_its_place(self):
-        self.expect_beside("a file", self.run_with(self.reel, self.file), self.reel, self.beside)
+        self.expect_beside("a file", self.run_with(self.reel, self.file), self.reel, self.copy)
         self.holds("the file stays", self.reel, THEIRS)
         self.holds("the file that was read", self.moved, self.text)
 
     def test_a_file_that_is_gone(self):
-        self.expect_beside("none", self.run_with(self.reel, self.reel.unlink), self.reel, self.beside)
+        self.expect_beside("none", self.run_with(self.reel, self.reel.unlink), self.reel, self.copy)
         self.same("none is made of its name", self.reel.exists(), False)
 
     def test_a_link_that_leads_elsewhere(self):
@@ -104,10 +104,10 @@ class Reels(Replaced):
         self.holds("the file that was read", self.reel, self.text)
 
     def test_a_name_next_to_it_that_is_taken(self):
-        self.beside.write_bytes(THEIRS)
+        self.copy.write_bytes(THEIRS)
         ran = self.run_with(self.reel, self.link)
         self.expect_beside("the next one", ran, self.reel, self.folder / "a.tap.1.reel")
-        self.holds("the first stays", self.beside, THEIRS)
+        self.holds("the first stays", self.copy, THEIRS)
 
     def test_no_name_next_to_it_that_is_free(self):
         for number in range(100):
@@ -129,7 +129,7 @@ class Outputs(Replaced):
     """What is written to files that aren't read."""
 
     def swapped(self, out, theirs, *words):
-        """A call during which somebody else's file gets the name of one that is about to get it: how it ended."""
+        """A call during which somebody else's file takes the name of a file that is about to be put there: how it ended."""
         library = self.folder / "refuse_sync.so"
         if not library.exists():
             made = ["cc", "-shared", "-fPIC", "-O2", "-o", library, self.top / "tests/refuse_sync.c"]
@@ -173,7 +173,7 @@ class Outputs(Replaced):
         self.expect_let_be("reel", "--from-deck", deck, "-o")
 
     def test_what_a_run_writes_as_it_goes_on(self):
-        """The names are followed once, when the job begins. The trace goes to a pipe, so that the run waits."""
+        """The names are followed once, when the job begins. The trace goes to a pipe, and the run waits for it."""
         source, pipe = self.folder / "source", self.folder / "pipe"
         source.write_text("               ORG  400\n     START     MCW  @AN ANSWER@,209\n               W\n               P\n"
                           "               H\n               NOP\n               END  START\n")
@@ -220,12 +220,12 @@ class LongNames(Replaced):
 
     def test_a_reel_next_to_the_longest(self):
         """Its name is one of its own."""
-        name, beside = self.folder / ("n" * 255), self.folder / "ibm1401.0.reel"
+        name, copy = self.folder / ("n" * 255), self.folder / "ibm1401.0.reel"
         name.write_bytes(self.text)
         ran = self.run_with(name, name.unlink)
-        fault = f"ibm1401: {name} is no longer the file that was read: its reel is in {beside}"
+        fault = f"ibm1401: {name} is no longer the file that was read: its reel is in {copy}"
         self.same("its end", ran, (1, b"", fault))
-        self.holds("the reel", beside, self.written)
+        self.holds("the reel", copy, self.written)
 
 
 if __name__ == "__main__":
