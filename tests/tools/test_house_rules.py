@@ -18,6 +18,7 @@ MOST_LINES = {
     "docs/DECISIONS.md": 520,
     "docs/GLOSSARY.md": 60,
     "docs/OPERATE.md": 350,
+    "docs/PAGE.md": 250,
 }
 MOST_COLUMNS = 120
 # How many words a cell of a page's tables may have, if it is to be read aloud.
