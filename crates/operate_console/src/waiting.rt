@@ -1,5 +1,5 @@
 //! Lines that wait for their turn: those of files, and those typed ahead.
-ghost use Rattle.std.specs.Prelude.{◌≤◌, length};
+ghost use Rattle.std.specs.Prelude.{◌≡◌, ◌≤◌, true, false, length};
 
 use crate::script::Script;
 use machine_notation::put_digits;
@@ -94,7 +94,9 @@ pub(crate) struct Waiting {
 
 impl Waiting {
     /// None.
-    pub(crate) fn new(alloc: Global) -> Waiting {
+    pub(crate) fn new(alloc: Global) -> Waiting
+        ensures { result.has_ended ≡ false }
+    {
         Waiting {
             scripts: Vec::new(alloc),
             typed: Lines::of_text(Vec::new(alloc)),
@@ -109,7 +111,9 @@ impl Waiting {
     }
 
     /// The lines of a file come next.
-    pub(crate) fn begin(&mut self, script: Script) -> Result<(), AllocError> {
+    pub(crate) fn begin(&mut self, script: Script) -> Result<(), AllocError>
+        ensures { self.new.has_ended ≡ self.old.has_ended }
+    {
         let Script { name, text } = script;
         let lines = NamedLines {
             name,
@@ -120,12 +124,30 @@ impl Waiting {
     }
 
     /// A line that was typed ahead waits.
-    pub(crate) fn push_typed(&mut self, line: &[u8]) -> Result<(), AllocError> {
+    pub(crate) fn push_typed(&mut self, line: &[u8]) -> Result<(), AllocError>
+        ensures { self.new.has_ended ≡ self.old.has_ended }
+    {
         self.typed.push(line)
     }
 
+    /// More is read: what is typed after the end of the input belongs to it too, and then it hasn't ended.
+    pub(crate) fn read_on(&mut self)
+        ensures { self.new.has_ended ≡ false }
+    {
+        self.has_ended = false;
+    }
+
+    /// The input has ended.
+    pub(crate) fn note_end(&mut self)
+        ensures { self.new.has_ended ≡ true }
+    {
+        self.has_ended = true;
+    }
+
     /// The input has ended, after these bytes, which are a line if there are any.
-    pub(crate) fn end_input(&mut self, last: &[u8]) -> Result<(), AllocError> {
+    pub(crate) fn end_input(&mut self, last: &[u8]) -> Result<(), AllocError>
+        ensures { self.new.has_ended ≡ true }
+    {
         self.has_ended = true;
         if last.is_empty() {
             return Ok(());
@@ -134,12 +156,16 @@ impl Waiting {
     }
 
     /// Whether the input has ended.
-    pub(crate) fn has_ended(&self) -> bool {
+    pub(crate) fn has_ended(&self) -> bool
+        ensures { result ≡ self.now.has_ended }
+    {
         self.has_ended
     }
 
     /// No line of a file is done any more, after a fault.
-    pub(crate) fn end_files(&mut self) {
+    pub(crate) fn end_files(&mut self)
+        ensures { self.new.has_ended ≡ self.old.has_ended }
+    {
         self.scripts.clear();
     }
 
@@ -153,7 +179,9 @@ impl Waiting {
     /// # Errors
     ///
     /// If there is no memory for it.
-    pub(crate) fn take_of_files(&mut self, alloc: Global) -> Result<Option<Vec<u8>>, AllocError> {
+    pub(crate) fn take_of_files(&mut self, alloc: Global) -> Result<Option<Vec<u8>>, AllocError>
+        ensures { self.new.has_ended ≡ self.old.has_ended }
+    {
         self.place.clear();
         for _file in 0..self.scripts.len() {
             let Some(mut script) = self.scripts.pop() else {
@@ -173,7 +201,9 @@ impl Waiting {
     /// # Errors
     ///
     /// If there is no memory for it.
-    pub(crate) fn take_typed(&mut self, alloc: Global) -> Result<Option<Vec<u8>>, AllocError> {
+    pub(crate) fn take_typed(&mut self, alloc: Global) -> Result<Option<Vec<u8>>, AllocError>
+        ensures { self.new.has_ended ≡ self.old.has_ended }
+    {
         self.typed.take(alloc)
     }
 }

@@ -131,7 +131,7 @@ impl<'a, R: Files<File = File> + Eprint + AllocGlobal> Desk for FileDesk<'a, R> 
         }
     }
 
-    fn save(&mut self, name: &[u8], text: &[u8]) -> Result<(), FileFault> {
+    fn save(&mut self, name: &[u8], _room: &Room, text: &[u8]) -> Result<(), FileFault> {
         let MadeJournal { mut file, name } = self.make(name)?;
         match put_all(&mut file, text) {
             Ok(()) => Ok(()),

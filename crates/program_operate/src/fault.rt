@@ -1,8 +1,8 @@
 //! Why a person's console isn't begun, or how it ended.
 ghost use Rattle.std.specs.Prelude.{◌≡◌, ◌≢◌};
-ghost use Rattle.program_operate.specs.Outcome.{outcome};
+ghost use Rattle.program_operate.specs.Outcome.{failed_by, outcome};
 
-use operate_console::OperateEnd;
+use operate_console::{Failure, OperateEnd};
 use program_rooms::HoldFault;
 use program_run::RunFault;
 use room_alone::{RoomFault, SessionFault};
@@ -40,6 +40,19 @@ pub(crate) fn unready(fault: RoomFault) -> OperateFault
     }
 }
 
+/// How a console ended by a failure is reported.
+fn ended_by(failure: Failure) -> HoldFault
+    ensures { result ≡ failed_by failure }
+{
+    match failure {
+        Failure::Write => HoldFault::Output,
+        Failure::Read => HoldFault::Session(SessionFault::Read),
+        Failure::Bound => HoldFault::Session(SessionFault::Bound),
+        Failure::Memory => HoldFault::Session(SessionFault::Memory),
+        Failure::Unkept => HoldFault::Session(SessionFault::Unkept),
+    }
+}
+
 /// What the end of a console means for the program, if the faults of its lines count or don't.
 ///
 /// # Errors
@@ -56,10 +69,6 @@ pub(crate) fn ended(end: OperateEnd, counts: bool) -> Result<(), OperateFault>
                 Ok(())
             }
         }
-        OperateEnd::Write => Err(OperateFault::Hold(HoldFault::Output)),
-        OperateEnd::Read => Err(OperateFault::Hold(HoldFault::Session(SessionFault::Read))),
-        OperateEnd::Bound => Err(OperateFault::Hold(HoldFault::Session(SessionFault::Bound))),
-        OperateEnd::Memory => Err(OperateFault::Hold(HoldFault::Session(SessionFault::Memory))),
-        OperateEnd::Unkept => Err(OperateFault::Hold(HoldFault::Session(SessionFault::Unkept))),
+        OperateEnd::Failed(failure) => Err(OperateFault::Hold(ended_by(failure))),
     }
 }

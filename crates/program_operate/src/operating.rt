@@ -1,6 +1,7 @@
 //! A person's console, from its files to its end.
-ghost use Rattle.std.specs.Prelude.{◌≡◌, ◌≢◌, ◌&&◌, nat_lt, not, Err, IfErr, OnOk};
-ghost use Rattle.program_operate.specs.Outcome.{Sat, limit_at, outcome};
+ghost use Rattle.std.specs.Prelude.{◌≡◌, ◌≢◌, ◌&&◌, length, nat_lt, not, Err, IfErr, IfOk, OnOk};
+ghost use Rattle.operate_sitting.specs.Notes.{held, no_notes};
+ghost use Rattle.program_operate.specs.Outcome.{Sat, SatAt, SatSomewhere, limit_at, outcome};
 
 use crate::beginning::{Around, Begun, around_again, begin};
 use crate::desk::{FileDesk, FileKeeper};
@@ -92,7 +93,10 @@ fn sit_down<K: Keeper + Drop>(
     room: KeptRoom<K>,
     hand: Vec<Card>,
 ) -> Result<Sitting<K>, OperateFault>
-    ensures { IfErr result (λ why. why ≢ OperateFault.Faulty) }
+    ensures account { IfOk result (λ sitting. sitting.account ≡ room) }
+    ensures notes { IfOk result (λ sitting.
+        sitting.notes ≡ held hand.items (no_notes (length room.room.journal))) }
+    ensures fault { IfErr result (λ why. why ≢ OperateFault.Faulty) }
 {
     match Sitting::new(alloc, room) {
         Ok(sitting) => with_hand(sitting, hand),
@@ -109,7 +113,9 @@ fn with_hand<K: Keeper + Drop>(
     mut sitting: Sitting<K>,
     hand: Vec<Card>,
 ) -> Result<Sitting<K>, OperateFault>
-    ensures { IfErr result (λ why. why ≢ OperateFault.Faulty) }
+    ensures account { IfOk result (λ after. after.account ≡ sitting.account) }
+    ensures notes { IfOk result (λ after. after.notes ≡ held hand.items sitting.notes) }
+    ensures fault { IfErr result (λ why. why ≢ OperateFault.Faulty) }
 {
     match sitting.hold(hand) {
         Ok(()) => Ok(sitting),
@@ -166,7 +172,8 @@ fn answer_lines<
     desk: &mut D,
     reader: &mut I,
 ) -> Result<(), OperateFault>
-    ensures { Sat setting.now.manner.now.prompts setting.now.manner.now.limit result }
+    ensures { Sat setting.now.manner.now.prompts setting.now.manner.now.limit setting.now.program.now sitting
+        (I.has_failed reader.new) (I.left reader.new) result }
 {
     let mut writer = ToWriter::new(io::writer(rt));
     let operated = operate(setting, sitting, beginning, desk, reader, &mut writer);
@@ -178,6 +185,7 @@ fn answer_lines<
 /// # Errors
 ///
 /// `Run` for memory, `Hold` for how it ended, or `Faulty`.
+#[tactic(auto, using(crate::proofs::SatLemmas::sat_at))]
 fn answer<R: Print + AllocGlobal, K: Keeper + Drop, D: Desk + Cutter<K>, I: Source + Terminal>(
     rt: &R,
     room: KeptRoom<K>,
@@ -186,8 +194,10 @@ fn answer<R: Print + AllocGlobal, K: Keeper + Drop, D: Desk + Cutter<K>, I: Sour
     console: Console,
     reader: &mut I,
 ) -> Result<(), OperateFault>
-    ensures ok { OnOk result (Sat console.manner.prompts console.manner.limit result) }
-    ensures faulty { result ≡ Err OperateFault.Faulty → Sat console.manner.prompts console.manner.limit result }
+    ensures ok { OnOk result (SatAt console.manner.prompts console.manner.limit around.program room around.hand.items
+        (I.has_failed reader.new) (I.left reader.new) result) }
+    ensures faulty { result ≡ Err OperateFault.Faulty → SatAt console.manner.prompts console.manner.limit
+        around.program room around.hand.items (I.has_failed reader.new) (I.left reader.new) result }
 {
     let Around {
         program,
@@ -251,6 +261,7 @@ fn kept_in(
 }
 
 /// Keeps a room in a new file, and answers the lines of a person at it.
+#[tactic(auto, using(crate::proofs::SatLemmas::sat_somewhere))]
 fn answer_in_new<R: Files<File = File> + Print + Eprint + AllocGlobal, I: Source + Terminal>(
     rt: &R,
     begun: Begun,
@@ -258,8 +269,10 @@ fn answer_in_new<R: Files<File = File> + Print + Eprint + AllocGlobal, I: Source
     console: Console,
     reader: &mut I,
 ) -> Result<(), OperateFault>
-    ensures ok { OnOk result (Sat console.manner.prompts console.manner.limit result) }
-    ensures faulty { result ≡ Err OperateFault.Faulty → Sat console.manner.prompts console.manner.limit result }
+    ensures ok { OnOk result (SatSomewhere console.manner.prompts console.manner.limit (I.has_failed reader.new)
+        (I.left reader.new) result) }
+    ensures faulty { result ≡ Err OperateFault.Faulty → SatSomewhere console.manner.prompts console.manner.limit
+        (I.has_failed reader.new) (I.left reader.new) result }
 {
     let Ok(label) = journal.file.clone() else {
         return Err(OperateFault::Run(RunFault::Memory));
@@ -324,6 +337,7 @@ fn take_up(
 }
 
 /// Goes on with the journal of a file, in the same file.
+#[tactic(auto, using(crate::proofs::SatLemmas::sat_somewhere))]
 fn go_on<R: Files<File = File> + Print + Eprint + AllocGlobal, I: Source + Terminal>(
     rt: &R,
     file: String,
@@ -332,8 +346,10 @@ fn go_on<R: Files<File = File> + Print + Eprint + AllocGlobal, I: Source + Termi
     console: Console,
     reader: &mut I,
 ) -> Result<(), OperateFault>
-    ensures ok { OnOk result (Sat console.manner.prompts console.manner.limit result) }
-    ensures faulty { result ≡ Err OperateFault.Faulty → Sat console.manner.prompts console.manner.limit result }
+    ensures ok { OnOk result (SatSomewhere console.manner.prompts console.manner.limit (I.has_failed reader.new)
+        (I.left reader.new) result) }
+    ensures faulty { result ≡ Err OperateFault.Faulty → SatSomewhere console.manner.prompts console.manner.limit
+        (I.has_failed reader.new) (I.left reader.new) result }
 {
     let Ok(label) = file.clone() else {
         return Err(OperateFault::Run(RunFault::Memory));
@@ -348,6 +364,7 @@ fn go_on<R: Files<File = File> + Print + Eprint + AllocGlobal, I: Source + Termi
 }
 
 /// Answers the lines of a person at a room, with a new file for its journal or without one.
+#[tactic(auto, using(crate::proofs::SatLemmas::sat_somewhere))]
 fn answer_begun<R: Files<File = File> + Print + Eprint + AllocGlobal, I: Source + Terminal>(
     rt: &R,
     begun: Begun,
@@ -355,8 +372,10 @@ fn answer_begun<R: Files<File = File> + Print + Eprint + AllocGlobal, I: Source 
     console: Console,
     reader: &mut I,
 ) -> Result<(), OperateFault>
-    ensures ok { OnOk result (Sat console.manner.prompts console.manner.limit result) }
-    ensures faulty { result ≡ Err OperateFault.Faulty → Sat console.manner.prompts console.manner.limit result }
+    ensures ok { OnOk result (SatSomewhere console.manner.prompts console.manner.limit (I.has_failed reader.new)
+        (I.left reader.new) result) }
+    ensures faulty { result ≡ Err OperateFault.Faulty → SatSomewhere console.manner.prompts console.manner.limit
+        (I.has_failed reader.new) (I.left reader.new) result }
 {
     match journal {
         Some(journal) => answer_in_new(rt, begun, journal, console, reader),
@@ -394,8 +413,10 @@ fn sit_at<R: Files<File = File> + Print + Eprint + AllocGlobal, I: Source + Term
     console: Console,
     reader: &mut I,
 ) -> Result<(), OperateFault>
-    ensures ok { OnOk result (Sat console.manner.prompts console.manner.limit result) }
-    ensures faulty { result ≡ Err OperateFault.Faulty → Sat console.manner.prompts console.manner.limit result }
+    ensures ok { OnOk result (SatSomewhere console.manner.prompts console.manner.limit (I.has_failed reader.new)
+        (I.left reader.new) result) }
+    ensures faulty { result ≡ Err OperateFault.Faulty → SatSomewhere console.manner.prompts console.manner.limit
+        (I.has_failed reader.new) (I.left reader.new) result }
 {
     match resumed {
         Some(resumed) => go_on(rt, resumed, file, reading, console, reader),
@@ -426,9 +447,10 @@ pub fn operate_at<R: Files<File = File> + Print + Eprint + AllocGlobal, I: Sourc
     ends: Ends,
     reader: &mut I,
 ) -> Result<(), OperateFault>
-    ensures ok { OnOk result (Sat ends.is_typed (limit_at ends.is_typed asked.limit) result) }
-    ensures faulty { result ≡ Err OperateFault.Faulty
-        → Sat ends.is_typed (limit_at ends.is_typed asked.limit) result }
+    ensures ok { OnOk result (SatSomewhere ends.is_typed (limit_at ends.is_typed asked.limit)
+        (I.has_failed reader.new) (I.left reader.new) result) }
+    ensures faulty { result ≡ Err OperateFault.Faulty → SatSomewhere ends.is_typed
+        (limit_at ends.is_typed asked.limit) (I.has_failed reader.new) (I.left reader.new) result }
 {
     let Operating {
         file,
