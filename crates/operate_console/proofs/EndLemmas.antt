@@ -1,5 +1,6 @@
 -- What has failed by the end of lines.
-use Rattle.std.proofs.Common.{◌≡◌, ℕ, Bool, true, false, not, ◌||◌, ◌&&◌, List, [], ◌∷◌, Option, None, Some, Result, Ok, Err}
+use Rattle.std.proofs.Common.{◌≡◌, ℕ, Bool, true, false, not, ◌||◌, ◌&&◌, List, [], ◌∷◌}
+use Rattle.std.proofs.Common.{Option, None, Some, Result, Ok, Err}
 use Rattle.std.proofs.Common.{refl, sym, ◌∙◌, ap, subst, inl, inr, if◌then◌else◌, true≢false}
 use Rattle.std.specs.Io.KnownBytes.{IsAtEnd}
 use Rattle.machine_commands.specs.declared.fault.RoomFault.{RoomFault}
@@ -80,7 +81,8 @@ source_failed why has_ended has_failed left unended is =
 
 -- something was typed, or the input ended
 typed_so : (last has_failed : Bool) (left : Option (List ℕ))
-    → has_failed ≡ false → (last ≡ true → is_at_end left ≡ true) → source_so false (last || false) has_failed left ≡ true
+    → has_failed ≡ false → (last ≡ true → is_at_end left ≡ true)
+    → source_so false (last || false) has_failed left ≡ true
 typed_so true has_failed left good ended =
     ap (λ (it : Bool). not it && is_at_end left) good ∙ ended refl
 typed_so false has_failed left good ended = ap (λ (it : Bool). not it && true) good
@@ -243,12 +245,12 @@ pub source_shown : (ended shown : OperateEnd) (has_failed : Bool) (left : Option
 source_shown ended shown has_failed left (inl same) so =
     subst (λ (it : OperateEnd). SourceLeft it has_failed left) (sym same) so
 source_shown ended shown has_failed left (inr worse) so =
-    subst (λ (it : OperateEnd). SourceLeft it has_failed left) (sym worse.2.2.1)
-    (λ is. absurd (true≢false (sym is ∙ worse.2.0)))
+    subst (λ (it : OperateEnd). SourceLeft it has_failed left) (sym worse.3)
+    (λ is. absurd (true≢false (sym is ∙ worse.1)))
 
 pub as_it_ended : (ended : OperateEnd) → LastShown ended ended
 as_it_ended ended = inl refl
 
 pub not_shown : (ended : OperateEnd) (why : Failure)
     → is_read (Some why) ≡ false → is_unkept (Some why) ≡ false → LastShown ended (end.Failed why)
-not_shown ended why unread kept = inr (why, (unread, (kept, refl)))
+not_shown ended why unread kept = inr (why, unread, kept, refl)

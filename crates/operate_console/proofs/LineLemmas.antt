@@ -1,6 +1,6 @@
 -- Lines, and the commands that they stand for.
-use Rattle.std.proofs.Common.{◌≡◌, ℕ, List, [], ◌∷◌, ◌++◌, length, refl, sym, ◌∙◌, ap, subst, inl, inr, Option, None, true≢false}
-use Rattle.std.proofs.Common.{Some, Result, Ok, Err, Bool, true, false, not, ◌||◌, is_some, is_err, ◌≢◌, ◌⊎◌, ◌-◌}
+use Rattle.std.proofs.Common.{◌≡◌, ℕ, List, [], ◌∷◌, ◌++◌, length, refl, sym, ◌∙◌, ap, subst, inl, inr, true≢false}
+use Rattle.std.proofs.Common.{Option, None, Some, Result, Ok, Err, Bool, true, false, not, ◌||◌, is_some, is_err, ◌≢◌, ◌⊎◌, ◌-◌}
 use Rattle.std.specs.Prelude.{slice_get}
 use Rattle.cpu_1401.specs.State.{State}
 use Rattle.devices_1401.specs.declared.card.Card.{Card}
@@ -29,7 +29,8 @@ use Rattle.operate_sitting.specs.Notes.{begun, held, notes_after}
 use Rattle.operate_sitting.specs.Sitting.{EarlierAccount, SittingAccount, journal_of, machine_of}
 use Rattle.operate_sitting.specs.Tending.{carried_on}
 use Rattle.operate_console.specs.Line.{ActDid, AfterLines, Asserted, CardsDone, CardsOfLine, CarriedFirst, CarriedSome}
-use Rattle.operate_console.specs.Line.{CommandsBegun, CommandsCut, CommandsDid, CommandsOfAct, CommandsSome, DeckOfLine, EarlierIs, FeedDid, FollowDid, IsEarlier, IsLeft, IsOrigin}
+use Rattle.operate_console.specs.Line.{CommandsBegun, CommandsCut, CommandsDid, CommandsOfAct, CommandsSome, DeckOfLine}
+use Rattle.operate_console.specs.Line.{EarlierIs, FeedDid, FollowDid, IsEarlier, IsLeft, IsOrigin}
 use Rattle.operate_console.specs.Line.{LinesEnd, QuitSaid, is_quit, is_so_at, is_so_of, refusal_of_entry, refusal_of_last}
 use Rattle.operate_console.specs.Line.{IsSet, LineDid, LinesDid, LinesSoFar, LoadOfLine, PartOfCards}
 use Rattle.operate_console.specs.Line.{NoteOfLine, OperatedBy, PartOfAct, PastDid, PastOfLine, SomeLineDid, StopsNoted}
@@ -567,7 +568,7 @@ shown_end : (known : Known) (limit : Option ℕ) (ended shown : OperateEnd) (bef
 shown_end known limit ended shown before after (inl same) did =
     subst (λ (it : OperateEnd). LinesDid known limit it before after) (sym same) did
 shown_end known limit ended shown before after (inr worse) did =
-    subst (λ (it : OperateEnd). LinesDid known limit it before after) (sym worse.2.2.1) (record {
+    subst (λ (it : OperateEnd). LinesDid known limit it before after) (sym worse.3) (record {
       last = did.last;
       lines = did.lines;
       ends = worse_end known limit ended worse.0 did.last after did.ends;

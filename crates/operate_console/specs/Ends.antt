@@ -1,6 +1,6 @@
 -- How lines end a sitting, and what has failed by then (own).
-use Rattle.std.specs.Prelude.{◌≡◌, ◌⊎◌, ℕ, Bool, true, false, not, ◌&&◌, ◌||◌, List, [], ◌∷◌, Option, None, Some, Result}
-use Rattle.std.specs.Prelude.{Ok, Err}
+use Rattle.std.specs.Prelude.{◌≡◌, ◌⊎◌, ℕ, Bool, true, false, not, ◌&&◌, ◌||◌, List, [], ◌∷◌}
+use Rattle.std.specs.Prelude.{Option, None, Some, Result, Ok, Err}
 use Rattle.machine_commands.specs.declared.fault.RoomFault.{RoomFault}
 use Rattle.machine_commands.specs.declared.fault.RoomFault.TheVariants as room
 use Rattle.operate_console.specs.declared.acting.Cut.{Cut}
@@ -117,8 +117,8 @@ is_last_typed (typed.Line line) = false
 is_last_typed typed.Dropped = false
 is_last_typed (typed.Last line) = true
 
--- A source that has failed, if a read failed; or else one that hasn't, and that has no byte left if the end of the input
--- is noted.
+-- A source that has failed, if a read failed; or else one that hasn't, and that has no byte left if the end of the
+-- input is noted.
 abbrev pub source_so : Bool → Bool → Bool → Option (List ℕ) → Bool
 source_so true has_ended has_failed left = has_failed
 source_so false has_ended has_failed left = not has_failed && (not has_ended || is_at_end left)
@@ -138,7 +138,7 @@ SourceLeft end.Quit has_failed left = has_failed ≡ false
 SourceLeft end.EndOfInput has_failed left = (has_failed ≡ false) × (is_at_end left ≡ true)
 SourceLeft (end.Failed why) has_failed left = is_read (Some why) ≡ true → has_failed ≡ true
 
--- a sitting ends as its lines ended it, or since its last answer can't be shown, which no read and no keeper is to blame for
+-- a sitting ends as its lines ended it, or since its last answer can't be shown, for a write or for memory
 abbrev pub LastShown : OperateEnd → OperateEnd → Type 0
 LastShown ended shown =
     (shown ≡ ended)

@@ -130,8 +130,8 @@ pub record NoAct (known : Known) (it : Act) (before after : SittingAccount) : Ty
   pub fault : is_err (commands_of known (machine_of before) it) ≡ true
   pub same : IsSame before after
 
--- An act that was cut off: the sitting ended in the midst of its commands, or after them, or a fault was reported, and not
--- all of them were carried out.
+-- An act that was cut off: the sitting ended in the midst of its commands, or after them; or a fault was reported, and
+-- not all of them were carried out.
 abbrev pub PartOfAct : Known → Bool → Act → SittingAccount → SittingAccount → Type 0
 PartOfAct known true it before after = IsSame before after ⊎ FirstOfAct known it before after
 PartOfAct known false it before after = NoAct known it before after ⊎ SomeOfAct known it before after

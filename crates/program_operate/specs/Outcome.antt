@@ -37,9 +37,9 @@ outcome counts (end.Failed why) = Err (Hold (failed_by why))
 abbrev pub limit_at : Bool → ℕ → Option ℕ
 limit_at is_typed limit = if is_typed then None else Some limit
 
--- Lines of a person were done at a sitting, one after the other, and the result is by how that ended, and by how many of
--- the lines had a fault: it counts if nobody is at a terminal. The sitting is lost only if its journal can't be kept. The
--- source has failed, or has bytes left, as the end says.
+-- Lines of a person were done at a sitting, one after the other, and the result is by how that ended, and by how many
+-- of the lines had a fault: it counts if nobody is at a terminal. The sitting is lost only if its journal can't be kept.
+-- The source has failed, or has bytes left, as the end says.
 pub record Sat (is_typed : Bool) (limit : Option ℕ) (known : Known) (before : SittingAccount) (has_failed : Bool)
     (left : Option (List ℕ)) (result : Result (Unit {0}) OperateFault) : Type 0 where
   pub after : Option SittingAccount
