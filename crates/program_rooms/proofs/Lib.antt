@@ -1,2 +1,4 @@
 mod BeginningLemmas
+pub mod KeptLemmas
 pub mod LoadLemmas
+pub mod PagesLemmas

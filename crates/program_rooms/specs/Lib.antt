@@ -1,6 +1,7 @@
 pub mod Beginning
 pub mod Choosing
 pub mod Ended
+pub mod Kept
 pub mod Load
 pub mod Outcome
 pub mod Pages
