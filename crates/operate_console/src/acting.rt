@@ -21,13 +21,13 @@ use crate::terminal::Terminal;
 use bytes_streams::{Sink, Source};
 use cpu_1401::{Answer, Command, Machine, Refusal};
 use devices_1401::Card;
+use job_runner::CardList;
 use operate_answers::{LookFault, put_deck, put_done, put_fed, put_next};
 use operate_orders::{Act, Place, Text};
 use operate_program::{ActFault, Program, commands_of, read_card};
 use operate_sitting::Sitting;
 use room_alone::{Entry, Keeper, Room, RoomFault};
 use std::alloc::{AllocError, Global};
-use std::slice::from_ref;
 
 /// Adds what an act has done.
 fn put_acted(
@@ -214,14 +214,14 @@ fn do_until<K: Keeper + Drop, D: Desk, R: Source + Terminal, W: Sink>(
 fn hold_cards<K: Keeper + Drop>(
     notebook: &mut Notebook,
     sitting: &mut Sitting<K>,
-    cards: Vec<Card>,
+    cards: CardList,
 ) -> Result<(), Cut>
-    ensures all { OnOk result (CardsDone cards.items sitting.old sitting.new) }
-    ensures part { OnErr result (PartOfCards cards.items sitting.old sitting.new) }
+    ensures all { OnOk result (CardsDone cards sitting.old sitting.new) }
+    ensures part { OnErr result (PartOfCards cards sitting.old sitting.new) }
     ensures faulted { IfErr result (λ cut. cut ≡ Cut.Faulted → notebook.new.is_faulted ≡ true) }
     ensures stops { notebook.new.stops ≡ notebook.old.stops }
 {
-    if sitting.hold(cards).is_err() {
+    if sitting.hold(&cards).is_err() {
         return Err(Cut::Over(OperateEnd::Memory));
     }
     match tend(sitting) {
@@ -236,7 +236,7 @@ fn do_cards<K: Keeper + Drop>(
     notebook: &mut Notebook,
     sitting: &mut Sitting<K>,
     name: &[u8],
-    cards: Vec<Card>,
+    cards: CardList,
 ) -> Result<(), OperateEnd>
     ensures { DeckOfLine (is_cut (is_err result) notebook.new)
         (at_console sitting.old notebook.old) (at_console sitting.new notebook.new) }
@@ -276,13 +276,6 @@ fn do_deck<K: Keeper + Drop, D: Desk>(
     }
 }
 
-/// A card in a list.
-fn listed(alloc: Global, card: Card) -> Result<Vec<Card>, AllocError>
-    ensures { IfOk result (λ cards. cards.items ≡ card ∷ []) }
-{
-    Vec::from_slice(alloc, from_ref(&card))
-}
-
 /// One card more.
 #[tactic(auto, using(crate::proofs::LineLemmas::card_did, crate::proofs::LineLemmas::no_card))]
 fn do_card<K: Keeper + Drop>(
@@ -294,7 +287,7 @@ fn do_card<K: Keeper + Drop>(
     ensures { CardsOfLine (is_cut (is_err result) notebook.new) (card ∷ [])
         (at_console sitting.old notebook.old) (at_console sitting.new notebook.new) }
 {
-    let Ok(cards) = listed(alloc, card) else {
+    let Ok(cards) = CardList::of_card(alloc, &card) else {
         return Err(OperateEnd::Memory);
     };
     match hold_cards(notebook, sitting, cards) {
