@@ -68,10 +68,31 @@ pub fn put_place_fault(alloc: Global, text: &mut Text, program: &Program, fault:
             text.put(label.as_slice());
             text.put(b" is the name of no place");
         }
-        PlaceFault::Line(_)
-        | PlaceFault::BelowZero
-        | PlaceFault::NotInCore { .. }
-        | PlaceFault::Backwards { .. } => put_described(alloc, text, fault),
+        PlaceFault::Line(number) => {
+            text.put_pieces(&[
+                Piece::Text(b"line "),
+                Piece::Count(*number as u64),
+                Piece::Text(b" of the source fills no place"),
+            ]);
+        }
+        PlaceFault::BelowZero => text.put(b"the address is below 0"),
+        PlaceFault::NotInCore { at, size } => {
+            text.put_pieces(&[
+                Piece::Text(b"place "),
+                Piece::Count(*at),
+                Piece::Text(b" isn't in core, which has "),
+                Piece::Number(1, *size),
+                Piece::Text(b" places"),
+            ]);
+        }
+        PlaceFault::Backwards { first, last } => {
+            text.put_pieces(&[
+                Piece::Text(b"place "),
+                Piece::Number(1, *last),
+                Piece::Text(b" comes before place "),
+                Piece::Number(1, *first),
+            ]);
+        }
     }
 }
 
@@ -98,9 +119,10 @@ fn statement_help(
 pub fn put_act_fault(alloc: Global, text: &mut Text, program: &Program, fault: &ActFault) {
     match fault {
         ActFault::Place(fault) => put_place_fault(alloc, text, program, fault),
-        ActFault::Memory | ActFault::Field(_) | ActFault::Value(_) | ActFault::Card => {
-            put_described(alloc, text, fault)
-        }
+        ActFault::Field(why) => put_described(alloc, text, why),
+        ActFault::Value(why) => put_described(alloc, text, why),
+        ActFault::Memory => text.put(b"out of memory"),
+        ActFault::Card => text.put(b"a card has 80 columns"),
         ActFault::NoValue => text.put(b"the value is neither a number nor a text"),
         ActFault::Literal => {
             text.put(b"a literal has no place here: deposit the constant first, and name its place")

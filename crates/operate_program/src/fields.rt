@@ -1,7 +1,7 @@
 //! The commands that put a value into a field.
 ghost use Rattle.std.specs.Prelude.{◌≡◌, ◌+◌, ◌<◌, ◌≤◌, length, IfOk};
 ghost use Rattle.core_1401.specs.Address.{addresses};
-ghost use Rattle.operate_program.specs.Act.{Gives, number_cells, set_at, set_commands, sign_written, text_cells};
+ghost use Rattle.operate_program.specs.Act.{Gives, number_cells, set_at, set_commands, text_cells};
 ghost use Rattle.operate_program.specs.Act.{value_cells};
 ghost use Rattle.operate_program.specs.Field.{units_of};
 
@@ -16,13 +16,6 @@ use machine_commands::Command;
 use operate_orders::Value;
 use operate_views::{FieldFault, ValueFault, cells_with_number, cells_with_text};
 use std::alloc::Global;
-
-/// The sign that is put over the units: a minus alone.
-fn sign_written(minus: bool) -> Option<Sign>
-    ensures { result ≡ sign_written minus }
-{
-    if minus { Some(Sign::Minus) } else { None }
-}
 
 /// The cells of a field, from its high place on, with a number in them.
 #[tactic(auto, using(crate::proofs::ActLemmas::number_places), unfolding(crate::specs::Act::number_cells))]
@@ -45,7 +38,8 @@ fn number_cells(
             digits: digits.len(),
         }));
     }
-    match cells_with_number(alloc, cells, sign_written(minus), digits) {
+    let sign = if minus { Some(Sign::Minus) } else { None };
+    match cells_with_number(alloc, cells, sign, digits) {
         Ok(put) => Ok(put),
         Err(_) => Err(ActFault::Memory),
     }

@@ -3,7 +3,7 @@ ghost use Rattle.std.specs.Prelude.{◌≡◌, ◌+◌, ◌*◌, ◌<◌, ◌≤
 ghost use Rattle.core_1401.specs.Address.{addresses};
 ghost use Rattle.operate_program.specs.Value.{address_of, adjusted, base_value, held_by, in_core, index_name};
 ghost use Rattle.operate_program.specs.Value.{index_number, index_value, is_unadjusted, label_value, line_value};
-ghost use Rattle.operate_program.specs.Value.{place_of, row_of_line, units_place, value_of};
+ghost use Rattle.operate_program.specs.Value.{place_of, units_place, value_of};
 
 use crate::fault::PlaceFault;
 use crate::program::Program;
@@ -78,22 +78,16 @@ fn held_by(machine: &Machine, register: Register) -> u32
     }
 }
 
-/// The row of the line of this number.
-#[tactic(auto, unfolding(crate::specs::Value::row_of_line))]
-fn row_of_line(rows: &[Row], number: u32) -> Option<Row>
-    ensures { result ≡ row_of_line rows.now number }
-{
-    rows.iter()
-        .copied()
-        .find(|row| row.number == u64::from(number))
-}
-
 /// The first place that the line of this number fills.
-#[tactic(auto, unfolding(crate::specs::Value::line_value))]
+#[tactic(auto, unfolding(crate::specs::Value::line_value, crate::specs::Value::row_of_line))]
 fn line_value(rows: &[Row], number: u32) -> Result<u32, PlaceFault>
     ensures { result ≡ line_value rows.now number }
 {
-    let Some(row) = row_of_line(rows, number) else {
+    let found = rows
+        .iter()
+        .copied()
+        .find(|row| row.number == u64::from(number));
+    let Some(row) = found else {
         return Err(PlaceFault::Line(number));
     };
     match place_of(row.address) {
