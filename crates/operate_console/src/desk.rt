@@ -1,7 +1,7 @@
 //! The files that a person names.
 
 use bytes_text::Text;
-use devices_1401::Card;
+use job_runner::CardList;
 use room_alone::Room;
 use thiserror::Error;
 
@@ -45,7 +45,7 @@ pub trait Desk {
     /// # Errors
     ///
     /// If it can't be read, or is no deck.
-    fn cards(&mut self, name: &[u8]) -> Result<Vec<Card>, FileFault>;
+    fn cards(&mut self, name: &[u8]) -> Result<CardList, FileFault>;
 
     /// The room of the journal of `restore`.
     ///
@@ -73,6 +73,9 @@ pub trait Desk {
 
     /// Adds what is typed or shown to the transcript, if there is one.
     fn transcribe(&mut self, text: &[u8]);
+
+    /// Whether the file of a transcript lacks some of it.
+    fn has_lost_transcript(&self) -> bool;
 
     /// The name of the file that keeps the journal; empty if there is none.
     fn kept_name(&self) -> &[u8];

@@ -25,13 +25,12 @@ const MOST_LINES: u32 = 16_777_216;
 /// What is written before a line is read.
 const PROMPT: &[u8] = b"1401> ";
 
-/// Adds a line after a prompt, as if it had been typed here.
+/// Adds a line after a prompt, as a terminal shows it that is typed there.
 fn put_echo(notebook: &mut Notebook, line: &[u8]) -> Result<(), AllocError>
     ensures { notebook.new ≡ notebook.old }
 {
     notebook.page.put(PROMPT)?;
-    notebook.page.put(line)?;
-    notebook.page.put(b"\n".as_slice())
+    notebook.page.put_line(line)
 }
 
 /// Has a line in the transcript, as if it had been typed after a prompt.

@@ -56,6 +56,20 @@ impl Page {
         self.written()
     }
 
+    /// Adds a line as a terminal shows what is typed: of a control character, but for a tab, a caret and a graphic.
+    pub(crate) fn put_line(&mut self, line: &[u8]) -> Result<(), AllocError> {
+        for byte in line {
+            if byte.is_ascii_control() && *byte != b'\t' {
+                self.text.put_byte(b'^');
+                self.text.put_byte(*byte ^ 64);
+            } else {
+                self.text.put_byte(*byte);
+            }
+        }
+        self.text.put_byte(b'\n');
+        self.written()
+    }
+
     /// Whether there was memory for all of the text.
     pub(crate) fn written(&self) -> Result<(), AllocError> {
         if self.text.is_whole() {

@@ -23,6 +23,12 @@ pub enum OperateFault {
     /// The file of this name, which was to have labels, has an image.
     #[error("{0}: an image has no labels")]
     NoLabels(String),
+    /// The file of this name, which was to have the first lines, is a pipe or a device: reading it might never end.
+    #[error("{0}: is not a regular file")]
+    Irregular(String),
+    /// A write of a transcript failed. That was reported at once.
+    #[error("a transcript is not whole")]
+    Transcript,
     /// A line had a fault, or what it asserted isn't so. Its answer says which.
     #[error("a line had a fault")]
     Faulty,

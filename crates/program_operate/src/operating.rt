@@ -9,7 +9,7 @@ use crate::opening::Reading;
 use bcd_1401::Graphics;
 use bytes_descriptors::{FileFault, read_whole};
 use bytes_streams::{Source, ToWriter};
-use devices_1401::Card;
+use job_runner::CardList;
 use operate_console::{
     Beginning, Desk, Manner, OperateEnd, Operated, Script, Setting, Terminal, operate,
 };
@@ -24,9 +24,9 @@ use room_files::{
 };
 use std::alloc::Global;
 use std::fs::File;
-use std::io;
 use std::marker::Brand;
 use std::rt::Files;
+use std::{fs, io};
 
 /// What standard input and output are.
 #[derive(Clone, Copy)]
@@ -54,7 +54,7 @@ fn manner_of(ends: Ends, echo: bool, limit: u32) -> Manner
 ///
 /// # Errors
 ///
-/// `Run`, as `run` reports a file that can't be read.
+/// `Irregular`; `Run`, as `run` reports a file that can't be read.
 fn first_lines(
     rt: &(impl Files + AllocGlobal),
     name: Option<String>,
@@ -64,6 +64,13 @@ fn first_lines(
     let Some(name) = name else {
         return Ok(None);
     };
+    // A folder is refused as it is read.
+    match fs::metadata(rt, name.as_str()) {
+        Ok(metadata) if !metadata.is_file() && !metadata.is_dir() => {
+            return Err(OperateFault::Irregular(name));
+        }
+        Ok(_) | Err(_) => {}
+    }
     match read_whole(rt, name.as_str()) {
         Ok(text) => Ok(Some(Script {
             name: name.into_bytes(),
@@ -90,28 +97,14 @@ struct Console {
 fn sit_down<K: Keeper + Drop>(
     alloc: Global,
     room: KeptRoom<K>,
-    hand: Vec<Card>,
+    hand: CardList,
 ) -> Result<Sitting<K>, OperateFault>
     ensures { IfErr result (λ why. why ≢ OperateFault.Faulty) }
 {
-    match Sitting::new(alloc, room) {
-        Ok(sitting) => with_hand(sitting, hand),
-        Err(_) => Err(OperateFault::Run(RunFault::Memory)),
-    }
-}
-
-/// A sitting that has these cards in hand too.
-///
-/// # Errors
-///
-/// `Run` for memory.
-fn with_hand<K: Keeper + Drop>(
-    mut sitting: Sitting<K>,
-    hand: Vec<Card>,
-) -> Result<Sitting<K>, OperateFault>
-    ensures { IfErr result (λ why. why ≢ OperateFault.Faulty) }
-{
-    match sitting.hold(hand) {
+    let Ok(mut sitting) = Sitting::new(alloc, room) else {
+        return Err(OperateFault::Run(RunFault::Memory));
+    };
+    match sitting.hold(&hand) {
         Ok(()) => Ok(sitting),
         Err(_) => {
             drop(sitting);
@@ -177,7 +170,7 @@ fn answer_lines<
 ///
 /// # Errors
 ///
-/// `Run` for memory, `Hold` for how it ended, or `Faulty`.
+/// `Run` for memory, `Hold` for how it ended, `Faulty`, or `Transcript` if nothing else is wrong.
 fn answer<R: Print + AllocGlobal, K: Keeper + Drop, D: Desk + Cutter<K>, I: Source + Terminal>(
     rt: &R,
     room: KeptRoom<K>,
@@ -208,7 +201,10 @@ fn answer<R: Print + AllocGlobal, K: Keeper + Drop, D: Desk + Cutter<K>, I: Sour
         greeting: greeting.as_slice(),
         first,
     };
-    answer_lines(rt, &setting, sitting, beginning, desk, reader)
+    match answer_lines(rt, &setting, sitting, beginning, desk, reader) {
+        Ok(()) if desk.has_lost_transcript() => Err(OperateFault::Transcript),
+        done => done,
+    }
 }
 
 /// A room whose journal a new file gets from here on, and what there is next to it.
@@ -419,7 +415,8 @@ fn sit_at<R: Files<File = File> + Print + Eprint + AllocGlobal, I: Source + Term
 ///
 /// # Errors
 ///
-/// `Size`; `Run` or `Hold` as `run` and `console` report it; `NoLabels`; or `Faulty`, as above.
+/// `Size`; `Irregular`; `Run` or `Hold` as `run` and `console` report it; `NoLabels`; `Faulty`, as above; or
+/// `Transcript` if nothing else is wrong.
 pub fn operate_at<R: Files<File = File> + Print + Eprint + AllocGlobal, I: Source + Terminal>(
     rt: &R,
     asked: Operating,
