@@ -76,6 +76,8 @@ impl Notes {
         ensures card { slice_get (drop count self.old.deck) at ≡ Some result }
         ensures same { self.new ≡ self.old }
     {
+        // No list is so long that a place of it is no usize.
+        let _ = self.deck.len();
         self.deck.card(count + at)
     }
 
