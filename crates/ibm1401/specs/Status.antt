@@ -49,6 +49,7 @@ job_status (job.Source why) = 1
 job_status (job.Image why) = 1
 job_status (job.Reel name why) = 1
 job_status (job.Exists name) = 1
+job_status (job.Replaced name copy) = 1
 job_status job.Memory = 1
 
 -- the status after a fault: 2 for a command line that can't be read, or that names one file twice, else 1
