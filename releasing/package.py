@@ -1,11 +1,11 @@
 """The files of a release, and the archives that hold them. The same files give the same bytes."""
-import gzip
 import hashlib
 import io
 import os
 import re
 import subprocess
 import tarfile
+import zlib
 from email.utils import formatdate
 from pathlib import Path
 from time import gmtime, strftime
@@ -50,8 +50,10 @@ DESCRIPTION = """simulator of the IBM 1401 card system, each operation proved
 
 
 def compressed(content):
-    """Bytes as gzip has them, without a name or a time."""
-    return gzip.compress(content, 9, mtime=0)
+    """Bytes as gzip has them, without a name or a time. The head is the same by each version of Python."""
+    made = zlib.compressobj(9, zlib.DEFLATED, -zlib.MAX_WBITS)
+    ends = zlib.crc32(content).to_bytes(4, "little") + (len(content) % 2**32).to_bytes(4, "little")
+    return bytes.fromhex("1f8b0800000000000203") + made.compress(content) + made.flush() + ends
 
 
 def libc_of(program):
@@ -129,8 +131,8 @@ def write_deb(path, files, version, maintainer, libc, epoch, room):
         (room / name).symlink_to(target)
         os.utime(room / name, (epoch, epoch), follow_symlinks=False)
     environment = {**os.environ, "SOURCE_DATE_EPOCH": str(epoch), "DPKG_DEB_THREADS_MAX": "1"}
-    subprocess.run(["dpkg-deb", "--root-owner-group", "-Zxz", "--build", room, path], check=True, env=environment,
-                   stdout=subprocess.DEVNULL)
+    call = ["dpkg-deb", "--root-owner-group", "-Zxz", "-z6", "--build", room, path]
+    subprocess.run(call, check=True, env=environment, stdout=subprocess.DEVNULL)
 
 
 def write_tar(path, files, folder, epoch):

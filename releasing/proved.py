@@ -5,6 +5,7 @@ checksums of each source and of the program."""
 import hashlib
 import json
 import os
+import re
 import subprocess
 from pathlib import Path
 
@@ -12,6 +13,8 @@ from pathlib import Path
 ALONE = "crates.txt", "HANDLES"
 # What a record begins with, as crates/ibm1401/src/version.rt has it.
 RECORD = b"commit "
+# The lines that each run of the gate prints of the same sources, but for what follows in them.
+EACH_RUN = re.compile(r"rt: \w+ (?:proved|is kept|ran, and|ran \(built).*|rt: must-fail .*|rt: ok; .*")
 
 
 class Refused(Exception):
@@ -73,6 +76,18 @@ def commit_of(top):
 def with_record(program, commit, toolchain):
     """A program with the record that its --version prints."""
     return bare(program) + f"\0commit {commit}\nproved by {toolchain}\n".encode()
+
+
+def of_each_run(printed):
+    """What each run of the gate prints of the same sources, on any host, as sorted lines with the last one at the end.
+    Which proofs a run takes from an earlier one, what it then says of each function, and the order of the crates are
+    its own."""
+    lines = []
+    for line in filter(EACH_RUN.fullmatch, printed.splitlines()):
+        line = re.sub(r" is kept: .*", " proved", line)
+        line = re.sub(r"(: refused, as it must be)\b.*", r"\1", line)
+        lines.append(re.sub(r"; (done in this run: .*|every proof .*)", "", line))
+    return "".join(f"{line}\n" for line in [*sorted(lines), *printed.splitlines()[-1:]])
 
 
 def write_note(top, before, printed, toolchain):

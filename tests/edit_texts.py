@@ -7,8 +7,9 @@
     new: while left >= BLOCK && !differ(BLOCK - 1) {
 
 The old text is once in the file, and the new one takes its place; further pairs apply to what the earlier ones made.
-'refused' says which clause the body breaks, where that is known. `./check --edits` lays each out as a file of its own,
-since that is how rt takes it: a_block_that_differs_is_passed_by.edit.
+'refused' says what the body breaks, where that is known: a clause of a function or of a trait's; `the contract of` a
+function, if it is several of its clauses or what it requires; or `the law .. of` a type. `./check --edits` lays each
+out as a file of its own, since that is how rt takes it: a_block_that_differs_is_passed_by.edit.
 
     python3 -m tests.edit_texts    says 'refused' of each edit that changes one function, and that has one clause
 
@@ -21,6 +22,9 @@ FURTHER = TOP / "further-edits"
 # The beginning of a function, and of a clause of its contract.
 FUNCTION = re.compile(r"^( *)(?:(?:pub(?:\([a-z]+\))?|const|unsafe) )*fn (\w+)")
 CLAUSE = re.compile(r"^ *ensures(?: (\w+))? \{", re.MULTILINE)
+# The beginning of a type, or of what a trait is for a type; and of a law in it.
+HOLDER = re.compile(r"(?:pub(?:\([a-z]+\))? )?struct (\w+)|(?:impl\b.*|   ) for (\w+)")
+LAW = re.compile(r"    ghost (\w+)(?::| =) \{")
 
 
 class Edit:
@@ -73,9 +77,32 @@ def functions_in(source):
     for first, line in enumerate(lines):
         begun = FUNCTION.match(line)
         if begun:
-            is_one_line, end = line.endswith("}") and "{" in line, f"{begun[1]}}}"
-            last = first if is_one_line or end not in lines[first:] else lines.index(end, first)
+            last = last_line(lines, first, f"{begun[1]}}}")
             yield first, last, begun[2], CLAUSE.findall("\n".join(lines[first:last + 1]))
+
+
+def last_line(lines, first, end):
+    """The last line of a function that begins here: its closing bracket, or that of a trait's, which has no body."""
+    if lines[first].endswith("}") and "{" in lines[first]:
+        return first
+    has_body = False
+    for at in range(first, len(lines)):
+        if lines[at] == end or (lines[at].endswith(";") and not has_body):
+            return at
+        has_body = has_body or lines[at].endswith("{")
+    return first
+
+
+def laws_in(source):
+    """The laws that a source has for types: an invariant, one of a field, and what a trait says of a type."""
+    found, holder = set(), ""
+    for line in source.split("\n"):
+        begun = HOLDER.match(line)
+        holder = begun[1] or begun[2] if begun else "" if line == "}" else holder
+        law = LAW.match(line)
+        if law and holder:
+            found.add(f"the law `{law[1]}` of `{holder}`")
+    return found
 
 
 def changed_functions(crate, edit):

@@ -299,6 +299,26 @@ class Names(Operated):
             self.same(line, self.totals([line, "journal 99"], 1), [f"? {fault}", *before])
 
 
+class Stops(Operated):
+    """How many breaks and watches there may be."""
+
+    def faults(self, lines):
+        """The faults of these lines."""
+        ran = self.operate("operate", lines=lines)
+        return [line for line in ran.stdout.decode().splitlines() if line.startswith("? ")]
+
+    def test_at_most_a_hundred_of_each(self):
+        breaks, watches = "break 400\n" * 100, "watch reader\n" * 100
+        self.same("a hundred of each", self.faults(breaks + watches), [])
+        for kind, line in {"breaks": "break 400\n", "watches": "watch reader\n"}.items():
+            fault = f"? at most 100 {kind} are set at a time"
+            lines = breaks + watches
+            self.same(f"{kind}: one more", self.faults(lines + line), [fault])
+            self.same(f"{kind}: one in place of another", self.faults(lines + "delete 7 150\n" + line), [])
+            self.same(f"{kind}: two in place of one", self.faults(lines + "delete 7 150\n" + line * 2), [fault])
+            self.same(f"{kind}: after all are gone", self.faults(lines + "delete\n" + lines + line), [fault])
+
+
 class Files(Operated):
     """The files that lines and the command line name."""
 
@@ -349,6 +369,15 @@ class Files(Operated):
         self.expect("no journal", self.operate("operate", lines="restore sales.cards\n"), 1,
                     BARE + "? sales.cards: line 1 is wrong\n")
 
+    def test_first_lines_that_cannot_be_read_to_their_end(self):
+        """They are refused as `do` refuses them, before the greeting."""
+        os.mkfifo(self.desk / "pipe")
+        (self.desk / "folder").mkdir()
+        faults = {"pipe": "is not a regular file", "/dev/zero": "is not a regular file", "folder": "is a folder"}
+        for name, fault in faults.items():
+            ran = self.operate("operate", "--do", name)
+            self.expect(f"--do {name}", ran, 1, "", f"ibm1401: {name}: {fault}\n")
+
     def is_bound(self):
         """Whether permissions hold for whoever runs the tests."""
         try:
@@ -363,6 +392,28 @@ class Files(Operated):
         kept = (self.desk / "t").read_text()
         self.same("what it has", "1401> evaluate 400\n400, spelled 400\n1401> stpe\n? stpe " in kept, True)
         self.same("what it hasn't", "401," in kept, False)
+
+    def test_a_transcript_that_breaks_off(self):
+        """It is reported at once, and by the status; the lines go on."""
+        lines = "transcript t\n" + "evaluate 400\n" * 100
+        shown = BARE + "400, spelled 400\n" * 100
+        self.expect("a whole one", self.operate("operate", lines=lines), 0, shown)
+        (self.desk / "t").unlink()
+        ran = self.operate("operate", lines=lines, preexec_fn=small_files)
+        said = "ibm1401: the transcript cannot be written, and ends here\nibm1401: a transcript is not whole\n"
+        self.expect("one on a full disk", ran, 1, shown, said)
+        (self.desk / "t").unlink()
+        ran = self.operate("operate", lines=lines + "transcript off\nstpe\n", preexec_fn=small_files)
+        self.same("a fault as well: its status", ran.returncode, 1)
+        self.same("a fault as well: what is said", ran.stderr.decode(), said.splitlines(keepends=True)[0])
+
+    def test_an_echo_shows_control_characters_as_a_terminal_does(self):
+        lines = "# \x1b[31m\x07\x7f\ttab, é\n".encode()
+        shown = BARE + PROMPT + "# ^[[31m^G^?\ttab, é\n? {}byte 27 in column 3 is no character\n"
+        (self.desk / "lines").write_bytes(lines)
+        self.expect("typed", self.operate("operate", "--echo", lines=lines), 1, shown.format(""))
+        ran = self.operate("operate", "--echo", "--do", "lines")
+        self.expect("of a file", ran, 1, shown.format("lines: line 1: "))
 
     def test_a_transcript_of_the_lines_of_a_file(self):
         """Each has its answer after it, as at a terminal."""

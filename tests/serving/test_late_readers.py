@@ -13,6 +13,8 @@ from tests.support import REPLY_SECONDS, SECONDS, UNWRITTEN, ProgramTest, wait_u
 
 # How late a client begins to read.
 LATE = 0.2
+# When a client begins to read that is given up by then.
+TOO_LATE = 2
 # How long a client may take to its end, from QUIT on: a room that is closed waits a second for it.
 IN_TIME = 0.7
 # How many bytes a client holds that it hasn't read, if soon no more are to be taken.
@@ -145,6 +147,24 @@ class LateReaders(ProgramTest):
         self.same("whole replies", found[0], (cells + b"\n") * replies)
         self.expect("a reply for each entry of the journal", room.end(b""), 0, f"{room.ready}JOURNAL {1 + replies}\n")
         return took
+
+    def test_a_client_that_reads_after_the_rooms_end_has_whole_replies(self):
+        """It sends lines until nothing more is taken, and begins to read two seconds after QUIT: a reply for which there
+        was no room is left out, and none is cut."""
+        cells = b"~A" * 40
+        room = self.room("serve", "--keep-seats", seats=1)
+        with room.console(FEW) as console:
+            self.same("a seat", console.say(b"DEPOSIT 0 " + cells + b"\n"), b"OK\n")
+            send_until_none_is_taken(console, b"EXAMINE 0 40\n" * 1000)
+            room.type(b"QUIT\n")
+            time.sleep(TOO_LATE)
+            text = console.hear()
+        replies = text.count(b"\n")
+        self.same("whole replies", text, (cells + b"\n") * replies)
+        ran = room.end(b"")
+        entries = int(ran.stdout.rpartition(b" ")[2])
+        wrong = "" if 0 < replies and entries - 1 - replies in (0, 1) else f"{replies} for a journal of {entries}"
+        self.check("a reply for each entry, but for a last one without room", wrong)
 
     def test_a_client_that_never_reads_does_not_hold_the_rooms_end(self):
         """It sends lines without an entry until nothing more is taken; then the room still ends."""

@@ -1,8 +1,9 @@
 """Rooms that follow each other: by a key of a page, after idle minutes, and before a journal is full."""
+import os
 import threading
 import time
 
-from tests.support import SECONDS, ProgramTest, program, status, wait_until
+from tests.support import SECONDS, ProgramTest, a_port, program, status, wait_until
 from tests.serving.test_holds import QUICK
 
 # The text of a card.
@@ -49,6 +50,23 @@ class Renewal(ProgramTest):
         """A subtest: soon a picture of seat 1 shows a machine of a new room, in which it made this many commands."""
         soon = wait_until(lambda: room.made() == made, SECONDS)
         self.check(name, "" if soon else f"seat 1 has made {room.made()} commands, not {made}, after journal {journal}")
+
+    def goes_on_and_anew(self, room):
+        """Subtests: the first room has what the journal left, and the next one is at power-on; both then end."""
+        self.same("the room is the journal's", room.give(1, 1, b"EXAMINE 0700 1"), (200, b"~2\n"))
+        self.same("a new room is asked for", self.ask_anew(room), (200, b"RENEWAL IN 0\n"))
+        self.follows("it follows", room, 0)
+        self.same("nothing is loaded", room.give(1, 0, b"EXAMINE 0700 1"), (200, b" \n"))
+        self.same("its size is the journal's", room.give(1, 1, b"GLANCE 1400"), (200, b"GLANCE FAULT 1 RANGE\n"))
+        self.same("and so do its pages say", room.ask(1, path="/hold")[1].split(b"\n")[3], b"BEGAN PLAIN")
+        self.expect("both rooms", room.end(), 0, f"{room.ready}JOURNAL 2\nROOM 2\nJOURNAL 1\n")
+
+    def holds_all(self, **texts):
+        """Subtests: these files, with a point in the name for each underscore, have these texts; no others are there."""
+        named = {name.replace("_", "."): text for name, text in texts.items()}
+        self.same("the files", sorted(path.name for path in self.folder.iterdir()), sorted(named))
+        for name, text in named.items():
+            self.holds(name, self.folder / name, text)
 
 
 class ByKey(Renewal):
@@ -136,23 +154,6 @@ class ByKey(Renewal):
 class AfterAJournal(Renewal):
     """The room of a journal is followed by rooms at power-on."""
 
-    def goes_on_and_anew(self, room):
-        """Subtests: the first room has what the journal left, and the next one is at power-on; both then end."""
-        self.same("the room is the journal's", room.give(1, 1, b"EXAMINE 0700 1"), (200, b"~2\n"))
-        self.same("a new room is asked for", self.ask_anew(room), (200, b"RENEWAL IN 0\n"))
-        self.follows("it follows", room, 0)
-        self.same("nothing is loaded", room.give(1, 0, b"EXAMINE 0700 1"), (200, b" \n"))
-        self.same("its size is the journal's", room.give(1, 1, b"GLANCE 1400"), (200, b"GLANCE FAULT 1 RANGE\n"))
-        self.same("and so do its pages say", room.ask(1, path="/hold")[1].split(b"\n")[3], b"BEGAN PLAIN")
-        self.expect("both rooms", room.end(), 0, f"{room.ready}JOURNAL 2\nROOM 2\nJOURNAL 1\n")
-
-    def holds_all(self, **texts):
-        """Subtests: these files, with a point in the name for each underscore, have these texts; no others are there."""
-        named = {name.replace("_", "."): text for name, text in texts.items()}
-        self.same("the files", sorted(path.name for path in self.folder.iterdir()), sorted(named))
-        for name, text in named.items():
-            self.holds(name, self.folder / name, text)
-
     def test_a_new_room_has_the_journal_s_size_and_the_next_name(self):
         self.goes_on_and_anew(self.resumed())
         self.holds_all(day_journal=self.LINES + self.NEXT, day_journal_2=self.ANEW)
@@ -193,6 +194,61 @@ class AfterAJournal(Renewal):
     def test_without_a_journal_none_is_kept_later(self):
         self.goes_on_and_anew(self.resumed("--until", 1))
         self.holds_all(day_journal=self.LINES)
+
+
+class LastOfASeries(Renewal):
+    """`resume --last` goes on with the last journal after the one named."""
+
+    def test_without_a_series_it_is_the_journal_itself(self):
+        self.goes_on_and_anew(self.resumed("--last"))
+        self.holds_all(day_journal=self.LINES + self.NEXT, day_journal_2=self.ANEW)
+
+    def test_of_three_it_is_the_third(self):
+        for name in "day.journal", "day.journal.2":
+            (self.folder / name).write_text("JOURNAL1 4000\n")
+        self.goes_on_and_anew(self.last_of("day.journal", "day.journal.3"))
+        self.holds_all(day_journal="JOURNAL1 4000\n", day_journal_2="JOURNAL1 4000\n",
+                       day_journal_3=self.LINES + self.NEXT, day_journal_4=self.ANEW)
+
+    def test_after_a_gap_it_is_the_highest_number_and_no_other_name_counts(self):
+        others = "day.journal.11x", "day.journal.012", "day.journal.1000000", "day.journal.5.9", "a.day.journal.7", "day.8"
+        for name in ("day.journal", "day.journal.2", *others):
+            (self.folder / name).write_text("JOURNAL1 4000\n")
+        (self.folder / os.fsdecode(b"day.journal.\xff")).write_text("a diary\n")
+        self.goes_on_and_anew(self.last_of("day.journal", "day.journal.10"))
+        self.holds("it goes on", self.folder / "day.journal.10", self.LINES + self.NEXT)
+        self.holds("the next", self.folder / "day.journal.11", self.ANEW)
+
+    def test_a_number_may_be_named(self):
+        (self.folder / "day.journal.2").write_text("JOURNAL1 4000\n")
+        self.goes_on_and_anew(self.last_of("day.journal.2", "day.journal.3"))
+        self.holds_all(day_journal_2="JOURNAL1 4000\n", day_journal_3=self.LINES + self.NEXT, day_journal_4=self.ANEW)
+
+    def test_at_a_console_and_in_the_folder_of_the_process(self):
+        (self.folder / "day.journal").write_text("JOURNAL1 4000\n")
+        (self.folder / "day.journal.2").write_text(self.LINES)
+        ran = program("resume", "--last", "day.journal", lines=b"EXAMINE 0700 1\n", cwd=self.folder)
+        self.expect("a console of the last", ran, 0, "~2\n")
+        self.holds("it goes on", self.folder / "day.journal.2", f"{self.LINES}2\t0\tEXAMINE 0700 1\t~2\n")
+
+    def test_a_first_journal_that_is_not_there_is_refused_by_its_name(self):
+        first = self.folder / "day.journal"
+        (self.folder / "day.journal.2").write_text(self.LINES)
+        for path in first, self.folder / "nowhere/day.journal":
+            for words in (), ("--page", a_port(), "--seats", "1", "--renew-after", "60"):
+                ran = program("resume", "--last", path, *words)
+                self.expect(f"{path} {words}", ran, 1, b"", f"ibm1401: {path}: no such file\n")
+        self.holds("the second is as it was", self.folder / "day.journal.2", self.LINES)
+
+    def test_only_resume_takes_it(self):
+        for words in ("serve", "--port", a_port(), "--seats", "1"), ("console",), ("journal", "day.journal"):
+            self.same(f"{words[0]} doesn't", program(*words, "--last").returncode, 2)
+
+    def last_of(self, name, last):
+        """The room of the last journal after this one, which is that of the other name."""
+        (self.folder / last).write_text(self.LINES)
+        file = self.folder / name
+        return self.room("resume", "--last", "--renew-after", 60, file, seats=1, pages=True)
 
 
 class Requests(Renewal):

@@ -66,6 +66,18 @@ class Unit(ProgramTest):
         output, error = room.communicate(b"QUIT\n", REPLY_SECONDS)
         self.same("its end", (room.returncode, output, error), (0, b"JOURNAL 4\n", b""))
 
+    def test_a_room_goes_on_with_the_last_of_the_journals_that_follow_each_other(self):
+        room = self.start()
+        self.says("before", b"DEPOSIT 0500 ~K\n", b"OK\n")
+        room.kill()
+        room.wait(REPLY_SECONDS)
+        first = self.folder / f"ibm1401/{self.port}.journal"
+        first.with_name(f"{first.name}.2").write_text("JOURNAL1 4000\n1\t1\tDEPOSIT 0500 ~L\tOK\n")
+        room = self.again()
+        self.says("after", b"EXAMINE 0500\n", b"~L\n")
+        output, error = room.communicate(b"QUIT\n", REPLY_SECONDS)
+        self.same("its end", (room.returncode, output, error), (0, b"JOURNAL 2\n", b""))
+
     def test_a_room_that_is_stopped_goes_on_too_until_its_journal_is_moved_away(self):
         room = self.start()
         self.says("before", b"DEPOSIT 0500 ~K\n", b"OK\n")

@@ -90,6 +90,7 @@ class Room:
         test.addCleanup(folder.cleanup)
         self.path = Path(folder.name)
         texts = {"source": SOURCE, "wide": WIDE, "faulty": FAULTY, "job": JOB, "high": HIGH, "journal": JOURNAL}
+        texts |= {"another": JOURNAL, "another.2": NEXT_JOURNAL}
         texts.update({"marked": MARKED, "simhs": SIMHS, "plus": "A+B\n", "lines": "evaluate 400\n", "times": TIMES})
         for name, text in {**texts, "cards": "FIRST\nSECOND\n", "deck": DECK, "reel": REEL}.items():
             (self.path / name).write_text(text)
@@ -128,6 +129,7 @@ LISTING = "".join(f"{front} {line}\n" for front, line in zip(
     SOURCE.splitlines(), strict=True))
 LOADED = "1\t0\tDEPOSIT 0400 ~?423420~A423420~.414~   ~HI~E\tOK\n2\t0\tSTART 0400\tOK\n"
 LAST_PLACE = "EXAMINE 1400\nQUIT\n"
+NEXT_JOURNAL = "JOURNAL1 1400\n1\t1\tDEPOSIT 0500 ~A\tOK\n"
 CELL = "EXAMINE 0500\nQUIT\n"
 SHOWN = ["1 seat 1  DEPOSIT 0500 ~A              OK\n", "2 seat 2  DEPOSIT 0500 ~B              OK\n",
          "3 seat 1  EXAMINE 0500 1               ~B\n"]
@@ -254,6 +256,8 @@ ROWS = [
     ("resume journal", CELL, 0, "~B\nBYE\n", "", {"journal": f"{JOURNAL}4\t0\tEXAMINE 0500 1\t~B\n"}),
     ("resume --journal new journal", CELL, 0, "~B\nBYE\n", "", {"new": f"{JOURNAL}4\t0\tEXAMINE 0500 1\t~B\n"}),
     ("resume --until 1 journal", CELL, 0, "~A\nBYE\n", "", {}),
+    ("resume --last another", CELL, 0, "~A\nBYE\n", "", {"another.2": f"{NEXT_JOURNAL}2\t0\tEXAMINE 0500 1\t~A\n"}),
+    ("resume another", CELL, 0, "~B\nBYE\n", "", {"another": f"{JOURNAL}4\t0\tEXAMINE 0500 1\t~B\n"}),
     ("resume --without 2 journal", CELL, MISUSE, "", None, {}),
     ("resume --without 1,x --journal new journal", CELL, MISUSE, "", None, {}),
     ("resume --without 2 --journal new journal", CELL, 0, "~A\nBYE\n", "", {"new": WITHOUT_2}),

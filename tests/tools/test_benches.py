@@ -11,6 +11,9 @@ from pathlib import Path
 sys.dont_write_bytecode = True
 from tests.support import TOP, ProgramTest, repository, run
 
+sys.path.append(str(TOP / "benches"))
+from histories import ENDED, PERHAPS, Entry, lost_of
+
 README = TOP / "benches/README.md"
 HEAD = "| Bench | Figure | Ours | i1401 | Ratio | Date, commit |\n|---|---|---|---|---|---|\n"
 BEGIN, END = "<!-- benches/all --write begins here -->\n", "<!-- benches/all --write ends here -->\n"
@@ -90,6 +93,43 @@ class Benches(unittest.TestCase):
     def test_the_script_of_the_page_answers_help(self):
         status, text, _ = answer(TOP / "page/embed", "--help")
         self.assertEqual((status, "page/embed --check" in text), (0, True), text)
+
+
+class Histories(unittest.TestCase):
+    """What benches/soak says of a client's history, where it isn't what the journals have."""
+
+    ENTRIES = [Entry(1, "DEPOSIT 1000 1", "OK"), Entry(1, "EXAMINE 1000 1", "1"), Entry(2, "DEPOSIT 1000 2", "OK")]
+
+    def test_a_history_that_the_journals_have(self):
+        first, second, third = ((each.command, each.answer) for each in self.ENTRIES)
+        for name, history in {
+            "each reply": [first, second, third],
+            "a reply that is unknown": [first, (second[0], None), third],
+            "an end with its room": [first, second, (ENDED, None), third],
+            "two ends": [first, second, (ENDED, None), (ENDED, None), third, (ENDED, None)],
+            "what may be there, and is": [first, (second[0], PERHAPS), third],
+            "what may be there, and isn't": [first, second, ("DEPOSIT 1000 7", PERHAPS), third],
+            "the same at the end": [first, second, third, ("EXAMINE 1000 1", PERHAPS)],
+        }.items():
+            with self.subTest(name):
+                self.assertEqual(lost_of("it", history, self.ENTRIES), [])
+
+    def test_a_history_that_they_do_not_have(self):
+        first, second, third = ((each.command, each.answer) for each in self.ENTRIES)
+        for name, (history, why) in {
+            "another reply": ([first, (second[0], "2"), third],
+                              f"it: EXAMINE 1000 1, 2 is in the journals as {self.ENTRIES[1]}"),
+            "a line that lacks": ([first, second, third, second], "it: EXAMINE 1000 1, 1 is in the journals as None"),
+            "a line too many": ([first, second], "it: DEPOSIT 1000 2 is in the journal of room 2"),
+            "a line twice": ([first, first, second, third],
+                             f"it: DEPOSIT 1000 1, OK is in the journals as {self.ENTRIES[1]}"),
+            "an end in the middle of a room": (
+                [first, (ENDED, None), second, third],
+                "it: its connection ended before EXAMINE 1000 1, in the middle of room 1"),
+            "no line": ([], "it: DEPOSIT 1000 1 is in the journal of room 1"),
+        }.items():
+            with self.subTest(name):
+                self.assertEqual(lost_of("it", history, self.ENTRIES), [why])
 
 
 class Table(ProgramTest):
@@ -178,7 +218,7 @@ class All(ProgramTest):
             "images: rate", "lines: rate", "operate: rate", "assembler: rate", "serve --journal: rate --journal",
             "waiting: rate", "pages: rate", "crowd: rate", "rooms: rate", "journals: rate"])
         self.has(ran.stderr.decode(), "\nbenches/cards, 4 of 17\n",
-                 "\nLEFT OUT  benches/soak: it takes an hour, and runs if it is named\n")
+                 "\nLEFT OUT  benches/soak: it takes ten minutes, and runs if it is named\n")
 
     def test_what_is_printed_of_one_bench(self):
         self.mock("cards", SHARING)

@@ -4,7 +4,8 @@ import sys
 import tempfile
 from pathlib import Path
 
-from tests.edit_texts import Edit, functions_in, further_crates, further_edits, lay_out, only_clause, read_edits
+from tests.edit_texts import (
+    Edit, functions_in, further_crates, further_edits, laws_in, lay_out, only_clause, read_edits)
 from tests.support import TOP, ProgramTest
 
 # Each edit that the gate tries, and each further one: how it is named, the folder of its crate, and its lines.
@@ -12,6 +13,10 @@ EDITS = [(str(edit.relative_to(TOP)), edit.parent.parent, edit.read_text().split
          for edit in sorted(TOP.glob("crates/*/must-fail/*.edit"))]
 EDITS += [(f"further-edits/{crate}.txt: {edit.title}", TOP / "crates" / crate, edit.lines)
           for crate in further_crates() for edit in further_edits(crate)]
+# The crates of the tree that each needs.
+LIBRARIES = {line.split(":")[0]: line.partition(":")[2].split() for line in (TOP / "crates.txt").read_text().split("\n")
+             if line and not line.startswith("#")}
+LIBRARIES = {crate: [each for each in libraries if each in LIBRARIES] for crate, libraries in LIBRARIES.items()}
 
 
 def wrong_with(folder, lines):
@@ -34,6 +39,20 @@ def wrong_with(folder, lines):
     return "" if texts and old is None else "no change, or half of one"
 
 
+def known_in(crate):
+    """What an edit may be said to break of a crate: a contract, a clause, or a law of a type."""
+    sources = [each.read_text() for each in (TOP / "crates" / crate / "src").rglob("*.rt")]
+    functions = [each for source in sources for each in functions_in(source)]
+    known = {f"the contract of `{name}`" for _, _, name, clauses in functions if clauses}
+    known |= {f"the clause `{clause}` of `{name}`" for _, _, name, clauses in functions for clause in clauses}
+    return known.union(*map(laws_in, sources))
+
+
+def below(crate):
+    """A crate, and those that it needs."""
+    return {crate}.union(*map(below, LIBRARIES[crate]))
+
+
 class Edits(ProgramTest):
     """An edit whose text is gone, or is there twice, shows nothing."""
 
@@ -50,11 +69,9 @@ class Edits(ProgramTest):
 
     def test_the_clause_that_an_edit_breaks_is_there(self):
         """It is said of each edit that changes one function with one clause: python3 -m tests.edit_texts."""
+        own = {crate: known_in(crate) for crate in LIBRARIES}
         for crate in further_crates():
-            sources = [each.read_text() for each in (TOP / "crates" / crate / "src").rglob("*.rt")]
-            known = {f"the contract of `{each[2]}`" for source in sources for each in functions_in(source) if each[3]}
-            known |= {f"the clause `{clause}` of `{each[2]}`" for source in sources for each in functions_in(source)
-                      for clause in each[3]}
+            known = set().union(*(own[each] for each in below(crate)))
             for edit in further_edits(crate):
                 only, said = only_clause(crate, edit), edit.refused
                 self.check(f"{crate}: {edit.title}", "" if said == only or (said in known and not only)
@@ -74,6 +91,51 @@ class Texts(ProgramTest):
                 self.same(crate, laid, wanted)
                 for file in Path(folder).iterdir():
                     file.unlink()
+
+    def test_what_a_source_has(self):
+        """Lines and clauses of its functions, also of those that a trait asks for; and the laws of its types."""
+        source = """\
+pub trait Door {
+    ghost left: { Self → Bool };
+
+    fn open(&self) -> bool
+        ensures good { result ≡ left self.now }
+        ensures { x };
+
+    fn shut(&self);
+}
+
+pub(crate) struct Gate {
+    at: u16,
+    ghost ready: { at < 2 },
+}
+
+impl<J: Deep> Door
+    for Gate {
+    ghost left = { λ it. it.at == 0 };
+
+    fn open(&self) -> bool {
+        let at = self.at;
+        at == 0
+    }
+}
+
+impl<J> Model for Gates<J> {
+    ghost use Rattle.std.specs.Prelude.{ℕ};
+
+    ghost invariant = { λ it. it ≡ 1 };
+}
+
+fn free() -> u8
+    ensures one { result ≡ 1 }
+{
+    1
+}
+"""
+        self.same("functions", list(functions_in(source)), [
+            (3, 5, "open", ["good", ""]), (7, 7, "shut", []), (19, 22, "open", []), (31, 35, "free", ["one"])])
+        self.same("laws", laws_in(source), {"the law `ready` of `Gate`", "the law `left` of `Gate`",
+                                            "the law `invariant` of `Gates`"})
 
     def test_a_text_is_read(self):
         text = ("# A remark.\n\n== No second pass\nrefused: the clause `sum` of `add`\n"

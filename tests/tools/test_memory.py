@@ -192,6 +192,14 @@ class MemoryTest(unittest.TestCase):
         first = b",008009.\n"
         self.expect_few(0, first, first + b"\n" * (MOST_BYTES - len(first)), "run", "--load", "file")
 
+    def test_a_deck_in_the_hand_of_a_person_does_too(self):
+        (self.folder / "lines").write_text("deck file\n")
+        calls = ["source", "--cards", "file"], ["--load", "file"], ["source", "--do", "lines"]
+        for line in b"\n", b"A\n", b"A" * 80 + b"\n":
+            for call in calls:
+                with self.subTest(f"{line[:2]}: {' '.join(call)}"):
+                    self.expect_few(0, line, line * (MOST_BYTES // len(line)), "operate", *call)
+
     def test_two_decks_do_too(self):
         first = b",008009.\n"
         (self.folder / "more").write_bytes(b"\n" * MOST_BYTES)

@@ -11,12 +11,49 @@ import unittest
 from releasing import released
 from releasing.completion import for_bash, for_fish, for_zsh
 from releasing.helps import lesson_page, pages_of
+from releasing.package import compressed
 from releasing.proved import bare, checksum, note_of, program_of, sources, write_note
 from tests.support import PROGRAM, TOP, ProgramTest, program, repository, run
 from tests.tools.test_launcher import without_toolchain
 
 COPIED = "release", "releasing", "README.md", "CHANGELOG.md", "docs", "examples", "benches", "crates.txt", "HANDLES"
 PRINTED = "rt: bcd_1401 proved\n3 passed, 0 failed\n"
+# What the gate prints of the same sources where it proves all of them, and where an earlier run did; and what of both.
+ANEW = """\
+== core_1401
+fn core_1401::Core::cell: proved
+rt: core_1401 proved
+== bcd_1401
+rt: bcd_1401 proved
+== bcd_1401: its tests
+rt: bcd_1401: its tests are proved
+rt: core_1401: trying its must-fail edits (1)
+rt: must-fail core_1401/a.edit: refused, as it must be: note: src/core.rt:12:1: it is not proved
+rt: core_1401 ran, and wrote what its file stdout has
+rt: core_1401 ran (built by Rattle's own compiler), and wrote what its file stdout has
+rt: ok; handles allowed: none; must-fail edits: 1 refused; every proof and must-fail edit was done in this run
+3 passed, 0 failed
+"""
+EARLIER = " kept: an earlier run on this machine proved the same files over the same libraries"
+KEPT = f"""\
+rt: bcd_1401 is{EARLIER}
+rt: core_1401 is{EARLIER}
+rt: core_1401: 1 of its 1 must-fail edits were tried by an earlier run on this machine, and nothing has changed
+rt: must-fail core_1401/a.edit: refused, as it must be: note: src/core.rt:12:1: it isn't proved
+rt: core_1401 ran, and wrote what its file stdout has
+rt: core_1401 ran (built by Rattle's own compiler), and wrote what its file stdout has
+rt: ok; handles allowed: none; must-fail edits: 1 refused; done in this run: 0 of the 3 proofs; the others were before
+3 passed, 0 failed
+"""
+OF_BOTH = """\
+rt: bcd_1401 proved
+rt: core_1401 proved
+rt: core_1401 ran (built by Rattle's own compiler), and wrote what its file stdout has
+rt: core_1401 ran, and wrote what its file stdout has
+rt: must-fail core_1401/a.edit: refused, as it must be
+rt: ok; handles allowed: none; must-fail edits: 1 refused
+3 passed, 0 failed
+"""
 NEEDED = "dpkg-deb", "objdump", "git"
 PACKAGE, ARCHIVE = "ibm1401_0.9.0-1_amd64.deb", "ibm1401-0.9.0-x86_64-linux.tar.gz"
 
@@ -30,8 +67,12 @@ class ReleaseTest(ProgramTest):
     """A copy of the repository with one crate, and the program under test as what its gate has built."""
 
     def setUp(self):
-        self.place = self.folder / "repository"
-        self.place.mkdir()
+        self.begin(self.folder / "repository")
+
+    def begin(self, place):
+        """Makes the copy."""
+        self.place = place
+        self.place.mkdir(parents=True)
         for name in COPIED:
             copy = shutil.copytree if (TOP / name).is_dir() else shutil.copy
             copy(TOP / name, self.place / name)
@@ -128,6 +169,31 @@ class Made(ReleaseTest):
         other = self.made("later", SOURCE_DATE_EPOCH="1800000000")
         self.check("another time", "" if other[PACKAGE] != first[PACKAGE] else "it is the same")
 
+    def test_two_hosts_make_the_same_bytes(self):
+        """In other folders, with files of other dates and rights, by another gate, and with other variables."""
+        self.prove(ANEW)
+        first = self.made()
+        mask = os.umask(0o077)
+        self.addCleanup(os.umask, mask)
+        self.begin(self.folder / "another host/of the museum")
+        for name in run(["git", "-C", self.place, "ls-files", "-z"]).stdout.decode().split("\0")[:-1]:
+            os.utime(self.place / name, (1_500_000_000, 1_500_000_000))
+        self.prove(KEPT)
+        (self.folder / "a room").mkdir()
+        second = self.made("there", TMPDIR=str(self.folder / "a room"), HOME="/nonexistent", TZ="Asia/Tokyo", LC_ALL="C",
+                           COLUMNS="40", DPKG_DEB_COMPRESSOR_LEVEL="1", TAR_OPTIONS="--owner=desk")
+        self.same("the files", sorted(second), sorted(first))
+        for name in first:
+            self.check(name, "" if first[name] == second[name] else "it differs")
+        proof = gzip.decompress(first["PROVED.txt.gz"]).decode()
+        self.check("what each gate prints", "" if f"PRINTS\n\n{OF_BOTH}\nSOURCES\n" in proof else proof[:1500])
+
+    def test_a_compressed_text(self):
+        for text in b"", b"HELLO\n" * 9_999:
+            made = compressed(text)
+            self.same(f"{len(text)} bytes", gzip.decompress(made), text)
+            self.same("its head has no time and no host", made[:10].hex(), "1f8b0800000000000203")
+
     def test_the_program_that_the_gate_has_built(self):
         """It has the record of its commit as soon as the gate is noted."""
         record = f"ibm1401 0.9.0\ncommit {self.commit}\nproved by a toolchain\n"
@@ -145,7 +211,8 @@ class Made(ReleaseTest):
         (self.folder / "sums").write_text(proof.partition("SOURCES\n\n")[2])
         self.expect("of the sources", run(["sha256sum", "--quiet", "-c", self.folder / "sums"], cwd=self.place))
         self.same("how many sources", len(proof.partition("SOURCES\n\n")[2].splitlines()), len(sources(self.place)))
-        self.check("what the gate printed", "" if f"WHAT THE GATE PRINTED\n\n{PRINTED}\n" in proof else proof[:500])
+        printed = f"WHAT EACH RUN OF THE GATE PRINTS\n\n{PRINTED}\n"
+        self.check("what the gate printed", "" if printed in proof else proof[:500])
         first = f"ibm1401 0.9.0, commit {self.commit}\nproved by a toolchain\n\n"
         self.same("its head", proof.encode(), f"{first}{checksum(bare(PROGRAM.read_bytes()))}  the program that...")
 

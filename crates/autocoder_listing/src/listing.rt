@@ -35,7 +35,7 @@ impl Model for ListingLine {
 }
 
 impl ListingLine {
-    /// The bytes of the line, of which a blank is never the last.
+    /// The bytes of the line, without trailing blanks.
     pub fn as_slice(&self) -> &[u8]
         ensures { result.now ≡ self.now }
     {

@@ -29,7 +29,7 @@ fn last_of_two(found: Option<u64>, row: Option<Row>, at: u16, characters: &[u8; 
     }
 }
 
-/// The number of the last of lines here that shows these characters at a place. They are placed.
+/// Of these lines, the number of the last that shows these characters at a place. The characters are then placed.
 #[tactic(auto, using(crate::proofs::RowsLemmas::last_of_more))]
 fn last_of_lines<'a>(
     alloc: Global,

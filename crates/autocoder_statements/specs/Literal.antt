@@ -53,7 +53,7 @@ area_literal_of word =
     option_map (λ places. record { label = label; places = places }) (number_between 1 50 (drop 1 (drop n word))))
     (label_of languages.Ibm (take n word))
 
--- the literal that a word is, of those that the plain language hasn't
+-- the literal that a word is in the wider language alone
 abbrev pub wide_literal_of : List ℕ → Option Literal
 wide_literal_of word =
     option_or (option_map literals.Address (address_literal_of word))

@@ -81,11 +81,11 @@ assembler_operations =
 abbrev pub instruction_in : ARow → Instruction
 instruction_in row = record { operation = row.1; form = record { least = row.2; most = row.3; d = row.4 } }
 
--- the instruction that the columns ask for
+-- the instruction in these columns
 abbrev pub instruction_of : List ℕ → Option Instruction
 instruction_of columns = option_map instruction_in (find (λ (row : ARow). bytes_eq row.0 columns) instructions)
 
--- what the columns ask for of the assembler itself
+-- the assembler's own operation in these columns
 abbrev pub assembler_operation_of : List ℕ → Option Operation
 assembler_operation_of columns =
     option_map (λ (row : AnOwnRow). row.1) (find (λ (row : AnOwnRow). bytes_eq row.0 columns) assembler_operations)

@@ -124,7 +124,7 @@ impl AreaLiteral {
 }
 
 impl Literal {
-    /// The literal that a word is, of those that the plain language hasn't, if it is one.
+    /// Parses a literal that only the wider language has.
     pub(crate) fn from_wide_word(word: &[u8]) -> Option<Literal>
         ensures { result ≡ wide_literal_of word.now }
     {

@@ -17,7 +17,7 @@ pub enum Loss {
     Column73,
 }
 
-/// How many columns are for operands: 21 to 72.
+/// The width of the operand columns, 21 to 72.
 const OPERAND_COLUMNS: usize = 52;
 
 /// What a line has from column 21 on.

@@ -54,8 +54,8 @@ impl Graphics {
         }
     }
 
-    /// The byte that this machine's chain has for the character of a byte of this chain. A byte that has none there has
-    /// none here.
+    /// Translates a byte of this chain to our graphic of that character. A byte that is no graphic of this chain is
+    /// none of ours.
     #[tactic(auto, using(crate::proofs::GraphicsLemmas::theirs_again, crate::proofs::GraphicsLemmas::one_to_one))]
     pub fn ours(self, byte: u8) -> u8
         ensures value { result ≡ ours_of self byte }

@@ -44,8 +44,9 @@ pub(crate) fn codes_up(chars: &[Char], low: usize) -> u8x16
     ])
 }
 
-/// The code of the character at a place.
-#[inline(always)]
+/// The code of the character at a place. The mark is a hint and not an order: a body that must be put in line would
+/// count once for each of its sixteen calls, and the sum would be too large to be put in line itself.
+#[inline]
 fn code_at(chars: &[Char], at: usize) -> u8
     requires { at < length chars.now }
     ensures value { result ≡ slice_index_or chars.now at 0 }

@@ -388,3 +388,25 @@ pub so_far : (lines : List PrintLine) (cards : List Card) (steps : ℕ) (job : J
     → IsPartOf lines cards (after_output lines cards steps job)
 so_far lines cards steps job =
     record { lines = record { rest = job.lines; joined = refl }; cards = record { rest = job.cards; joined = refl } }
+
+-- no step leaves the tape units as they were
+pub no_step : (n : ℕ) → n ≡ 0 → (t : TapedMachine) → (unattended n t).state.tapes ≡ t.tapes
+unfolding unattended
+no_step zero e t = refl
+no_step (suc n) e t = absurd (omega (arith, e))
+
+tapes_beyond : (n : ℕ) (deck : List Card) (why : Option Stop) (t : TapedMachine)
+    → (unattended n (taped_with_deck deck t)).state.tapes ≡ (taped_run_for n t).taped.tapes
+    → (go_on why (taped_with_deck deck t) (unattended n)).state.tapes ≡ (run_beyond n why t).taped.tapes
+tapes_beyond n deck None t more = more
+tapes_beyond n deck (Some why) t more = refl
+
+-- the tape units after a run are those of the job after as many steps
+pub run_tapes : TapedStepLaw → (n : ℕ) (deck : List Card) (s : TapedMachine) → HasRoom n deck s
+    → (unattended n (taped_with_deck deck s)).state.tapes ≡ (taped_run_for n s).taped.tapes
+unfolding taped_run_for
+run_tapes law zero deck s room = no_step 0 refl (taped_with_deck deck s)
+run_tapes law (suc n) deck s room =
+    ap (λ (job : Job). job.state.tapes) (next law n n deck s room)
+    ∙ tapes_beyond n deck (taped_step s).stop (taped_step s).taped
+    (run_tapes law n deck (taped_step s).taped (room_left law n deck s room))

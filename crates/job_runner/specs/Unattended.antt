@@ -1,5 +1,5 @@
 -- A job: a machine with its tape units that nobody attends, whose paper and punched cards are taken out at each step (own).
-use Rattle.std.specs.Prelude.{◌≡◌, ℕ, ◌+◌, zero, suc, Bool, IsTrue, List, [], ◌++◌, Option, None, Some}
+use Rattle.std.specs.Prelude.{◌≡◌, ◌≤◌, ℕ, ◌+◌, zero, suc, Bool, IsTrue, List, [], ◌++◌, Option, None, Some}
 use Rattle.devices_1401.specs.declared.card.Card.{Card}
 use Rattle.devices_1401.specs.declared.print_line.PrintLine.{PrintLine}
 use Rattle.machine_tables.specs.declared.stop.Stop.{Stop}
@@ -8,6 +8,7 @@ use Rattle.cpu_1401.specs.CardsAndPrinter.{load, with_devices}
 use Rattle.cpu_1401.specs.Run.{carried_out_by}
 use Rattle.cpu_1401.specs.State.{State}
 use Rattle.machine_tapes.specs.TapedStep.{taped_step}
+use Rattle.machine_tapes.specs.Tapes.{Tapes}
 use Rattle.machine_tapes.specs.declared.taped_machine.TapedMachine.{TapedMachine}
 use Rattle.job_runner.specs.declared.fault.JobFault.{JobFault}
 use Rattle.job_runner.specs.declared.fault.JobFault.TheVariants as fault
@@ -111,6 +112,10 @@ AtEnd limit t = (more : ℕ) → unattended (limit + more) t ≡ unattended limi
 abbrev pub Begins : ℕ → TapedMachine → Type 0
 Begins limit t =
     (more : ℕ) → IsPartOf (unattended limit t).lines (unattended limit t).cards (unattended (limit + more) t)
+
+-- the tape units of a job that broke off: those after some of its steps
+abbrev pub IsLeftOff : ℕ → TapedMachine → Tapes → Type 0
+IsLeftOff limit t tapes = (steps : ℕ) × (steps ≤ limit) × ((unattended steps t).state.tapes ≡ tapes)
 
 -- whether a read of the deck and a write of what comes out have failed
 pub record Failed : Type 0 where

@@ -13,8 +13,10 @@ use std::marker::Model;
 /// Gives the cards of a deck, first to last. Contracts see the list of those that are left.
 #[derive(Drop)]
 pub struct Deck<'a> {
-    lens: &'a [u8],
-    chars: &'a [Char],
+    /// How many characters each card's line has.
+    pub(crate) lens: &'a [u8],
+    /// The characters of all lines.
+    pub(crate) chars: &'a [Char],
 }
 
 impl<'a> Model for Deck<'a> {
@@ -51,7 +53,7 @@ impl<'a> Deck<'a> {
 }
 
 /// The card with these characters in its first columns, and then blanks.
-fn card_of_chars(chars: &[Char]) -> Card
+pub(crate) fn card_of_chars(chars: &[Char]) -> Card
     requires { length chars.now ≤ card_columns }
     ensures { result ≡ card_of_chars chars.now }
 {

@@ -5,7 +5,7 @@ ghost use Rattle.std.specs.Prelude.{◌≡◌, ◌≢◌, ◌++◌, length, Ok, 
 ghost use Rattle.autocoder_statements.specs.SourceLine.{lines_of};
 ghost use Rattle.job_runner.specs.DeckText.{card_of_line, card_text, deck_of};
 
-use crate::card_list::{CardList, put_card};
+use crate::card_list::{CardList, START, put_card};
 use autocoder_statements::split_line;
 use bcd_1401::Char;
 use devices_1401::{CARD_COLUMNS, Card};
@@ -96,7 +96,11 @@ pub fn read_deck(alloc: Global, text: &[u8]) -> Result<ReadDeck, DeckTextFault>
         rest = beyond;
     }
     Ok(ReadDeck {
-        cards: CardList { lens, chars },
+        cards: CardList {
+            lens,
+            chars,
+            place: START,
+        },
         has_small_letters,
     })
 }

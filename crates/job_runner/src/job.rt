@@ -1,6 +1,7 @@
 //! Running a machine with its tape units and a deck until it stops.
 ghost use Rattle.std.specs.Prelude.{◌≡◌, ◌≢◌, ◌≤◌, length, IfOk, IfErr, OnOk, OnErr};
-ghost use Rattle.job_runner.specs.Unattended.{AtEnd, Begins, GoesOn, IsPartOf, IsWhyBroken, after_output, failed};
+ghost use Rattle.job_runner.specs.Unattended.{AtEnd, Begins, GoesOn, IsLeftOff, IsPartOf, IsWhyBroken};
+ghost use Rattle.job_runner.specs.Unattended.{after_output, failed};
 ghost use Rattle.job_runner.specs.Unattended.{taped_with_deck, unattended};
 
 use crate::cards::Cards;
@@ -63,6 +64,9 @@ pub fn run_job<R: Cards, W: Output>(
     ensures part { OnErr result (IsPartOf (W.lines output.new) (W.cards output.new)
         (after_output (W.lines output.old) (W.cards output.old) 0
         (unattended limit (taped_with_deck (R.left cards.old) taped.old)))) }
+
+    // The tape units are then those after some of its steps.
+    ensures left_off { OnErr result (IsLeftOff limit (taped_with_deck (R.left cards.old) taped.old) taped.new.tapes) }
 
     // Read means that a read has failed, Write that a write has, and Memory that neither has.
     ensures why { IfErr result (λ why. IsWhyBroken why

@@ -236,7 +236,7 @@ fn segment_inside(size: u16, spelled: &Spelled) -> Result<Segment, ImageFault>
     })
 }
 
-/// The entry that a line names, if it does, it lies in core storage of this size and nothing follows the line.
+/// The entry that a line names; it must be in core storage of this size, with nothing after its line.
 fn last_entry(size: u16, entry: Option<u32>, beyond: &[u8]) -> Result<u16, ImageFault>
     ensures value { result ≡ entry_by size entry (parts_of beyond.now) }
     ensures fault { IfErr result IsOfText }

@@ -2,7 +2,7 @@
 
 use machine_tables::TapeUnit;
 
-/// How cells are on tape (A24-1403, "Magnetic Tape", from memory).
+/// How cells are written on tape (A24-1403, "Magnetic Tape", from memory).
 #[derive(Clone, Copy)]
 pub enum TapeMode {
     /// `M`: their characters alone. Word marks in core stay.

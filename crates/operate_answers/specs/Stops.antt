@@ -1,5 +1,5 @@
 -- Breaks and watches together (own): what they remember in a run, how they are counted, set and taken away.
-use Rattle.std.specs.Prelude.{ℕ, ◌+◌, ◌-◌, ◌^◌, ◌==◌, min, Bool, false, not, if◌then◌else◌, List, [], ◌∷◌, ◌++◌}
+use Rattle.std.specs.Prelude.{ℕ, ◌+◌, ◌-◌, ◌^◌, ◌==◌, min, Bool, true, false, not, nat_lt, if◌then◌else◌, List, [], ◌∷◌, ◌++◌}
 use Rattle.std.specs.Prelude.{length, map, filter, slice_index_or, Option, None, Some, is_none, Result, Ok, Err}
 use Rattle.std.specs.List.{list_any}
 use Rattle.bcd_1401.specs.declared.cell.Cell.{Cell}
@@ -98,6 +98,28 @@ with_stop said test all = record {
   last = next_number all;
 }
 
+-- it is a break
+abbrev pub is_said_break : Said → Bool
+is_said_break (said.Break after condition) = true
+is_said_break (said.Watch it) = false
+
+abbrev pub is_break : NumberedStop → Bool
+is_break stop = is_said_break stop.said
+
+-- the most breaks that are set at a time, and the most watches
+abbrev pub most_of_a_kind : ℕ
+most_of_a_kind = 100
+
+-- one more, if so many of its kind aren't too many
+abbrev if_few : ℕ → LookFault → Said → StopTest → AllStops → Result AllStops LookFault
+if_few count why said test all = if nat_lt count most_of_a_kind then Ok (with_stop said test all) else Err why
+
+-- one more, unless there are as many of its kind as are set at a time
+abbrev pub one_more : Said → StopTest → AllStops → Result AllStops LookFault
+one_more said test all =
+    if is_said_break said then if_few (length (filter is_break all.stops)) fault.Breaks said test all
+    else if_few (length all.stops - length (filter is_break all.stops)) fault.Watches said test all
+
 infixl 10 ◌>>=◌
 -- what is on the left, and if it has no fault, what follows it
 abbrev pub ◌>>=◌ : {X Y : Type 0} → Result X LookFault → (X → Result Y LookFault) → Result Y LookFault
@@ -124,10 +146,9 @@ break_test address nth it =
     test.Arrival (record { address = address; condition = it; only = nth; is_met = false })
 
 abbrev break_with : Option ℕ → Option Condition → AllStops → ℕ → Asked → Result AllStops LookFault
-break_with nth condition all address it =
-    Ok (with_stop (said.Break nth condition) (break_test address nth it) all)
+break_with nth condition all address it = one_more (said.Break nth condition) (break_test address nth it) all
 
--- a break more, at the address that its place means now
+-- a break more, at the address that its place means now, unless there are 100
 unfoldable pub break_added : Known → State → Place → Option ℕ → Option Condition → AllStops → Result AllStops LookFault
 break_added known s place nth condition all = do
   address ← if_place (address_of known s place)
@@ -174,9 +195,9 @@ watch_test known s watched.Reader = Ok (device_test Reader asked.Anything)
 watch_test known s watched.Punch = Ok (device_test Punch asked.Anything)
 
 abbrev watch_with : Watched → AllStops → StopTest → Result AllStops LookFault
-watch_with it all test = Ok (with_stop (said.Watch it) test all)
+watch_with it all test = one_more (said.Watch it) test all
 
--- a watch more
+-- a watch more, unless there are 100
 unfoldable pub watch_added : Known → State → Watched → AllStops → Result AllStops LookFault
 watch_added known s it all = do
   test ← watch_test known s it

@@ -45,9 +45,10 @@ fn put_card(effect: &mut Text, word: &[u8], card: &Card) {
     }
 }
 
-/// Adds the movement that waits for the next print, if another one did before the step, and where the carriage is, if
-/// the step moved it without a print.
-fn put_carriage(effect: &mut Text, before: &Machine, after: &Machine) {
+/// Adds the movement that waits for the next print, if another one did before the step; where the carriage is, if the
+/// step moved it without a print; what a comparison found, if the step was one; and where the machine goes on, if it was
+/// a branch that was taken.
+fn put_outcome(effect: &mut Text, program: &Program, before: &Machine, after: &Machine) {
     let pending = after.pending_movement();
     if pending != before.pending_movement() {
         match pending {
@@ -69,17 +70,12 @@ fn put_carriage(effect: &mut Text, before: &Machine, after: &Machine) {
         effect.put(b" of form ");
         effect.put_number(1, u64::from(new.form));
     }
-}
-
-/// Adds what a comparison found, if the step was one, and where the machine goes on, if it was a branch that was taken.
-fn put_outcome(effect: &mut Text, program: &Program, before: &Machine, after: &Machine) {
     let Some(cells) = before.next_instruction() else {
         return;
     };
     let [first, ..] = cells.as_slice() else {
         return;
     };
-    let (old, new) = (before.regs(), after.regs());
     let len = cells.as_slice().len();
     let operation = first.char.graphic();
     if operation == COMPARE {
@@ -116,19 +112,6 @@ fn beyond_unmarked(core: &Core, at: u16) -> u16
     size
 }
 
-/// The next place with a word mark, from one down; place 0 if there is none.
-fn down_to_mark(core: &Core, at: u16) -> u16
-    requires { at < length core.now }
-    ensures { result ≤ at }
-{
-    for i in 0..at {
-        if core.get(at - i).mark {
-            return at - i;
-        }
-    }
-    0
-}
-
 /// Adds what the places from a low one up to another held and hold, the upper ones first.
 fn put_held(alloc: Global, effect: &mut Text, before: &Core, after: &Core, low: u16, end: u16)
     requires before_in { end ≤ length before.now }
@@ -145,34 +128,6 @@ fn put_held(alloc: Global, effect: &mut Text, before: &Core, after: &Core, low: 
     }
 }
 
-/// The first place of some that holds another character, or the end.
-fn first_rewritten(before: &Core, after: &Core, from: u16, end: u16) -> u16
-    requires before_in { end ≤ length before.now }
-    requires after_in { end ≤ length after.now }
-{
-    for at in from..end {
-        if before.get(at).char != after.get(at).char {
-            return at;
-        }
-    }
-    end
-}
-
-/// The end of the places of some that hold another character; the end of all if none does.
-fn beyond_rewritten(before: &Core, after: &Core, from: u16, end: u16) -> u16
-    requires before_in { end ≤ length before.now }
-    requires after_in { end ≤ length after.now }
-    ensures { result ≤ end }
-{
-    for i in from..end {
-        let at = end - 1 - (i - from);
-        if before.get(at).char != after.get(at).char {
-            return at + 1;
-        }
-    }
-    end
-}
-
 /// Adds the characters of a field before and after a step, if they changed: all of a field with a label, else from the
 /// first place that changed to the last; and of many places only that they change.
 fn put_rewritten(
@@ -187,7 +142,13 @@ fn put_rewritten(
     requires before_in { end ≤ length before.now }
     requires after_in { end ≤ length after.now }
 {
-    let first = first_rewritten(before, after, low, end);
+    let (mut first, mut beyond) = (end, low);
+    for at in low..end {
+        if before.get(at).char != after.get(at).char {
+            first = first.min(at);
+            beyond = at + 1;
+        }
+    }
     if first == end {
         return;
     }
@@ -198,13 +159,12 @@ fn put_rewritten(
         put_held(alloc, effect, before, after, low, end);
         return;
     }
-    let beyond = beyond_rewritten(before, after, first, end);
     begin(effect, &[]);
     put_span(effect, first, beyond.saturating_sub(1));
     if beyond.saturating_sub(first) > MOST_SHOWN {
         effect.put(b" change");
     } else {
-        put_held(alloc, effect, before, after, first, beyond);
+        put_held(alloc, effect, before, after, first, beyond.min(end));
     }
 }
 
@@ -245,7 +205,10 @@ fn put_changes(
         if at >= size {
             return;
         }
-        let low = down_to_mark(after, at);
+        let low = match after.field_len(at) {
+            Some(len) => at + 1 - len,
+            None => 0,
+        };
         let end = beyond_unmarked(after, at);
         if effect.len() > MOST_BYTES {
             effect.put(b"; ..");
@@ -284,7 +247,6 @@ pub(crate) fn effect_of(alloc: Global, program: &Program, before: &Machine, afte
             put_card(&mut effect, b"punches ", &card);
         }
     }
-    put_carriage(&mut effect, before, after);
     put_outcome(&mut effect, program, before, after);
     effect
 }

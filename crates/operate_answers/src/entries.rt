@@ -1,13 +1,14 @@
 //! The last commands that were recorded, and the cards that are still in the hopper.
 
 use crate::counted::put_count;
+use bcd_1401::Char;
 use bytes_text::Text;
 use console_text::{put_command, reply_text};
-use devices_1401::{Card, Devices};
+use devices_1401::{CARD_COLUMNS, Card, Devices};
 use machine_commands::{Answer, Command};
 use operate_views::{put_hopper, put_stacker};
 use room_alone::Entry;
-use std::alloc::{AllocError, Global};
+use std::alloc::Global;
 
 /// How many commands are shown if no number says how many.
 const LAST_COMMANDS: usize = 10;
@@ -46,55 +47,26 @@ pub(crate) fn put_journal(alloc: Global, text: &mut Text, journal: &[Entry], mos
     }
 }
 
-/// The card that an entry put into the hopper.
-fn card_fed(entry: &Entry) -> Option<Card> {
-    match (entry.command, entry.answer) {
-        (Command::Feed { card }, Answer::Done) => Some(card),
-        _ => None,
-    }
-}
-
-/// The index of the entry from which on a journal fed so many cards; 0 if it didn't.
-fn fed_from(journal: &[Entry], cards: usize) -> usize {
-    let mut left = cards;
+/// Adds the cards in the hopper, the first of them shown; how many are in hand, if some are; and those in the stacker.
+pub(crate) fn put_cards(text: &mut Text, devices: &Devices, journal: &[Entry], hand: usize) {
+    // Those in the hopper are the last that were fed, and they are read in the order in which they were fed.
+    let mut first = [Card([Char::BLANK; CARD_COLUMNS]); CARDS_SHOWN];
+    let mut left = usize::from(devices.hopper());
     for i in 0..journal.len() {
-        let at = journal.len() - 1 - i;
         if left == 0 {
-            return at + 1;
+            break;
         }
-        if card_fed(&journal[at]).is_some() {
+        let entry = &journal[journal.len() - 1 - i];
+        if let (Command::Feed { card }, Answer::Done) = (entry.command, entry.answer) {
             left -= 1;
-        }
-    }
-    0
-}
-
-/// The first cards of a hopper with so many: the last that a journal fed, as they are read in the order in which they
-/// are fed.
-fn first_cards(alloc: Global, journal: &[Entry], cards: usize) -> Result<Vec<Card>, AllocError> {
-    let mut first = Vec::new(alloc);
-    for entry in &journal[fed_from(journal, cards).min(journal.len())..] {
-        if let Some(card) = card_fed(entry) {
-            if first.len() < CARDS_SHOWN {
-                first.push(card)?;
+            if left < CARDS_SHOWN {
+                first[left] = card;
             }
         }
     }
-    Ok(first)
-}
-
-/// Adds the cards in the hopper, the first of them shown; how many are in hand, if some are; and those in the stacker.
-pub(crate) fn put_cards(
-    alloc: Global,
-    text: &mut Text,
-    devices: &Devices,
-    journal: &[Entry],
-    hand: usize,
-) {
-    match first_cards(alloc, journal, usize::from(devices.hopper())) {
-        Ok(first) => put_hopper(text, devices, first.as_slice()),
-        Err(_) => text.fail(),
-    }
+    let first = first.as_slice();
+    let shown = first.len().min(usize::from(devices.hopper()));
+    put_hopper(text, devices, &first[left.min(shown)..shown]);
     if hand > 0 {
         text.put(b"in hand: ");
         put_count(text, hand as u64, b"card");

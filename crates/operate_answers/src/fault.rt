@@ -24,6 +24,10 @@ pub enum LookFault {
         /// The number.
         number: u32,
     },
+    /// As many breaks are set as are at a time.
+    Breaks,
+    /// As many watches are set as are at a time.
+    Watches,
     /// Memory was refused.
     Memory,
 }
@@ -45,6 +49,8 @@ pub fn put_look_fault(alloc: Global, text: &mut Text, program: &Program, fault: 
             text.put(b"no break and no watch has the number ");
             text.put_number(1, u64::from(*number));
         }
+        LookFault::Breaks => text.put(b"at most 100 breaks are set at a time"),
+        LookFault::Watches => text.put(b"at most 100 watches are set at a time"),
         LookFault::Memory => text.put(b"out of memory"),
     }
 }

@@ -9,19 +9,8 @@ use operate_program::{Program, index_name};
 use operate_views::put_field;
 use std::alloc::Global;
 
-/// What a field is called: the label or the index register that names it; empty if it is named otherwise.
-fn name_of(place: &Place) -> &[u8] {
-    if place.adjustments[0].is_some() {
-        return &[];
-    }
-    match &place.base {
-        Base::Label(label) => label.as_slice(),
-        Base::Index(register) => index_name(*register),
-        Base::Number(_) | Base::Line(_) | Base::Held(_) => &[],
-    }
-}
-
-/// Adds the field that a place names, without a line feed.
+/// Adds the field that a place names, without a line feed: in front of it the label or the index register, if one names
+/// it.
 pub(crate) fn put_named_field(
     alloc: Global,
     text: &mut Text,
@@ -29,12 +18,18 @@ pub(crate) fn put_named_field(
     machine: &Machine,
     place: &Place,
 ) -> Result<(), LookFault> {
+    let name: &[u8] = match &place.base {
+        _ if place.adjustments[0].is_some() => &[],
+        Base::Label(label) => label.as_slice(),
+        Base::Index(register) => index_name(*register),
+        Base::Number(_) | Base::Line(_) | Base::Held(_) => &[],
+    };
     match program.field(machine, place) {
         Err(fault) => Err(LookFault::Place(fault)),
         Ok(field) => match field.cells(alloc, machine.core()) {
             Err(fault) => Err(LookFault::Field(fault)),
             Ok(cells) => {
-                put_field(text, name_of(place), field.units(), cells.as_slice());
+                put_field(text, name, field.units(), cells.as_slice());
                 Ok(())
             }
         },

@@ -120,7 +120,7 @@ pub fn put_look(
             Ok(number) => put_spelled(text, number),
         },
         Look::Registers => put_panel(alloc, text, program, seen),
-        Look::Cards => put_cards(alloc, text, devices, seen.journal, seen.hand),
+        Look::Cards => put_cards(text, devices, seen.journal, seen.hand),
         Look::Paper(_) if devices.paper() == 0 => text.put(b"no line is on the paper\n"),
         Look::Paper(None) => put_paper(alloc, text, devices, LAST_LINES),
         Look::Paper(Some(most)) => put_paper(alloc, text, devices, *most as usize),

@@ -20,21 +20,6 @@ const END_COLUMN: usize = 72;
 /// The columns of a label.
 const LABEL_COLUMNS: usize = 8;
 
-/// Adds a line of the source with its number, in four columns from the right, after a mark.
-fn put_line(text: &mut Text, program: &Program, mark: u8, number: u64) {
-    text.put_byte(mark);
-    for least in [1000, 100, 10] {
-        if number < least {
-            text.put_byte(b' ');
-        }
-    }
-    text.put_number(1, number);
-    text.put(b"  ");
-    let line = program.source_line(number);
-    text.put(line[FIRST_COLUMN.min(line.len())..END_COLUMN.min(line.len())].trim_ascii_end());
-    text.put_byte(b'\n');
-}
-
 /// The number of the line that a place names: itself, the line that declares a label, or the line that made the cells at
 /// an address.
 fn line_named(
@@ -65,7 +50,8 @@ fn line_named(
     }
 }
 
-/// Adds the source around a place, or around the next instruction, whose line has a mark in front.
+/// Adds the source around a place, or around the next instruction, whose line has a mark in front. The number of a line
+/// is in four columns, from the right.
 pub(crate) fn put_source(
     alloc: Global,
     text: &mut Text,
@@ -92,8 +78,23 @@ pub(crate) fn put_source(
     let first = number.saturating_sub(LINES_AROUND).max(1);
     let last = number.saturating_add(LINES_AROUND).min(program.lines());
     for each in first..last.saturating_add(1) {
-        let mark = if here == Some(each) { b'>' } else { b' ' };
-        put_line(text, program, mark, each);
+        text.put_byte(if here == Some(each) { b'>' } else { b' ' });
+        let blanks = if each < 10 {
+            3
+        } else if each < 100 {
+            2
+        } else if each < 1000 {
+            1
+        } else {
+            0
+        };
+        text.put_blanks(blanks);
+        text.put_number(1, each);
+        text.put(b"  ");
+        let line = program.source_line(each);
+        let (from, end) = (FIRST_COLUMN.min(line.len()), END_COLUMN.min(line.len()));
+        text.put(line[from..end].trim_ascii_end());
+        text.put_byte(b'\n');
     }
     Ok(())
 }

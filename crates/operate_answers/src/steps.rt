@@ -1,6 +1,4 @@
 //! The lines of steps, and the lines that are printed meanwhile.
-ghost use Rattle.std.specs.Prelude.{◌≡◌, length};
-
 use crate::effects::effect_of;
 use bytes_text::Text;
 use cpu_1401::{Machine, instruction_cells};
@@ -19,31 +17,6 @@ pub fn put_lines_from(alloc: Global, text: &mut Text, devices: &Devices, from: u
     }
 }
 
-/// Adds the line of a step, by the machine before and after it, and the lines that it printed.
-fn put_stepped(alloc: Global, text: &mut Text, program: &Program, before: &Machine, after: &Machine)
-    requires { length before.now.storage ≡ length after.now.storage }
-{
-    let at = before.regs().i;
-    let core = before.core();
-    let effect = effect_of(alloc, program, before, after);
-    let cells = instruction_cells(core, at);
-    text.rests_on(&effect);
-    match program.statement_at(alloc, core, at) {
-        Err(_) => text.fail(),
-        Ok(statement) => {
-            put_step(
-                alloc,
-                text,
-                at,
-                statement,
-                cells.as_slice(),
-                effect.as_slice(),
-            );
-        }
-    }
-    put_lines_from(alloc, text, after.devices(), before.devices().paper());
-}
-
 /// Has a machine carry out so many instructions, and adds a line for each with what it did, and after it the lines that
 /// it printed. The machine is a copy from before the run.
 pub fn put_steps(
@@ -59,8 +32,16 @@ pub fn put_steps(
     };
     for _ in 0..steps {
         let _done = after.run(1);
-        if machine.core().size() == after.core().size() {
-            put_stepped(alloc, text, program, machine, &after);
+        let (at, core) = (machine.regs().i, machine.core());
+        if core.size() == after.core().size() {
+            let effect = effect_of(alloc, program, machine, &after);
+            let cells = instruction_cells(core, at);
+            text.rests_on(&effect);
+            match program.statement_at(alloc, core, at) {
+                Err(_) => text.fail(),
+                Ok(said) => put_step(alloc, text, at, said, cells.as_slice(), effect.as_slice()),
+            }
+            put_lines_from(alloc, text, after.devices(), machine.devices().paper());
         }
         let _done = machine.run(1);
     }

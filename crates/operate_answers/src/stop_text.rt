@@ -169,27 +169,6 @@ pub fn put_set(alloc: Global, text: &mut Text, program: &Program, core: &Core, s
     text.put_byte(b'\n');
 }
 
-/// How many cells are the same in two lists, from their beginning on.
-fn same_in_front(cells: &[Cell], others: &[Cell]) -> usize {
-    for i in 0..cells.len() {
-        if cells.get(i) != others.get(i) {
-            return i;
-        }
-    }
-    cells.len()
-}
-
-/// The end of the last cells that aren't the same in two lists, down to a place.
-fn beyond_other(cells: &[Cell], others: &[Cell], from: usize) -> usize {
-    for i in from..cells.len() {
-        let end = cells.len() - (i - from);
-        if cells.get(end - 1) != others.get(end - 1) {
-            return end;
-        }
-    }
-    from
-}
-
 /// Adds cells before and after a step.
 fn put_both(text: &mut Text, before: &[Cell], after: &[Cell]) {
     text.put(b": ");
@@ -206,10 +185,15 @@ fn put_seen(text: &mut Text, watch: &PlaceWatch) {
         put_both(text, before, after);
         return;
     }
-    let first = same_in_front(before, after).min(before.len());
-    let end = beyond_other(before, after, first)
-        .max(first)
-        .min(before.len());
+    let (mut first, mut end) = (before.len(), 0);
+    for i in 0..before.len() {
+        if before.get(i) != after.get(i) {
+            first = first.min(i);
+            end = i + 1;
+        }
+    }
+    let first = first.min(before.len());
+    let end = end.max(first).min(before.len());
     let low = place_above(watch.from(), first);
     text.put(b", ");
     put_span(text, low, place_above(watch.from(), end.saturating_sub(1)));

@@ -3,11 +3,11 @@ ghost use Rattle.std.specs.Prelude.{◌≡◌, ◌⊎◌, ◌+◌, ◌<◌, ◌�
 ghost use Rattle.std.specs.List.{find, list_any};
 ghost use Rattle.operate_answers.specs.Answers.{Gives};
 ghost use Rattle.operate_answers.specs.Stops.{asked_by, break_added, break_test, device_test, first_missing, has_number};
-ghost use Rattle.operate_answers.specs.Stops.{if_place, is_break_at, is_listed, is_stop_met, next_number, no_stops};
-ghost use Rattle.operate_answers.specs.Stops.{places_of_field, places_test, range_test, stop_counted, stops_counted};
-ghost use Rattle.operate_answers.specs.Stops.{stops_deleted, watch_added, watch_test, watched_places, with_stop};
+ghost use Rattle.operate_answers.specs.Stops.{if_place, is_break, is_break_at, is_listed, is_said_break, is_stop_met};
+ghost use Rattle.operate_answers.specs.Stops.{next_number, no_stops, one_more, places_of_field, places_test, range_test};
+ghost use Rattle.operate_answers.specs.Stops.{stop_counted, stops_counted, stops_deleted, watch_added, watch_test};
+ghost use Rattle.operate_answers.specs.Stops.{watched_places};
 ghost use Rattle.operate_program.specs.Range.{range_of};
-ghost use Rattle.operate_program.specs.Value.{address_of};
 
 use crate::asked::Asked;
 use crate::fault::LookFault;
@@ -19,6 +19,9 @@ use operate_sitting::{Break, Device, DeviceWatch, PlaceWatch, Test, begin_each, 
 use operate_views::FieldFault;
 use std::alloc::Global;
 use std::marker::Model;
+
+/// The most breaks that are set at a time, and the most watches.
+const MOST_OF_A_KIND: usize = 100;
 
 /// A break or a watch, as it is typed.
 #[derive(Clone, Copy)]
@@ -32,6 +35,15 @@ pub enum Said {
     },
     /// `watch ..`.
     Watch(Watched),
+}
+
+impl Said {
+    /// Whether it is a break.
+    fn is_break(&self) -> bool
+        ensures { result ≡ is_said_break self.now }
+    {
+        matches!(*self, Said::Break { .. })
+    }
 }
 
 /// A break or a watch with its number.
@@ -247,16 +259,6 @@ fn asked_by(
     }
 }
 
-/// The address of a break.
-fn break_address(program: &Program, machine: &Machine, place: &Place) -> Result<u16, LookFault>
-    ensures { result ≡ if_place (address_of program.now machine.now place.now) }
-{
-    match program.address(machine, place) {
-        Ok(address) => Ok(address),
-        Err(fault) => Err(LookFault::Place(fault)),
-    }
-}
-
 /// The test of a break at an address, at the visit of this number, or at each.
 fn break_test(address: u16, nth: Option<u32>, asked: Asked) -> StopTest
     ensures { result ≡ break_test address nth asked }
@@ -309,6 +311,19 @@ fn remove_listed(stops: &mut Vec<NumberedStop>, numbers: &[Option<u32>; MOST_LIS
     stops.retain(|stop| !is_listed(numbers, stop.number));
 }
 
+/// How many of them are breaks.
+fn count_breaks(stops: &[NumberedStop]) -> usize
+    ensures { result ≡ length (filter is_break stops.now) }
+{
+    let mut count = 0;
+    for stop in stops {
+        if stop.said.is_break() {
+            count += 1;
+        }
+    }
+    count
+}
+
 /// A break or a watch counts one run more, if the last step met it.
 fn count(stop: &mut NumberedStop)
     ensures { stop.new ≡ stop_counted stop.old }
@@ -357,11 +372,23 @@ impl Stops {
     }
 
     /// Adds a break or a watch.
+    ///
+    /// # Errors
+    ///
+    /// `Breaks` or `Watches` if there are as many as are set at a time; `Memory`. Nothing has changed then.
     fn add(&mut self, said: Said, test: StopTest) -> Result<(), LookFault>
-        ensures ok { OnOk result (self.new ≡ with_stop said test self.old) }
+        ensures ok { OnOk result (one_more said test self.old ≡ Ok self.new) }
         ensures err { OnErr result (self.new ≡ self.old) }
-        ensures memory { IfErr result (λ why. why ≡ LookFault.Memory) }
+        ensures why { IfErr result (λ why. (why ≡ LookFault.Memory) ⊎ (one_more said test self.old ≡ Err why)) }
     {
+        let breaks = count_breaks(self.stops.as_slice());
+        if said.is_break() {
+            if breaks >= MOST_OF_A_KIND {
+                return Err(LookFault::Breaks);
+            }
+        } else if self.stops.len().saturating_sub(breaks) >= MOST_OF_A_KIND {
+            return Err(LookFault::Watches);
+        }
         let number = self.next_number();
         let stop = NumberedStop {
             number,
@@ -380,7 +407,8 @@ impl Stops {
     ///
     /// # Errors
     ///
-    /// `Place` if it means none, or if the condition names no field; `Memory`. Nothing has changed then.
+    /// `Place` if it means none, or if the condition names no field; `Breaks` if there are 100; `Memory`. Nothing has
+    /// changed then.
     #[tactic(auto, unfolding(crate::specs::Stops::break_added))]
     pub fn add_break(
         &mut self,
@@ -396,9 +424,9 @@ impl Stops {
         ensures why { IfErr result (λ why. (why ≡ LookFault.Memory)
             ⊎ (break_added program.now machine.now place.now after condition self.old ≡ Err why)) }
     {
-        let address = match break_address(program, machine, place) {
+        let address = match program.address(machine, place) {
             Ok(address) => address,
-            Err(fault) => return Err(fault),
+            Err(fault) => return Err(LookFault::Place(fault)),
         };
         let asked = match asked_by(program, machine, &condition) {
             Ok(asked) => asked,
@@ -414,7 +442,8 @@ impl Stops {
     ///
     /// # Errors
     ///
-    /// `Place` or `Field` if the places aren't in core, or if no field ends there; `Memory`. Nothing has changed then.
+    /// `Place` or `Field` if the places aren't in core, or if no field ends there; `Watches` if there are 100; `Memory`.
+    /// Nothing has changed then.
     #[tactic(auto, unfolding(crate::specs::Stops::watch_added))]
     pub fn add_watch(
         &mut self,

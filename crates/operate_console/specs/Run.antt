@@ -21,7 +21,7 @@ use Rattle.operate_answers.specs.declared.endings.Ended.TheVariants as ended
 use Rattle.operate_sitting.specs.Notes.{hand_of}
 use Rattle.operate_sitting.specs.Sitting.{SittingAccount, journal_of, machine_of, tending_of, watching}
 use Rattle.operate_sitting.specs.Tending.{CarriedAll, CarriedPart}
-use Rattle.operate_console.specs.declared.ends.OperateEnd.{OperateEnd}
+use Rattle.operate_console.specs.declared.ends.Failure.{Failure}
 use Rattle.operate_console.specs.declared.extent.Reach.{Reach}
 use Rattle.operate_console.specs.declared.rounds.Progress.{Progress}
 use Rattle.operate_console.specs.declared.rounds.Progress.TheVariants as progress
@@ -30,14 +30,24 @@ use Rattle.operate_console.specs.declared.running.Ran.TheVariants as ran
 use Rattle.operate_console.specs.declared.run_stops.RunStops.{RunStops}
 use Rattle.room_alone.specs.Journal.{entry}
 
--- what is noted next to a sitting: breaks and watches, and whether the line that is being done had a fault
+-- what is noted next to a sitting: breaks and watches, whether the line that is being done had a fault, and whether the
+-- input has ended
 pub record NotebookAccount : Type 0 where
   pub stops : AllStops
   pub is_faulted : Bool
+  pub has_ended : Bool
 
 -- a fault is reported
 abbrev pub faulted : NotebookAccount → NotebookAccount
 faulted it = record it { is_faulted = true }
+
+-- a line begins
+abbrev pub unfaulted : NotebookAccount → NotebookAccount
+unfaulted it = record it { is_faulted = false }
+
+-- more was read, after which the input has ended or not
+abbrev pub read_on : Bool → NotebookAccount → NotebookAccount
+read_on has_ended it = record it { has_ended = has_ended }
 
 -- what lines change: the sitting, and breaks and watches
 pub record AtConsole : Type 0 where
@@ -277,7 +287,7 @@ abbrev pub is_refused : Ran → Bool
 is_refused (ran.Ended why steps) = false
 is_refused (ran.Refused fault) = true
 
-abbrev pub was_cut : Result Ran OperateEnd → Bool
+abbrev pub was_cut : Result Ran Failure → Bool
 was_cut (Ok how) = is_refused how
 was_cut (Err why) = true
 
@@ -286,7 +296,7 @@ abbrev pub is_ran_met : Ran → Bool
 is_ran_met (ran.Ended why steps) = is_why_met why
 is_ran_met (ran.Refused fault) = false
 
-abbrev pub was_met : Result Ran OperateEnd → Bool
+abbrev pub was_met : Result Ran Failure → Bool
 was_met (Ok how) = is_ran_met how
 was_met (Err why) = false
 

@@ -1,7 +1,9 @@
 //! The files that a person names.
+ghost use Rattle.std.specs.Prelude.{◌≡◌};
+ghost use Rattle.room_files.specs.JournalText.{journal_text};
 
 use bytes_text::Text;
-use devices_1401::Card;
+use job_runner::CardList;
 use room_alone::Room;
 use thiserror::Error;
 
@@ -45,7 +47,7 @@ pub trait Desk {
     /// # Errors
     ///
     /// If it can't be read, or is no deck.
-    fn cards(&mut self, name: &[u8]) -> Result<Vec<Card>, FileFault>;
+    fn cards(&mut self, name: &[u8]) -> Result<CardList, FileFault>;
 
     /// The room of the journal of `restore`.
     ///
@@ -54,12 +56,13 @@ pub trait Desk {
     /// If it can't be read, or is no journal.
     fn journal(&mut self, name: &[u8]) -> Result<Room, FileFault>;
 
-    /// Writes the text of `save` to a new file, all of it or nothing.
+    /// Writes the text of `save`, which is that of this room's journal, to a new file, all of it or nothing.
     ///
     /// # Errors
     ///
     /// If the file is there already, or can't be written.
-    fn save(&mut self, name: &[u8], text: &[u8]) -> Result<(), FileFault>;
+    fn save(&mut self, name: &[u8], room: &Room, text: &[u8]) -> Result<(), FileFault>
+        requires { text.now ≡ journal_text room.now.size room.now.journal };
 
     /// Begins a transcript, in a new file. An earlier transcript ends.
     ///
@@ -73,6 +76,9 @@ pub trait Desk {
 
     /// Adds what is typed or shown to the transcript, if there is one.
     fn transcribe(&mut self, text: &[u8]);
+
+    /// Whether the file of a transcript lacks some of it.
+    fn has_lost_transcript(&self) -> bool;
 
     /// The name of the file that keeps the journal; empty if there is none.
     fn kept_name(&self) -> &[u8];

@@ -4,13 +4,9 @@ use operate_sitting::Sitting;
 use room_alone::Keeper;
 use std::alloc::AllocError;
 
-/// Why no other line is done.
+/// What failed. No other line is done then.
 #[derive(Clone, Copy)]
-pub enum OperateEnd {
-    /// The line `quit`.
-    Quit,
-    /// The end of the input.
-    EndOfInput,
+pub enum Failure {
     /// A read failed.
     Read,
     /// A write failed, or took nothing.
@@ -23,14 +19,25 @@ pub enum OperateEnd {
     Unkept,
 }
 
-impl From<AllocError> for OperateEnd {
+/// Why no other line is done.
+#[derive(Clone, Copy)]
+pub enum OperateEnd {
+    /// The line `quit`.
+    Quit,
+    /// The end of the input.
+    EndOfInput,
+    /// Something failed.
+    Failed(Failure),
+}
+
+impl From<AllocError> for Failure {
     ghost use Rattle.std.specs.Prelude.{◌≡◌};
-    ghost use Rattle.operate_console.specs.declared.ends.OperateEnd.TheVariants.{Memory};
+    ghost use Rattle.operate_console.specs.declared.ends.Failure.TheVariants.{Memory};
 
     ghost from_gives = { λ _ e. e ≡ Memory };
 
-    fn from(_: AllocError) -> OperateEnd {
-        OperateEnd::Memory
+    fn from(_: AllocError) -> Failure {
+        Failure::Memory
     }
 }
 

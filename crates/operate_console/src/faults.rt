@@ -1,10 +1,11 @@
 //! The faults of a line in its answer.
-ghost use Rattle.std.specs.Prelude.{◌≡◌, true, is_err};
+ghost use Rattle.std.specs.Prelude.{◌≡◌, true, false, is_err};
+ghost use Rattle.operate_console.specs.Ends.{failure_of, is_read, is_unkept, is_unkept_fault, is_write};
 ghost use Rattle.operate_console.specs.Line.{is_cut};
 ghost use Rattle.operate_console.specs.Run.{faulted};
 
 use crate::desk::{FileFault, put_file_fault};
-use crate::ends::OperateEnd;
+use crate::ends::Failure;
 use crate::notebook::Notebook;
 use cpu_1401::Refusal;
 use operate_answers::{LookFault, put_look_fault, put_order_fault};
@@ -134,18 +135,27 @@ pub(crate) fn put_refusal(notebook: &mut Notebook, refusal: Refusal) -> Result<(
 /// # Errors
 ///
 /// `Unkept` if an entry isn't kept: the sitting is over. `Memory` if there is none for the text.
-pub(crate) fn put_refused(notebook: &mut Notebook, fault: RoomFault) -> Result<(), OperateEnd>
+pub(crate) fn put_refused(notebook: &mut Notebook, fault: RoomFault) -> Result<(), Failure>
     ensures cut { is_cut (is_err result) notebook.new ≡ true }
     ensures stops { notebook.new.stops ≡ notebook.old.stops }
+    ensures ended { notebook.new.has_ended ≡ notebook.old.has_ended }
+    ensures unkept { is_unkept (failure_of result) ≡ is_unkept_fault fault }
+    ensures read { is_read (failure_of result) ≡ false }
+    ensures write { is_write (failure_of result) ≡ false }
 {
     match fault {
-        RoomFault::Unkept => return Err(OperateEnd::Unkept),
-        RoomFault::JournalFull => notebook.put_fault(
+        RoomFault::Unkept => Err(Failure::Unkept),
+        RoomFault::JournalFull => match notebook.put_fault(
             b"the journal is full: it has 100000 commands".as_slice(),
-        )?,
-        RoomFault::Memory | RoomFault::NoReading => notebook.put_fault(
+        ) {
+            Ok(()) => Ok(()),
+            Err(_) => Err(Failure::Memory),
+        },
+        RoomFault::Memory | RoomFault::NoReading => match notebook.put_fault(
             b"there is no memory for another command".as_slice(),
-        )?,
+        ) {
+            Ok(()) => Ok(()),
+            Err(_) => Err(Failure::Memory),
+        },
     }
-    Ok(())
 }

@@ -1,10 +1,12 @@
 //! Lines that go back.
-ghost use Rattle.std.specs.Prelude.{◌≡◌, ◌||◌, true, false, not, None, Ok, IfOk, OnOk, is_some};
+ghost use Rattle.std.specs.Prelude.{◌≡◌, true, false, Ok, IfErr, IfOk, is_some};
+ghost use Rattle.operate_console.specs.Ends.{failure_after, failure_of, heard_so, is_read, is_unkept, is_write};
+ghost use Rattle.operate_console.specs.Ends.{source_so};
 ghost use Rattle.operate_console.specs.Line.{EarlierIs, PastDid, is_cut};
-ghost use Rattle.operate_console.specs.Run.{faulted};
+ghost use Rattle.operate_console.specs.Run.{faulted, read_on};
 
 use crate::desk::{Desk, FileFault};
-use crate::ends::OperateEnd;
+use crate::ends::Failure;
 use crate::faults::{put_no_file, put_no_past};
 use crate::listening::Listener;
 use crate::manner::Manner;
@@ -24,7 +26,7 @@ use std::alloc::{AllocError, Global};
 use std::mem::replace;
 
 /// A sitting after a line, and its end, if that was it.
-pub(crate) type After<K> = (Sitting<K>, Option<OperateEnd>);
+pub(crate) type After<K> = (Sitting<K>, Option<Failure>);
 
 /// Why a line goes nowhere.
 #[derive(Clone, Copy)]
@@ -71,9 +73,11 @@ fn earlier_of<K: Keeper + Drop, D: Desk, R: Source + Terminal>(
     listener: &mut Listener,
     reader: &mut R,
 ) -> Result<Earlier, NoPast>
-    requires { (is_some listener.old.end || not (R.has_failed reader.old)) ≡ true }
+    requires { heard_so listener.old.end listener.old.waiting.has_ended (R.has_failed reader.old)
+        (R.left reader.old) ≡ true }
     ensures earlier { IfOk result (EarlierIs past.now sitting.now) }
-    ensures good { (is_some listener.new.end || not (R.has_failed reader.new)) ≡ true }
+    ensures good { heard_so listener.new.end listener.new.waiting.has_ended (R.has_failed reader.new)
+        (R.left reader.new) ≡ true }
 {
     match past {
         Past::Undo(lines) => own(sitting.undone(alloc, *lines, listener, reader)),
@@ -173,18 +177,22 @@ fn go_back<K: Keeper + Drop, D: Desk + Cutter<K>>(
     past: &Past,
     earlier: Earlier,
     desk: &mut D,
-) -> Result<After<K>, OperateEnd>
+) -> Result<After<K>, Failure>
     requires { EarlierIs past.now sitting earlier }
     ensures did { IfOk result (λ after.
         PastDid (is_cut (is_some after.1) notebook.new) past.now sitting after.0) }
-    ensures stops { notebook.new.stops ≡ notebook.old.stops }
+    ensures noted { notebook.new ≡ notebook.old }
+    ensures kept { IfOk result (λ after. after.0.account.failed ≡ is_unkept after.1) }
+    ensures lost { IfErr result (λ why. why ≡ Failure.Unkept) }
+    ensures read { is_read (failure_after result) ≡ false }
+    ensures write { is_write (failure_after result) ≡ false }
 {
     let Setting { alloc, program, .. } = *setting;
     let entries = sitting.journal().len();
     let hand = sitting.hand();
     let sitting = match sitting.take_over(earlier, desk) {
         Ok(sitting) => sitting,
-        Err(_) => return Err(OperateEnd::Unkept),
+        Err(_) => return Err(Failure::Unkept),
     };
     let gone = Gone {
         commands: entries.saturating_sub(sitting.journal().len()) as u64,
@@ -200,12 +208,12 @@ fn go_back<K: Keeper + Drop, D: Desk + Cutter<K>>(
         desk.kept_name(),
     ) {
         Ok(()) => Ok((sitting, None)),
-        Err(_) => Ok((sitting, Some(OperateEnd::Memory))),
+        Err(_) => Ok((sitting, Some(Failure::Memory))),
     }
 }
 
 /// The room that a line goes back to, unless the sitting ends while it is made.
-#[tactic(auto, using(crate::proofs::LineLemmas::is_heard))]
+#[tactic(auto, using(crate::proofs::EndLemmas::heard_all))]
 fn listened<K: Keeper + Drop, D: Desk, R: Source + Terminal>(
     alloc: Global,
     manner: &Manner,
@@ -214,11 +222,14 @@ fn listened<K: Keeper + Drop, D: Desk, R: Source + Terminal>(
     past: &Past,
     desk: &mut D,
     reader: &mut R,
-) -> Result<Result<Earlier, NoPast>, OperateEnd>
-    requires { R.has_failed reader.old ≡ false }
+) -> Result<Result<Earlier, NoPast>, Failure>
+    requires { source_so false notebook.old.has_ended (R.has_failed reader.old) (R.left reader.old) ≡ true }
     ensures earlier { IfOk result (λ found. IfOk found (EarlierIs past.now sitting.now)) }
-    ensures noted { notebook.new ≡ notebook.old }
-    ensures good { OnOk result (R.has_failed reader.new ≡ false) }
+    ensures noted { notebook.new ≡ read_on notebook.new.has_ended notebook.old }
+    ensures good { source_so (is_read (failure_of result)) notebook.new.has_ended (R.has_failed reader.new)
+        (R.left reader.new) ≡ true }
+    ensures write { is_write (failure_of result) ≡ false }
+    ensures kept { is_unkept (failure_of result) ≡ false }
 {
     let waiting = replace(&mut notebook.waiting, Waiting::new(alloc));
     let mut listener = Listener::new(alloc, manner, waiting);
@@ -236,7 +247,7 @@ fn listened<K: Keeper + Drop, D: Desk, R: Source + Terminal>(
 /// # Errors
 ///
 /// `Unkept` if an entry wasn't kept, or what keeps the journal couldn't be cut. The sitting is lost then.
-#[tactic(auto, using(crate::proofs::LineLemmas::no_past))]
+#[tactic(auto, using(crate::proofs::LineLemmas::no_past, crate::proofs::EndLemmas::source_unread))]
 pub(crate) fn do_past<K: Keeper + Drop, D: Desk + Cutter<K>, R: Source + Terminal>(
     setting: &Setting,
     notebook: &mut Notebook,
@@ -244,12 +255,17 @@ pub(crate) fn do_past<K: Keeper + Drop, D: Desk + Cutter<K>, R: Source + Termina
     past: &Past,
     desk: &mut D,
     reader: &mut R,
-) -> Result<After<K>, OperateEnd>
-    requires { R.has_failed reader.old ≡ false }
+) -> Result<After<K>, Failure>
+    requires good { source_so false notebook.old.has_ended (R.has_failed reader.old) (R.left reader.old) ≡ true }
+    requires kept { sitting.account.failed ≡ false }
     ensures did { IfOk result (λ after.
         PastDid (is_cut (is_some after.1) notebook.new) past.now sitting after.0) }
     ensures stops { notebook.new.stops ≡ notebook.old.stops }
-    ensures good { IfOk result (λ after. after.1 ≡ None → R.has_failed reader.new ≡ false) }
+    ensures good { source_so (is_read (failure_after result)) notebook.new.has_ended (R.has_failed reader.new)
+        (R.left reader.new) ≡ true }
+    ensures kept { IfOk result (λ after. after.0.account.failed ≡ is_unkept after.1) }
+    ensures lost { IfErr result (λ why. why ≡ Failure.Unkept) }
+    ensures write { is_write (failure_after result) ≡ false }
 {
     let Setting { alloc, manner, .. } = *setting;
     let found = match listened(alloc, manner, notebook, &sitting, past, desk, reader) {
@@ -260,7 +276,7 @@ pub(crate) fn do_past<K: Keeper + Drop, D: Desk + Cutter<K>, R: Source + Termina
         Ok(earlier) => go_back(setting, notebook, sitting, past, earlier, desk),
         Err(fault) => match put_nowhere(notebook, past, fault) {
             Ok(()) => Ok((sitting, None)),
-            Err(_) => Ok((sitting, Some(OperateEnd::Memory))),
+            Err(_) => Ok((sitting, Some(Failure::Memory))),
         },
     }
 }

@@ -49,7 +49,7 @@ pub mod operating;
 
 pub use beginning::Beginning;
 pub use desk::{Desk, FileFault};
-pub use ends::{OperateEnd, Operated};
+pub use ends::{Failure, OperateEnd, Operated};
 pub use manner::Manner;
 pub use operating::operate;
 pub use script::Script;

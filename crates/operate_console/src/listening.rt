@@ -1,7 +1,8 @@
 //! A person who types while the machine runs.
-ghost use Rattle.std.specs.Prelude.{◌≡◌, true, false, None, Ok, OnOk};
+ghost use Rattle.std.specs.Prelude.{◌≡◌, ◌||◌, true, false, None, Ok};
+ghost use Rattle.operate_console.specs.Ends.{failure_of, heard_so, is_last_typed, source_so};
 
-use crate::ends::OperateEnd;
+use crate::ends::Failure;
 use crate::manner::Manner;
 use crate::terminal::Terminal;
 use crate::typed::{Typed, read_line};
@@ -25,53 +26,64 @@ pub(crate) fn is_interrupted<R: Source + Terminal>(
     manner: &Manner,
     reader: &mut R,
     waiting: &mut Waiting,
-) -> Result<bool, OperateEnd>
-    requires { R.has_failed reader.old ≡ false }
+) -> Result<bool, Failure>
+    requires { source_so false waiting.old.has_ended (R.has_failed reader.old) (R.left reader.old) ≡ true }
     ensures attended { result ≡ Ok true → manner.now.limit ≡ None }
-    ensures good { OnOk result (R.has_failed reader.new ≡ false) }
+    ensures heard { heard_so (failure_of result) waiting.new.has_ended (R.has_failed reader.new)
+        (R.left reader.new) ≡ true }
 {
     for _line in 0..MOST_LINES {
         if manner.limit.is_some() || !reader.is_ready() {
             return Ok(false);
         }
-        if is_interrupted_by_next(alloc, reader, waiting)? {
-            return Ok(true);
+        match is_interrupted_by_next(alloc, reader, waiting) {
+            Ok(true) => return Ok(true),
+            Ok(false) => {}
+            Err(why) => return Err(why),
         }
     }
     Ok(false)
 }
 
 /// Whether the next line interrupts a run.
+#[tactic(auto, using(crate::proofs::EndLemmas::source_good, crate::proofs::EndLemmas::heard_failed, crate::proofs::EndLemmas::heard_typed))]
 fn is_interrupted_by_next<R: Source>(
     alloc: Global,
     reader: &mut R,
     waiting: &mut Waiting,
-) -> Result<bool, OperateEnd>
-    requires { R.has_failed reader.old ≡ false }
-    ensures good { OnOk result (R.has_failed reader.new ≡ false) }
+) -> Result<bool, Failure>
+    requires { source_so false waiting.old.has_ended (R.has_failed reader.old) (R.left reader.old) ≡ true }
+    ensures { heard_so (failure_of result) waiting.new.has_ended (R.has_failed reader.new) (R.left reader.new) ≡ true }
 {
-    let typed = read_line(alloc, reader)?;
-    match interrupts(typed, waiting) {
-        Ok(is_so) => Ok(is_so),
-        Err(_) => Err(OperateEnd::Memory),
+    waiting.has_ended = false;
+    match read_line(alloc, reader) {
+        Ok(typed) => match interrupts(typed, waiting) {
+            Ok(is_so) => Ok(is_so),
+            Err(_) => Err(Failure::Memory),
+        },
+        Err(why) => Err(why),
     }
 }
 
 /// Whether what was typed interrupts a run. If not, it waits.
-fn interrupts(typed: Typed, waiting: &mut Waiting) -> Result<bool, AllocError> {
+fn interrupts(typed: Typed, waiting: &mut Waiting) -> Result<bool, AllocError>
+    ensures { waiting.new.has_ended ≡ is_last_typed typed || waiting.old.has_ended }
+{
     match typed {
         Typed::Dropped => Ok(true),
         Typed::Line(line) => {
             if line.is_empty() {
                 return Ok(true);
             }
-            waiting.push_typed(line.as_slice())?;
-            Ok(false)
+            match waiting.push_typed(line.as_slice()) {
+                Ok(()) => Ok(false),
+                Err(fault) => Err(fault),
+            }
         }
-        Typed::Last(line) => {
-            waiting.end_input(line.as_slice())?;
-            Ok(true)
-        }
+        Typed::Last(line) => match waiting.end_input(line.as_slice()) {
+            Ok(()) => Ok(true),
+            Err(fault) => Err(fault),
+        },
     }
 }
 
@@ -83,13 +95,14 @@ pub(crate) struct Listener {
     /// The lines that wait.
     pub(crate) waiting: Waiting,
     /// Why the sitting ends, if something failed meanwhile.
-    pub(crate) end: Option<OperateEnd>,
+    pub(crate) end: Option<Failure>,
 }
 
 impl Listener {
     /// Who listens so, with these lines that wait by now.
     pub(crate) fn new(alloc: Global, manner: &Manner, waiting: Waiting) -> Listener
-        ensures { result.end ≡ None }
+        ensures end { result.end ≡ None }
+        ensures waiting { result.waiting.has_ended ≡ waiting.has_ended }
     {
         Listener {
             alloc,
@@ -101,14 +114,16 @@ impl Listener {
 }
 
 impl<R: Source + Terminal> Interrupter<R> for Listener {
-    ghost use Rattle.std.specs.Prelude.{◌||◌, is_some, not};
+    ghost use Rattle.operate_console.specs.Ends.{heard_so};
 
-    // No read has failed, unless the sitting ends.
-    ghost is_sound = { λ it reader. is_some it.end || not (R.has_failed reader) };
+    // A read has failed only if the sitting ends for it.
+    ghost is_sound = { λ it reader.
+        heard_so it.end it.waiting.has_ended (R.has_failed reader) (R.left reader) };
 
     fn interrupts(&mut self, console: &mut R) -> bool {
-        if self.end.is_some() {
-            return true;
+        match self.end {
+            Some(_) => return true,
+            None => {}
         }
         match is_interrupted(self.alloc, &self.manner, console, &mut self.waiting) {
             Ok(is_so) => is_so,

@@ -2,7 +2,7 @@
 ghost use Rattle.std.specs.Prelude.{◌≡◌, ◌+◌, ◌<◌, ◌≤◌, ◌^◌, false};
 ghost use Rattle.operate_answers.specs.Stops.{no_stops};
 ghost use Rattle.operate_console.specs.Line.{faults_with};
-ghost use Rattle.operate_console.specs.Run.{faulted};
+ghost use Rattle.operate_console.specs.Run.{faulted, unfaulted};
 
 use crate::page::{Page, Paint};
 use crate::waiting::Waiting;
@@ -31,6 +31,7 @@ impl Model for Notebook {
     ghost view = { λ it. record {
       stops = it.stops;
       is_faulted = it.is_faulted;
+      has_ended = it.waiting.has_ended;
     } };
 }
 
@@ -38,6 +39,7 @@ impl Notebook {
     /// As a sitting begins at this machine: what is on its paper by now isn't shown.
     pub(crate) fn new(alloc: Global, machine: &Machine) -> Notebook
         ensures fault { result.is_faulted ≡ false }
+        ensures ended { result.has_ended ≡ false }
         ensures stops { result.stops ≡ no_stops }
     {
         Notebook {
@@ -69,8 +71,7 @@ impl Notebook {
 
     /// A line begins, which has no fault yet.
     pub(crate) fn begin_line(&mut self)
-        ensures stops { self.new.stops ≡ self.old.stops }
-        ensures fault { self.new.is_faulted ≡ false }
+        ensures { self.new ≡ unfaulted self.old }
     {
         self.is_faulted = false;
     }

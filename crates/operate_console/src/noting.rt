@@ -1,7 +1,8 @@
 //! Lines that look, and those that note something. They have the machine to look at, and nothing of them is recorded.
-ghost use Rattle.std.specs.Prelude.{◌≡◌, true, is_err};
+ghost use Rattle.std.specs.Prelude.{◌≡◌, true, false, not, is_err};
 ghost use Rattle.operate_answers.specs.Stops.{break_added, stops_deleted, watch_added};
-ghost use Rattle.operate_console.specs.Line.{IsSet, StopsNoted, is_cut};
+ghost use Rattle.operate_console.specs.Line.{Asserted, IsSet, StopsNoted, is_cut, is_so_at};
+ghost use Rattle.operate_console.specs.Run.{faulted};
 ghost use Rattle.room_alone.specs.Journal.{state_of};
 
 use crate::desk::Desk;
@@ -25,7 +26,8 @@ fn shown(
     from: usize,
     looked: Result<(), LookFault>,
 ) -> Result<(), AllocError>
-    ensures { notebook.new.stops ≡ notebook.old.stops }
+    ensures stops { notebook.new.stops ≡ notebook.old.stops }
+    ensures ended { notebook.new.has_ended ≡ notebook.old.has_ended }
 {
     match looked {
         Ok(()) => notebook.page.written(),
@@ -50,7 +52,8 @@ pub(crate) fn do_look(
     hand: usize,
     look: &Look,
 ) -> Result<(), AllocError>
-    ensures { notebook.new.stops ≡ notebook.old.stops }
+    ensures stops { notebook.new.stops ≡ notebook.old.stops }
+    ensures ended { notebook.new.has_ended ≡ notebook.old.has_ended }
 {
     let from = notebook.page.here();
     let seen = Seen {
@@ -71,7 +74,8 @@ fn put_last_set(
     notebook: &mut Notebook,
     machine: &Machine,
 ) -> Result<(), AllocError>
-    ensures { notebook.new.stops ≡ notebook.old.stops }
+    ensures stops { notebook.new.stops ≡ notebook.old.stops }
+    ensures ended { notebook.new.has_ended ≡ notebook.old.has_ended }
 {
     let core = machine.core();
     put_set(
@@ -92,6 +96,7 @@ fn noted(
     done: &Result<(), LookFault>,
 ) -> Result<(), AllocError>
     ensures stops { notebook.new.stops ≡ notebook.old.stops }
+    ensures ended { notebook.new.has_ended ≡ notebook.old.has_ended }
     ensures cut { is_err done.now ≡ true → is_cut (is_err result) notebook.new ≡ true }
 {
     match done {
@@ -110,6 +115,7 @@ fn set(
     done: &Result<(), LookFault>,
 ) -> Result<(), AllocError>
     ensures stops { notebook.new.stops ≡ notebook.old.stops }
+    ensures ended { notebook.new.has_ended ≡ notebook.old.has_ended }
     ensures cut { is_err done.now ≡ true → is_cut (is_err result) notebook.new ≡ true }
 {
     if done.is_ok() {
@@ -130,7 +136,8 @@ fn do_break(
     after: Option<u32>,
     condition: Option<Condition>,
 ) -> Result<(), AllocError>
-    ensures { IsSet (is_cut (is_err result) notebook.new)
+    ensures ended { notebook.new.has_ended ≡ notebook.old.has_ended }
+    ensures set { IsSet (is_cut (is_err result) notebook.new)
         (break_added program.now machine.now place.now after condition notebook.old.stops)
         notebook.old.stops notebook.new.stops }
 {
@@ -149,7 +156,8 @@ fn do_watch(
     machine: &Machine,
     watched: &Watched,
 ) -> Result<(), AllocError>
-    ensures { IsSet (is_cut (is_err result) notebook.new)
+    ensures ended { notebook.new.has_ended ≡ notebook.old.has_ended }
+    ensures set { IsSet (is_cut (is_err result) notebook.new)
         (watch_added program.now machine.now watched.now notebook.old.stops) notebook.old.stops notebook.new.stops }
 {
     let done = notebook.stops.add_watch(alloc, program, machine, watched);
@@ -164,7 +172,8 @@ fn do_delete(
     notebook: &mut Notebook,
     numbers: &[Option<u32>; MOST_LISTED],
 ) -> Result<(), AllocError>
-    ensures { IsSet (is_cut (is_err result) notebook.new) (stops_deleted numbers.now notebook.old.stops)
+    ensures ended { notebook.new.has_ended ≡ notebook.old.has_ended }
+    ensures set { IsSet (is_cut (is_err result) notebook.new) (stops_deleted numbers.now notebook.old.stops)
         notebook.old.stops notebook.new.stops }
 {
     let done = notebook.stops.delete(numbers);
@@ -178,7 +187,8 @@ fn do_file<D: Desk>(
     name: &Text,
     desk: &mut D,
 ) -> Result<(), AllocError>
-    ensures { notebook.new.stops ≡ notebook.old.stops }
+    ensures stops { notebook.new.stops ≡ notebook.old.stops }
+    ensures ended { notebook.new.has_ended ≡ notebook.old.has_ended }
 {
     if !notebook.waiting.may_begin() {
         return notebook.put_fault(b"do goes ten deep".as_slice());
@@ -198,7 +208,8 @@ fn do_transcript<D: Desk>(
     name: &Option<Text>,
     desk: &mut D,
 ) -> Result<(), AllocError>
-    ensures { notebook.new.stops ≡ notebook.old.stops }
+    ensures stops { notebook.new.stops ≡ notebook.old.stops }
+    ensures ended { notebook.new.has_ended ≡ notebook.old.has_ended }
 {
     let Some(name) = name else {
         desk.end_transcript();
@@ -218,7 +229,7 @@ fn put_false(
     machine: &Machine,
     condition: &Condition,
 ) -> Result<(), AllocError>
-    ensures { notebook.new.stops ≡ notebook.old.stops }
+    ensures { notebook.new ≡ faulted notebook.old }
 {
     let from = notebook.begin_fault()?;
     match put_not_so(alloc, &mut notebook.page.text, program, machine, condition) {
@@ -232,6 +243,7 @@ fn put_false(
 }
 
 /// `assert CONDITION`.
+#[tactic(auto, using(crate::proofs::LineLemmas::is_asserted))]
 fn do_assert(
     alloc: Global,
     program: &Program,
@@ -239,7 +251,10 @@ fn do_assert(
     machine: &Machine,
     condition: &Condition,
 ) -> Result<(), AllocError>
-    ensures { notebook.new.stops ≡ notebook.old.stops }
+    requires { notebook.old.is_faulted ≡ false }
+    ensures stops { notebook.new.stops ≡ notebook.old.stops }
+    ensures ended { notebook.new.has_ended ≡ notebook.old.has_ended }
+    ensures asserted { is_cut (is_err result) notebook.new ≡ not (is_so_at program.now machine.now condition.now) }
 {
     match program.comparison(machine, condition) {
         Ok(comparison) => {
@@ -261,11 +276,12 @@ fn do_save<D: Desk>(
     name: &Text,
     desk: &mut D,
 ) -> Result<(), AllocError>
-    ensures { notebook.new.stops ≡ notebook.old.stops }
+    ensures stops { notebook.new.stops ≡ notebook.old.stops }
+    ensures ended { notebook.new.has_ended ≡ notebook.old.has_ended }
 {
     let journal = room.journal();
     let text = write_journal(alloc, room.machine().core().size(), journal)?;
-    match desk.save(name.as_slice(), text.as_slice()) {
+    match desk.save(name.as_slice(), room, text.as_slice()) {
         Ok(()) => {
             let text = &mut notebook.page.text;
             put_saved(text, journal.len() as u64, name.as_slice(), hand);
@@ -289,8 +305,12 @@ pub(crate) fn do_note<D: Desk>(
     note: &Note,
     desk: &mut D,
 ) -> Result<(), AllocError>
-    ensures { StopsNoted program.now (state_of room.now.size room.now.journal)
+    requires { notebook.old.is_faulted ≡ false }
+    ensures stops { StopsNoted program.now (state_of room.now.size room.now.journal)
         (is_cut (is_err result) notebook.new) note.now notebook.old.stops notebook.new.stops }
+    ensures asserted { Asserted program.now (state_of room.now.size room.now.journal)
+        (is_cut (is_err result) notebook.new) note.now }
+    ensures ended { notebook.new.has_ended ≡ notebook.old.has_ended }
 {
     let machine = room.machine();
     match note {

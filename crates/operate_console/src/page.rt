@@ -1,7 +1,9 @@
 //! The text of an answer, and its colours.
+ghost use Rattle.std.specs.Prelude.{◌≡◌, false};
+ghost use Rattle.operate_console.specs.Ends.{failure_of, is_read, is_unkept, is_write};
 
 use crate::desk::Desk;
-use crate::ends::OperateEnd;
+use crate::ends::Failure;
 use crate::manner::Manner;
 use crate::waiting::line_len;
 use bytes_streams::{Sink, put_all};
@@ -53,6 +55,20 @@ impl Page {
     /// Adds a text.
     pub(crate) fn put(&mut self, text: &[u8]) -> Result<(), AllocError> {
         self.text.put(text);
+        self.written()
+    }
+
+    /// Adds a line as a terminal shows what is typed: of a control character, but for a tab, a caret and a graphic.
+    pub(crate) fn put_line(&mut self, line: &[u8]) -> Result<(), AllocError> {
+        for byte in line {
+            if byte.is_ascii_control() && *byte != b'\t' {
+                self.text.put_byte(b'^');
+                self.text.put_byte(*byte ^ 64);
+            } else {
+                self.text.put_byte(*byte);
+            }
+        }
+        self.text.put_byte(b'\n');
         self.written()
     }
 
@@ -113,36 +129,57 @@ impl Page {
         Ok(all)
     }
 
-    /// Writes the page, all at once, and to the transcript. Then it has no text.
+    /// Writes the page, all at once.
     ///
     /// # Errors
     ///
     /// `Write` if the write fails, `Memory` if the memory for the colours is refused.
+    fn write<W: Sink>(&self, alloc: Global, manner: &Manner, writer: &mut W) -> Result<(), Failure>
+        requires { W.has_failed writer.old ≡ false }
+        ensures write { W.has_failed writer.new ≡ is_write (failure_of result) }
+        ensures read { is_read (failure_of result) ≡ false }
+        ensures kept { is_unkept (failure_of result) ≡ false }
+    {
+        if manner.colour {
+            return match self.painted(alloc) {
+                Ok(painted) => match put_all(writer, painted.as_slice()) {
+                    Ok(()) => Ok(()),
+                    Err(_) => Err(Failure::Write),
+                },
+                Err(_) => Err(Failure::Memory),
+            };
+        }
+        match put_all(writer, self.text.as_slice()) {
+            Ok(()) => Ok(()),
+            Err(_) => Err(Failure::Write),
+        }
+    }
+
+    /// Writes the page, all at once, and to the transcript. Then it has no text.
+    ///
+    /// # Errors
+    ///
+    /// As those of `write`.
     pub(crate) fn show<D: Desk, W: Sink>(
         &mut self,
         alloc: Global,
         manner: &Manner,
         desk: &mut D,
         writer: &mut W,
-    ) -> Result<(), OperateEnd> {
+    ) -> Result<(), Failure>
+        requires { W.has_failed writer.old ≡ false }
+        ensures write { W.has_failed writer.new ≡ is_write (failure_of result) }
+        ensures read { is_read (failure_of result) ≡ false }
+        ensures kept { is_unkept (failure_of result) ≡ false }
+    {
         if self.text.is_empty() {
             return Ok(());
         }
         desk.transcribe(self.text.as_slice());
-        let written = if manner.colour {
-            match self.painted(alloc) {
-                Ok(painted) => put_all(writer, painted.as_slice()),
-                Err(_) => return Err(OperateEnd::Memory),
-            }
-        } else {
-            put_all(writer, self.text.as_slice())
-        };
+        let written = self.write(alloc, manner, writer);
         self.text.cut(0);
         self.from = 0;
         self.to = 0;
-        match written {
-            Ok(()) => Ok(()),
-            Err(_) => Err(OperateEnd::Write),
-        }
+        written
     }
 }

@@ -1,11 +1,12 @@
 //! Rounds of a run: what devices want, and a slice.
 ghost use Rattle.std.specs.Prelude.{◌≡◌, ◌<◌, ◌≤◌, ◌+◌, ◌^◌, ◌||◌, false, None, IfOk, IfSome, OnOk, OnErr, is_some};
 ghost use Rattle.cpu_1401.specs.Run.{most_steps};
+ghost use Rattle.operate_console.specs.Ends.{is_round_unkept, read_of_round, was_unkept, write_of_round};
 ghost use Rattle.operate_console.specs.Run.{CutRound, CutSlice, ProgressDid, ProgressIs, RoundDid, SliceDid, TendedAll, TendedPart};
 ghost use Rattle.operate_console.specs.Run.{at_run, ends_run, is_end_met, is_spent, is_why_met, slice_after, steps_of};
 ghost use Rattle.operate_console.specs.Run.{was_met_after};
 
-use crate::ends::OperateEnd;
+use crate::ends::Failure;
 use crate::extent::Extent;
 use crate::notebook::Notebook;
 use crate::run_stops::RunStops;
@@ -86,7 +87,7 @@ fn after_round(extent: &Extent, found: SearchEnd, is_met: bool, steps: u64) -> P
 /// # Errors
 ///
 /// As those of `Sitting::run_until`, and `Unkept` if its entry isn't kept.
-#[tactic(auto, using(crate::proofs::RunLemmas::slice_did, crate::proofs::RunLemmas::no_slice))]
+#[tactic(auto, using(crate::proofs::RunLemmas::slice_did, crate::proofs::RunLemmas::no_slice, crate::proofs::EndLemmas::not_unkept))]
 fn run_slice<K: Keeper + Drop>(
     sitting: &mut Sitting<K>,
     test: &mut OneOf<RunStops, FullDevices>,
@@ -94,9 +95,11 @@ fn run_slice<K: Keeper + Drop>(
 ) -> Result<Found, RoomFault>
     requires some { 0 < most }
     requires most { most ≤ most_steps }
+    requires kept { sitting.old.account.failed ≡ false }
     ensures ok { IfOk result (λ found.
         SliceDid most found (at_run sitting.old test.old) (at_run sitting.new test.new)) }
     ensures err { OnErr result (CutSlice most (at_run sitting.old test.old) (at_run sitting.new test.new)) }
+    ensures kept { sitting.new.account.failed ≡ was_unkept result }
 {
     match sitting.run_until(test, most) {
         Ok(end) => {
@@ -115,10 +118,12 @@ fn run_slice<K: Keeper + Drop>(
 /// # Errors
 ///
 /// As those of `Sitting::tend`, and `Unkept` if an entry isn't kept.
-#[tactic(auto, using(crate::proofs::RunLemmas::tended_all, crate::proofs::RunLemmas::tended_part))]
+#[tactic(auto, using(crate::proofs::RunLemmas::tended_all, crate::proofs::RunLemmas::tended_part, crate::proofs::EndLemmas::still_kept))]
 pub(crate) fn tend<K: Keeper + Drop>(sitting: &mut Sitting<K>) -> Result<(), RoomFault>
+    requires { sitting.old.account.failed ≡ false }
     ensures all { OnOk result (TendedAll sitting.old sitting.new) }
     ensures part { TendedPart sitting.old sitting.new }
+    ensures kept { sitting.new.account.failed ≡ was_unkept result }
 {
     match sitting.tend() {
         Ok(tended) => {
@@ -128,7 +133,13 @@ pub(crate) fn tend<K: Keeper + Drop>(sitting: &mut Sitting<K>) -> Result<(), Roo
                 Err(RoomFault::Unkept)
             }
         }
-        Err(fault) => Err(fault),
+        Err(fault) => {
+            if sitting.has_failed() {
+                Err(RoomFault::Unkept)
+            } else {
+                Err(fault)
+            }
+        }
     }
 }
 
@@ -171,11 +182,11 @@ fn machine_ahead(
 
 /// Why a run is cut off.
 #[derive(Clone, Copy)]
-pub(crate) enum RunFault {
+pub enum RunFault {
     /// The room takes no command.
     Refused(RoomFault),
     /// The sitting ends.
-    Over(OperateEnd),
+    Over(Failure),
 }
 
 /// A round of a run: what devices want, and then a slice.
@@ -195,10 +206,14 @@ fn run_round<K: Keeper + Drop>(
 ) -> Result<Found, RunFault>
     requires some { 0 < most }
     requires most { most ≤ most_steps }
+    requires kept { sitting.old.account.failed ≡ false }
     ensures ok { IfOk result (λ found.
         RoundDid most found (at_run sitting.old test.old) (at_run sitting.new test.new)) }
     ensures err { OnErr result (CutRound most (at_run sitting.old test.old) (at_run sitting.new test.new)) }
     ensures noted { notebook.new ≡ notebook.old }
+    ensures kept { sitting.new.account.failed ≡ is_round_unkept result }
+    ensures read { read_of_round result ≡ false }
+    ensures write { write_of_round result ≡ false }
 {
     if let Err(fault) = tend(sitting) {
         return Err(RunFault::Refused(fault));
@@ -206,7 +221,7 @@ fn run_round<K: Keeper + Drop>(
     notebook.pass_paper(sitting.machine());
     let ahead = match machine_ahead(alloc, has_lines, sitting.machine()) {
         Ok(ahead) => ahead,
-        Err(_) => return Err(RunFault::Over(OperateEnd::Memory)),
+        Err(_) => return Err(RunFault::Over(Failure::Memory)),
     };
     let found = match run_slice(sitting, test, most) {
         Ok(found) => found,
@@ -222,7 +237,7 @@ fn run_round<K: Keeper + Drop>(
     );
     match put {
         Ok(()) => Ok(found),
-        Err(_) => Err(RunFault::Over(OperateEnd::Memory)),
+        Err(_) => Err(RunFault::Over(Failure::Memory)),
     }
 }
 
@@ -243,12 +258,16 @@ pub(crate) fn go_on<K: Keeper + Drop>(
 ) -> Result<Progress, RunFault>
     requires bound { steps < 2 ^ 63 }
     requires left { is_spent extent.now.reach.most steps ≡ false }
+    requires kept { sitting.old.account.failed ≡ false }
     ensures ok { IfOk result (λ progress. ProgressDid extent.now.reach.most progress
         (record { at = at_run sitting.old test.old; steps = steps }) (at_run sitting.new test.new)) }
     ensures err { OnErr result (CutRound (slice_after extent.now.reach.most steps)
         (at_run sitting.old test.old) (at_run sitting.new test.new)) }
     ensures bound { IfOk result (λ progress. steps_of progress ≤ steps + 2 ^ 32) }
     ensures noted { notebook.new ≡ notebook.old }
+    ensures kept { sitting.new.account.failed ≡ is_round_unkept result }
+    ensures read { read_of_round result ≡ false }
+    ensures write { write_of_round result ≡ false }
 {
     let most = slice_after(extent.reach.most, steps);
     match run_round(

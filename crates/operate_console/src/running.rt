@@ -1,11 +1,13 @@
 //! Runs, round by round.
-ghost use Rattle.std.specs.Prelude.{◌≡◌, false, true, None, Ok, OnOk, is_err};
+ghost use Rattle.std.specs.Prelude.{◌≡◌, false, true, None, Ok, is_err};
+ghost use Rattle.operate_console.specs.Ends.{failure_of, is_ran_unkept, is_read, is_run_unkept, is_unkept, is_write};
+ghost use Rattle.operate_console.specs.Ends.{source_so};
 ghost use Rattle.operate_console.specs.Line.{is_cut};
-ghost use Rattle.operate_console.specs.Run.{RanAsFar, RunDid, at_console, at_run, counted_if, is_ran_met, is_refused};
+ghost use Rattle.operate_console.specs.Run.{RanAsFar, RunDid, at_console, at_run, counted_if, is_ran_met, is_refused, read_on};
 ghost use Rattle.operate_console.specs.Run.{is_why_met, was_cut, was_met};
 
 use crate::desk::Desk;
-use crate::ends::OperateEnd;
+use crate::ends::Failure;
 use crate::extent::Asked;
 use crate::faults::put_refused;
 use crate::listening::is_interrupted;
@@ -33,6 +35,7 @@ const MOST_ROUNDS: u32 = 100_000;
 /// # Errors
 ///
 /// If the sitting ends.
+#[tactic(auto, using(crate::proofs::EndLemmas::heard_so_far, crate::proofs::EndLemmas::source_unread, crate::proofs::EndLemmas::noted_on))]
 fn show_and_listen<D: Desk, R: Source + Terminal, W: Sink>(
     alloc: Global,
     manner: &Manner,
@@ -40,11 +43,15 @@ fn show_and_listen<D: Desk, R: Source + Terminal, W: Sink>(
     desk: &mut D,
     reader: &mut R,
     writer: &mut W,
-) -> Result<bool, OperateEnd>
-    requires { R.has_failed reader.old ≡ false }
+) -> Result<bool, Failure>
+    requires good { source_so false notebook.old.has_ended (R.has_failed reader.old) (R.left reader.old) ≡ true }
+    requires sink { W.has_failed writer.old ≡ false }
     ensures attended { result ≡ Ok true → manner.now.limit ≡ None }
-    ensures noted { notebook.new ≡ notebook.old }
-    ensures good { OnOk result (R.has_failed reader.new ≡ false) }
+    ensures noted { notebook.new ≡ read_on notebook.new.has_ended notebook.old }
+    ensures good { source_so (is_read (failure_of result)) notebook.new.has_ended (R.has_failed reader.new)
+        (R.left reader.new) ≡ true }
+    ensures sink { W.has_failed writer.new ≡ is_write (failure_of result) }
+    ensures kept { is_unkept (failure_of result) ≡ false }
 {
     match notebook.page.show(alloc, manner, desk, writer) {
         Ok(()) => is_interrupted(alloc, manner, reader, &mut notebook.waiting),
@@ -66,6 +73,7 @@ pub enum Ran {
 /// # Errors
 ///
 /// If the sitting ends.
+#[tactic(auto, using(crate::proofs::EndLemmas::source_unread, crate::proofs::EndLemmas::noted_on))]
 fn run_rounds<K: Keeper + Drop, D: Desk, R: Source + Terminal, W: Sink>(
     asked: &Asked,
     notebook: &mut Notebook,
@@ -74,12 +82,17 @@ fn run_rounds<K: Keeper + Drop, D: Desk, R: Source + Terminal, W: Sink>(
     desk: &mut D,
     reader: &mut R,
     writer: &mut W,
-) -> Result<Ran, OperateEnd>
-    requires { R.has_failed reader.old ≡ false }
+) -> Result<Ran, Failure>
+    requires good { source_so false notebook.old.has_ended (R.has_failed reader.old) (R.left reader.old) ≡ true }
+    requires sink { W.has_failed writer.old ≡ false }
+    requires kept { sitting.old.account.failed ≡ false }
     ensures did { RunDid asked.now.setting.manner.now.limit (was_cut result) (was_met result)
         asked.now.extent.reach.most (at_run sitting.old test.old) (at_run sitting.new test.new) }
-    ensures noted { notebook.new ≡ notebook.old }
-    ensures good { OnOk result (R.has_failed reader.new ≡ false) }
+    ensures noted { notebook.new ≡ read_on notebook.new.has_ended notebook.old }
+    ensures good { source_so (is_read (failure_of result)) notebook.new.has_ended (R.has_failed reader.new)
+        (R.left reader.new) ≡ true }
+    ensures sink { W.has_failed writer.new ≡ is_write (failure_of result) }
+    ensures kept { sitting.new.account.failed ≡ is_run_unkept result }
 {
     let Setting {
         alloc,
@@ -121,6 +134,7 @@ fn is_met(ended: Ended) -> bool
 fn count_met(notebook: &mut Notebook, ended: Ended)
     ensures stops { notebook.new.stops ≡ counted_if (is_why_met ended) notebook.old.stops }
     ensures fault { notebook.new.is_faulted ≡ notebook.old.is_faulted }
+    ensures ended { notebook.new.has_ended ≡ notebook.old.has_ended }
 {
     if is_met(ended) {
         notebook.stops.count_met();
@@ -155,16 +169,20 @@ fn end_run(
     notebook: &mut Notebook,
     machine: &Machine,
     ran: Ran,
-) -> Result<(), OperateEnd>
+) -> Result<(), Failure>
     ensures cut { is_refused ran ≡ true → is_cut (is_err result) notebook.new ≡ true }
     ensures stops { notebook.new.stops ≡ counted_if (is_ran_met ran) notebook.old.stops }
+    ensures ended { notebook.new.has_ended ≡ notebook.old.has_ended }
+    ensures kept { is_ran_unkept ran ≡ is_unkept (failure_of result) }
+    ensures read { is_read (failure_of result) ≡ false }
+    ensures write { is_write (failure_of result) ≡ false }
 {
     match ran {
         Ran::Ended(ended, steps) => {
             count_met(notebook, ended);
             match put_end(alloc, program, notebook, machine, ended, steps) {
                 Ok(()) => Ok(()),
-                Err(_) => Err(OperateEnd::Memory),
+                Err(_) => Err(Failure::Memory),
             }
         }
         Ran::Refused(fault) => put_refused(notebook, fault),
@@ -176,7 +194,7 @@ fn end_run(
 /// # Errors
 ///
 /// If the sitting ends.
-#[tactic(auto, using(crate::proofs::RunLemmas::ran_as_far))]
+#[tactic(auto, using(crate::proofs::RunLemmas::ran_as_far, crate::proofs::EndLemmas::source_unread))]
 pub(crate) fn run<K: Keeper + Drop, D: Desk, R: Source + Terminal, W: Sink>(
     asked: &Asked,
     notebook: &mut Notebook,
@@ -184,11 +202,16 @@ pub(crate) fn run<K: Keeper + Drop, D: Desk, R: Source + Terminal, W: Sink>(
     desk: &mut D,
     reader: &mut R,
     writer: &mut W,
-) -> Result<(), OperateEnd>
-    requires { R.has_failed reader.old ≡ false }
+) -> Result<(), Failure>
+    requires good { source_so false notebook.old.has_ended (R.has_failed reader.old) (R.left reader.old) ≡ true }
+    requires sink { W.has_failed writer.old ≡ false }
+    requires kept { sitting.old.account.failed ≡ false }
     ensures did { RanAsFar asked.now.setting.manner.now.limit (is_cut (is_err result) notebook.new)
         asked.now.extent.reach (at_console sitting.old notebook.old) (at_console sitting.new notebook.new) }
-    ensures good { OnOk result (R.has_failed reader.new ≡ false) }
+    ensures good { source_so (is_read (failure_of result)) notebook.new.has_ended (R.has_failed reader.new)
+        (R.left reader.new) ≡ true }
+    ensures sink { W.has_failed writer.new ≡ is_write (failure_of result) }
+    ensures kept { sitting.new.account.failed ≡ is_unkept (failure_of result) }
 {
     let Setting { alloc, program, .. } = asked.setting;
     let stops = replace(&mut notebook.stops, Stops::new(alloc));

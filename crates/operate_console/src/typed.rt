@@ -1,7 +1,8 @@
 //! Lines that are typed.
-ghost use Rattle.std.specs.Prelude.{◌≡◌, false, OnOk};
+ghost use Rattle.std.specs.Prelude.{◌≡◌, true, false, IfOk};
+ghost use Rattle.operate_console.specs.Ends.{failure_of, is_at_end, is_last_typed, is_read, is_unkept, is_write};
 
-use crate::ends::OperateEnd;
+use crate::ends::Failure;
 use bytes_streams::Source;
 use std::alloc::{AllocError, Global};
 
@@ -17,7 +18,7 @@ const CTRL_C: u8 = 3;
 
 /// What was typed.
 #[derive(Drop)]
-pub(crate) enum Typed {
+pub enum Typed {
     /// A line, without the byte that ends it.
     Line(Vec<u8>),
     /// A line that Ctrl-C ended, which counts for nothing.
@@ -46,9 +47,13 @@ fn drop_carriage_return(line: &mut Vec<u8>) {
 /// # Errors
 ///
 /// `Read` if a read fails, `Memory` if there is no memory for the line, `Bound` if it doesn't end.
-pub(crate) fn read_line<R: Source>(alloc: Global, reader: &mut R) -> Result<Typed, OperateEnd>
+#[tactic(auto, using(crate::proofs::EndLemmas::at_end))]
+pub(crate) fn read_line<R: Source>(alloc: Global, reader: &mut R) -> Result<Typed, Failure>
     requires { R.has_failed reader.old ≡ false }
-    ensures good { OnOk result (R.has_failed reader.new ≡ false) }
+    ensures read { R.has_failed reader.new ≡ is_read (failure_of result) }
+    ensures write { is_write (failure_of result) ≡ false }
+    ensures kept { is_unkept (failure_of result) ≡ false }
+    ensures end { IfOk result (λ typed. is_last_typed typed ≡ true → is_at_end (R.left reader.new) ≡ true) }
 {
     let mut line = Vec::new(alloc);
     for _read in 0..MOST_BYTES {
@@ -60,12 +65,12 @@ pub(crate) fn read_line<R: Source>(alloc: Global, reader: &mut R) -> Result<Type
             Ok(Some(byte)) if byte == CTRL_C => return Ok(Typed::Dropped),
             Ok(Some(byte)) => {
                 if push_byte(&mut line, byte).is_err() {
-                    return Err(OperateEnd::Memory);
+                    return Err(Failure::Memory);
                 }
             }
             Ok(None) => return Ok(Typed::Last(line)),
-            Err(_) => return Err(OperateEnd::Read),
+            Err(_) => return Err(Failure::Read),
         }
     }
-    Err(OperateEnd::Bound)
+    Err(Failure::Bound)
 }

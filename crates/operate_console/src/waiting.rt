@@ -1,5 +1,5 @@
 //! Lines that wait for their turn: those of files, and those typed ahead.
-ghost use Rattle.std.specs.Prelude.{◌≤◌, length};
+ghost use Rattle.std.specs.Prelude.{◌≡◌, ◌≤◌, true, false, length};
 
 use crate::script::Script;
 use machine_notation::put_digits;
@@ -88,13 +88,16 @@ impl NamedLines {
 pub(crate) struct Waiting {
     scripts: Vec<NamedLines>,
     typed: Lines,
-    has_ended: bool,
+    /// Whether the input has ended. What is typed after its end belongs to it too.
+    pub(crate) has_ended: bool,
     place: Vec<u8>,
 }
 
 impl Waiting {
     /// None.
-    pub(crate) fn new(alloc: Global) -> Waiting {
+    pub(crate) fn new(alloc: Global) -> Waiting
+        ensures { result.has_ended ≡ false }
+    {
         Waiting {
             scripts: Vec::new(alloc),
             typed: Lines::of_text(Vec::new(alloc)),
@@ -109,7 +112,9 @@ impl Waiting {
     }
 
     /// The lines of a file come next.
-    pub(crate) fn begin(&mut self, script: Script) -> Result<(), AllocError> {
+    pub(crate) fn begin(&mut self, script: Script) -> Result<(), AllocError>
+        ensures { self.new.has_ended ≡ self.old.has_ended }
+    {
         let Script { name, text } = script;
         let lines = NamedLines {
             name,
@@ -120,12 +125,16 @@ impl Waiting {
     }
 
     /// A line that was typed ahead waits.
-    pub(crate) fn push_typed(&mut self, line: &[u8]) -> Result<(), AllocError> {
+    pub(crate) fn push_typed(&mut self, line: &[u8]) -> Result<(), AllocError>
+        ensures { self.new.has_ended ≡ self.old.has_ended }
+    {
         self.typed.push(line)
     }
 
     /// The input has ended, after these bytes, which are a line if there are any.
-    pub(crate) fn end_input(&mut self, last: &[u8]) -> Result<(), AllocError> {
+    pub(crate) fn end_input(&mut self, last: &[u8]) -> Result<(), AllocError>
+        ensures { self.new.has_ended ≡ true }
+    {
         self.has_ended = true;
         if last.is_empty() {
             return Ok(());
@@ -133,13 +142,10 @@ impl Waiting {
         self.typed.push(last)
     }
 
-    /// Whether the input has ended.
-    pub(crate) fn has_ended(&self) -> bool {
-        self.has_ended
-    }
-
     /// No line of a file is done any more, after a fault.
-    pub(crate) fn end_files(&mut self) {
+    pub(crate) fn end_files(&mut self)
+        ensures { self.new.has_ended ≡ self.old.has_ended }
+    {
         self.scripts.clear();
     }
 
@@ -153,7 +159,9 @@ impl Waiting {
     /// # Errors
     ///
     /// If there is no memory for it.
-    pub(crate) fn take_of_files(&mut self, alloc: Global) -> Result<Option<Vec<u8>>, AllocError> {
+    pub(crate) fn take_of_files(&mut self, alloc: Global) -> Result<Option<Vec<u8>>, AllocError>
+        ensures { self.new.has_ended ≡ self.old.has_ended }
+    {
         self.place.clear();
         for _file in 0..self.scripts.len() {
             let Some(mut script) = self.scripts.pop() else {
@@ -173,7 +181,9 @@ impl Waiting {
     /// # Errors
     ///
     /// If there is no memory for it.
-    pub(crate) fn take_typed(&mut self, alloc: Global) -> Result<Option<Vec<u8>>, AllocError> {
+    pub(crate) fn take_typed(&mut self, alloc: Global) -> Result<Option<Vec<u8>>, AllocError>
+        ensures { self.new.has_ended ≡ self.old.has_ended }
+    {
         self.typed.take(alloc)
     }
 }

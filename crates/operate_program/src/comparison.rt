@@ -1,5 +1,5 @@
 //! Conditions on fields.
-ghost use Rattle.std.specs.Prelude.{◌≡◌, ◌+◌, ◌-◌, ◌<◌, ◌≤◌, true, drop, length, map, reverse, take, slice_index_or, ◌==◌, ◌&&◌};
+ghost use Rattle.std.specs.Prelude.{◌≡◌, ◌+◌, ◌<◌, ◌≤◌, true, drop, length, map, take, slice_index_or, ◌==◌, ◌&&◌};
 ghost use Rattle.std.specs.List.{list_all};
 ghost use Rattle.std.specs.Ordering.{is_eq, nat_cmp};
 ghost use Rattle.bcd_1401.specs.Character.{digit_of, zone_of};
@@ -20,7 +20,7 @@ use bcd_1401::Char;
 use core_1401::Core;
 use cpu_1401::Machine;
 use operate_orders::{Condition, Relation, Value};
-use operate_views::{is_digit as is_digit_char, is_plain_digit};
+use operate_views::{digit_from_units, is_digit as is_digit_char, is_plain_digit};
 use std::cmp::Ordering;
 
 /// The zone over the units of a number below zero: B alone.
@@ -91,20 +91,6 @@ fn digit_of_field(core: &Core, at: u16, len: u16, place: usize) -> u8
     }
 }
 
-/// The digit of a number, at a place counted from the units; 0 beyond its first digit.
-#[tactic(auto, using(operate_views::proofs::ValueLemmas::digit_read))]
-fn digit_of_number(digits: &[u8], place: usize) -> u8
-    requires { list_all is_digit digits.now ≡ true }
-    ensures value { result ≡ slice_index_or (reverse digits.now) place 48 - 48 }
-    ensures range { result ≤ 9 }
-{
-    if place < digits.len() {
-        digits[digits.len() - 1 - place] - b'0'
-    } else {
-        0
-    }
-}
-
 /// How the magnitude of a field compares with a number, by their digits from the highest down.
 #[tactic(auto, using(crate::proofs::ComparisonLemmas::then_digits, crate::proofs::ComparisonLemmas::magnitude_more, crate::proofs::ComparisonLemmas::value_more))]
 fn magnitude_order(core: &Core, at: u16, len: u16, digits: &[u8]) -> Ordering
@@ -118,7 +104,7 @@ fn magnitude_order(core: &Core, at: u16, len: u16, digits: &[u8]) -> Ordering
     while left > 0 {
         left -= 1;
         let of_field = digit_of_field(core, at, len, left);
-        let of_number = digit_of_number(digits, left);
+        let of_number = digit_from_units(digits, left);
         order = order.then(of_field.cmp(&of_number));
     }
     order

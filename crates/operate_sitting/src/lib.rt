@@ -4,7 +4,7 @@
 //! ```text
 //! let mut sitting = Sitting::new(alloc, room)?;       // what the room has by now loaded the program
 //! sitting.begin_line()?;
-//! sitting.hold(cards)?;                               // 1,200 cards
+//! sitting.hold(&cards)?;                              // 1,200 cards
 //! sitting.tend()?;                                    // 500 of them are in the hopper
 //! sitting.begin_line()?;
 //! sitting.run_until(&mut test, MOST_STEPS)?;          // up to the step that reads the last of these, if not before

@@ -1,5 +1,5 @@
 //! Notes on a journal.
-ghost use Rattle.std.specs.Prelude.{◌≡◌, ◌≤◌, drop, length, nat_lt, take, take_while, OnOk, OnErr};
+ghost use Rattle.std.specs.Prelude.{◌≡◌, ◌<◌, ◌≤◌, Some, drop, length, nat_lt, slice_get, take, take_while, OnOk, OnErr};
 ghost use Rattle.operate_sitting.specs.Notes.{begun, cards_before, cards_by, cut, end_at, given, hand_of, held};
 ghost use Rattle.operate_sitting.specs.Notes.{is_before, lines_in, no_notes, notes_after, undo_place};
 ghost use Rattle.operate_sitting.specs.Tending.{feed_at};
@@ -7,6 +7,7 @@ ghost use Rattle.operate_sitting.specs.Tending.{feed_at};
 use crate::earlier::Origin;
 use cpu_1401::Command;
 use devices_1401::Card;
+use job_runner::{CardList, Deck};
 use std::alloc::{AllocError, Global};
 use std::marker::Model;
 
@@ -25,7 +26,7 @@ pub struct Mark {
 pub(crate) struct Notes {
     marks: Vec<Mark>,
     loaded: usize,
-    deck: Vec<Card>,
+    deck: CardList,
     given: Vec<usize>,
 }
 
@@ -37,7 +38,7 @@ impl Model for Notes {
     ghost view = { λ it. record {
       marks = it.marks.items;
       loaded = it.loaded;
-      deck = it.deck.items;
+      deck = it.deck;
       given = it.given.items;
     } };
 }
@@ -50,34 +51,34 @@ impl Notes {
         Notes {
             marks: Vec::new(alloc),
             loaded,
-            deck: Vec::new(alloc),
+            deck: CardList::new(alloc),
             given: Vec::new(alloc),
         }
     }
 
-    /// By how many entries the program was loaded.
+    /// How many entries loading took.
     pub(crate) fn loaded(&self) -> usize
         ensures { result ≡ self.now.loaded }
     {
         self.loaded
     }
 
-    /// The cards in hand.
-    pub(crate) fn hand(&self) -> &[Card]
-        ensures { result.now ≡ hand_of self.now }
+    /// How many cards are in hand.
+    pub(crate) fn hand(&self) -> usize
+        ensures { result ≡ length (hand_of self.now) }
     {
-        self.cards_after(self.given.len())
+        self.deck.len().saturating_sub(self.given.len())
     }
 
-    /// The cards of decks after the first ones, this many.
-    pub(crate) fn cards_after(&self, count: usize) -> &[Card]
-        ensures { result.now ≡ drop count self.now.deck }
+    /// A card of decks after the first ones, this many, by its place among those.
+    pub(crate) fn card_after(&mut self, count: usize, at: usize) -> Card
+        requires { at < length (drop count self.old.deck) }
+        ensures card { slice_get (drop count self.old.deck) at ≡ Some result }
+        ensures same { self.new ≡ self.old }
     {
-        if count < self.deck.len() {
-            &self.deck[count..]
-        } else {
-            &[]
-        }
+        // No list is so long that a place of it is no usize.
+        let _ = self.deck.len();
+        self.deck.card(count + at)
     }
 
     /// The end of a journal with this many entries.
@@ -111,12 +112,11 @@ impl Notes {
     /// # Errors
     ///
     /// If the memory for them is refused.
-    pub(crate) fn hold(&mut self, cards: &[Card]) -> Result<(), AllocError>
+    pub(crate) fn hold(&mut self, cards: &CardList) -> Result<(), AllocError>
         ensures ok { OnOk result (self.new ≡ held cards.now self.old) }
         ensures err { OnErr result (self.new ≡ self.old) }
     {
-        self.deck.extend_from_slice(cards)?;
-        Ok(())
+        self.deck.append(&Deck::new(cards))
     }
 
     /// Of a command that gets this place in the journal: if it feeds a card of the hand, that card is in hand no longer.
@@ -196,7 +196,12 @@ impl Notes {
     {
         match origin {
             Origin::Own { cards } => self.cut(Mark { entries, cards }),
-            Origin::Other => self.forget(entries),
+            Origin::Other => {
+                self.marks.clear();
+                self.deck.truncate(0);
+                self.given.clear();
+                self.loaded = entries;
+            }
         }
     }
 
@@ -210,16 +215,6 @@ impl Notes {
         self.deck.truncate(at.cards);
         self.given.truncate(given);
         self.loaded = self.loaded.min(at.entries);
-    }
-
-    /// The notes that go with another journal.
-    fn forget(&mut self, entries: usize)
-        ensures { self.new ≡ no_notes entries }
-    {
-        self.marks.clear();
-        self.deck.clear();
-        self.given.clear();
-        self.loaded = entries;
     }
 }
 

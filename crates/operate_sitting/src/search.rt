@@ -19,7 +19,7 @@ pub trait Test {
     // What it remembers after a step to this machine.
     ghost seen: { Self → State → Self };
 
-    // Whether it is met by the step that it saw last.
+    // Whether the last step it saw meets it.
     ghost is_met: { Self → Bool };
 
     /// Sees the machine at which a search begins. It isn't asked there.

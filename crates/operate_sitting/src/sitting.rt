@@ -22,7 +22,7 @@ use crate::{
     whole_entries,
 };
 use cpu_1401::{Command, Machine};
-use devices_1401::Card;
+use job_runner::CardList;
 use room_alone::{Carried, Entry, Keeper, KeptRoom, Room, RoomFault, Unkept};
 use std::alloc::{AllocError, Global};
 use std::marker::Model;
@@ -105,7 +105,7 @@ impl<K: Keeper + Drop> Sitting<K> {
     pub fn hand(&self) -> usize
         ensures { result ≡ length (hand_of self.now.notes) }
     {
-        self.notes.hand().len()
+        self.notes.hand()
     }
 
     /// A line begins, to which `undone` comes back if it records something.
@@ -127,12 +127,12 @@ impl<K: Keeper + Drop> Sitting<K> {
     /// # Errors
     ///
     /// If the memory for them is refused.
-    pub fn hold(&mut self, cards: Vec<Card>) -> Result<(), AllocError>
+    pub fn hold(&mut self, cards: &CardList) -> Result<(), AllocError>
         ensures account { self.new.account ≡ self.old.account }
-        ensures ok { OnOk result (self.new.notes ≡ held cards.items self.old.notes) }
+        ensures ok { OnOk result (self.new.notes ≡ held cards.now self.old.notes) }
         ensures err { OnErr result (self.new.notes ≡ self.old.notes) }
     {
-        self.notes.hold(cards.as_slice())
+        self.notes.hold(cards)
     }
 
     /// Carries a command out at the room, which records and keeps it, and at the scout.
@@ -222,7 +222,7 @@ impl<K: Keeper + Drop> Sitting<K> {
         ensures reserved { self.old.account.failed ≡ false → 0 < self.old.account.room.spare
             → is_full (journal_of self.old) ≡ false → IsOk result }
     {
-        test.second = watching(self.notes.hand());
+        test.second = watching(&self.notes);
         self.paired.run_until(test, most)
     }
 
@@ -414,9 +414,9 @@ impl<K: Keeper + Drop> Sitting<K> {
     }
 }
 
-/// The devices are looked at after each step, with these cards in hand.
-fn watching(hand: &[Card]) -> FullDevices
-    ensures { result ≡ watching hand.now }
+/// The devices are looked at after each step, with the cards in hand.
+fn watching(notes: &Notes) -> FullDevices
+    ensures { result ≡ watching (hand_of notes.now) }
 {
-    FullDevices::new(!hand.is_empty())
+    FullDevices::new(notes.hand() != 0)
 }

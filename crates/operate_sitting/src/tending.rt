@@ -1,5 +1,5 @@
 //! What full devices want.
-ghost use Rattle.std.specs.Prelude.{◌≡◌, ◌<◌, ◌∷◌, [], true, false, length, slice_get, IfOk, IfErr, OnErr};
+ghost use Rattle.std.specs.Prelude.{◌≡◌, ◌<◌, ◌∷◌, [], true, false, drop, length, slice_get, IfOk, IfErr, OnErr};
 ghost use Rattle.room_alone.specs.Journal.{state_of};
 ghost use Rattle.operate_sitting.specs.Notes.{hand_of};
 ghost use Rattle.operate_sitting.specs.Tending.{CarriedAll, CarriedPart, most_if, plan_of, planned, tending};
@@ -7,7 +7,7 @@ ghost use Rattle.operate_sitting.specs.Tending.{CarriedAll, CarriedPart, most_if
 use crate::Paired;
 use crate::notes::Notes;
 use cpu_1401::Command;
-use devices_1401::{Card, Devices, MOST_HELD};
+use devices_1401::{Devices, MOST_HELD};
 use room_alone::{Keeper, RoomFault};
 
 /// How many lines and cards are taken, and how many cards are fed at most.
@@ -37,16 +37,17 @@ fn most_if(is_so: bool) -> u16
 }
 
 /// How many commands a plan has.
-fn count_of(plan: Plan, hand: &[Card]) -> usize
-    ensures { result ≡ length (planned plan hand.now) }
+fn count_of(plan: Plan, notes: &Notes) -> usize
+    ensures { result ≡ length (planned plan (hand_of notes.now)) }
 {
-    usize::from(plan.lines) + usize::from(plan.cards) + usize::from(plan.feeds).min(hand.len())
+    usize::from(plan.lines) + usize::from(plan.cards) + usize::from(plan.feeds).min(notes.hand())
 }
 
-/// The command at a place of a plan.
-fn command_at(plan: Plan, hand: &[Card], at: usize) -> Command
-    requires { at < length (planned plan hand.now) }
-    ensures { slice_get (planned plan hand.now) at ≡ Some result }
+/// The command at a place of a plan, which feeds cards of decks after the first ones, so many.
+fn command_at(plan: Plan, notes: &mut Notes, given: usize, at: usize) -> Command
+    requires { at < length (planned plan (drop given notes.old.deck)) }
+    ensures command { slice_get (planned plan (drop given notes.old.deck)) at ≡ Some result }
+    ensures same { notes.new ≡ notes.old }
 {
     let lines = usize::from(plan.lines);
     let taken = lines + usize::from(plan.cards);
@@ -56,7 +57,7 @@ fn command_at(plan: Plan, hand: &[Card], at: usize) -> Command
         Command::TakeCard
     } else {
         Command::Feed {
-            card: hand[at - taken],
+            card: notes.card_after(given, at - taken),
         }
     }
 }
@@ -85,9 +86,9 @@ pub(crate) fn tend<K: Keeper + Drop>(
 {
     let plan = plan_of(paired.machine().devices());
     let given = notes.count_given();
-    let count = count_of(plan, notes.hand());
+    let count = count_of(plan, notes);
     for at in 0..count {
-        let command = command_at(plan, notes.cards_after(given), at);
+        let command = command_at(plan, notes, given, at);
         match carry_noted(paired, notes, command) {
             Ok(true) => {}
             Ok(false) => return Ok(false),

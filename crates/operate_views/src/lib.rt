@@ -40,4 +40,4 @@ pub use paper::{put_paper, put_printed};
 pub use registers::{put_comparison, put_labelled, put_place, put_registers, put_switches};
 pub use ruler::put_core;
 pub use sentences::{put_instruction_words, put_statement_words};
-pub use values::{cells_with_number, cells_with_text};
+pub use values::{cells_with_number, cells_with_text, digit_from_units};

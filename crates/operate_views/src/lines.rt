@@ -2,8 +2,8 @@
 ghost use Rattle.std.specs.Prelude.{◌≡◌, ◌<◌, ◌≤◌, ◌++◌, length, IsTrue, IfOk};
 ghost use Rattle.bytes_text.specs.Written.{Adds};
 ghost use Rattle.machine_notation.specs.ShownText.{shown_text};
-ghost use Rattle.operate_views.specs.Lines.{cells_line, cells_to_mark, front_text, instruction_line, listed_line};
-ghost use Rattle.operate_views.specs.Lines.{listed_places, shown_cells, source_line, step_front, step_line};
+ghost use Rattle.operate_views.specs.Lines.{cells_to_mark, front_text, instruction_line, listed_line, listed_places};
+ghost use Rattle.operate_views.specs.Lines.{shown_cells, step_front, step_line};
 ghost use Rattle.operate_views.specs.Lines.{stepped_columns, unsourced_line, without_last_blanks};
 
 use crate::ruler::chars_of;
@@ -75,29 +75,6 @@ fn put_front(alloc: Global, text: &mut Text, mark: u8, at: u16, cells: &[Cell])
     ]);
 }
 
-/// Adds the line of a place whose cells a line of the source made: `mark` is the byte in front.
-#[tactic(auto, unfolding(crate::specs::Lines::source_line))]
-fn put_source_line(
-    alloc: Global,
-    text: &mut Text,
-    mark: u8,
-    at: u16,
-    cells: &[Cell],
-    statement: &Statement<'_>,
-)
-    ensures { Adds text.old text.new (source_line mark at cells.now statement.now) }
-{
-    put_front(alloc, text, mark, at, cells);
-    text.put_pieces(&[
-        Piece::Padded(LABEL_COLUMNS, statement.label),
-        Piece::Padded(OPERATION_COLUMNS, statement.operation),
-        Piece::Padded(OPERAND_COLUMNS, statement.operands),
-        Piece::Text(b" line "),
-        Piece::Count(statement.line),
-        Piece::Text(b"\n"),
-    ]);
-}
-
 /// A text without the blanks at its end.
 fn without_last_blanks(text: &[u8]) -> &[u8]
     ensures { result.now ≡ without_last_blanks text.now }
@@ -133,18 +110,6 @@ fn put_instruction_line(alloc: Global, text: &mut Text, mark: u8, at: u16, cells
     ]);
 }
 
-/// Adds the line of a place where no instruction begins: `mark` is the byte in front.
-#[tactic(auto, unfolding(crate::specs::Lines::cells_line))]
-fn put_cells_line(alloc: Global, text: &mut Text, mark: u8, at: u16, cells: &[Cell])
-    ensures { Adds text.old text.new (cells_line mark at cells.now) }
-{
-    text.put_byte(mark);
-    text.put_number(ADDRESS_DIGITS, u64::from(at));
-    text.put_byte(b' ');
-    put_shown_cells(alloc, text, cells);
-    text.put_byte(b'\n');
-}
-
 /// The cells from a place up to the next word mark, at most eight.
 ///
 /// # Errors
@@ -165,7 +130,7 @@ pub fn cells_to_mark(alloc: Global, core: &Core, at: u16) -> Result<Vec<Cell>, A
 }
 
 /// Adds the line of a place that no line of the source made.
-#[tactic(auto, unfolding(crate::specs::Lines::unsourced_line))]
+#[tactic(auto, unfolding(crate::specs::Lines::unsourced_line, crate::specs::Lines::cells_line))]
 fn put_unsourced(alloc: Global, text: &mut Text, core: &Core, mark: u8, at: u16)
     requires { at < length core.now }
     ensures { Adds text.old text.new (unsourced_line core.now mark at) }
@@ -176,7 +141,13 @@ fn put_unsourced(alloc: Global, text: &mut Text, core: &Core, mark: u8, at: u16)
         return;
     }
     match cells_to_mark(alloc, core, at) {
-        Ok(cells) => put_cells_line(alloc, text, mark, at, cells.as_slice()),
+        Ok(cells) => {
+            text.put_byte(mark);
+            text.put_number(ADDRESS_DIGITS, u64::from(at));
+            text.put_byte(b' ');
+            put_shown_cells(alloc, text, cells.as_slice());
+            text.put_byte(b'\n');
+        }
         Err(_) => text.fail(),
     }
 }
@@ -184,6 +155,7 @@ fn put_unsourced(alloc: Global, text: &mut Text, core: &Core, mark: u8, at: u16)
 /// Adds the line of a place, with the statement of the line of the source that made its cells, if there is one; else
 /// the instruction, if a word mark is there; else the cells. `mark` is the byte in front: `>` at the I register, `b` at
 /// a break, else a blank.
+#[tactic(auto, unfolding(crate::specs::Lines::source_line))]
 pub fn put_listed(
     alloc: Global,
     text: &mut Text,
@@ -199,7 +171,17 @@ pub fn put_listed(
         return put_unsourced(alloc, text, core, mark, at);
     };
     match cells_to_mark(alloc, core, at) {
-        Ok(cells) => put_source_line(alloc, text, mark, at, cells.as_slice(), &statement),
+        Ok(cells) => {
+            put_front(alloc, text, mark, at, cells.as_slice());
+            text.put_pieces(&[
+                Piece::Padded(LABEL_COLUMNS, statement.label),
+                Piece::Padded(OPERATION_COLUMNS, statement.operation),
+                Piece::Padded(OPERAND_COLUMNS, statement.operands),
+                Piece::Text(b" line "),
+                Piece::Count(statement.line),
+                Piece::Text(b"\n"),
+            ]);
+        }
         Err(_) => text.fail(),
     }
 }

@@ -3,7 +3,7 @@ ghost use Rattle.std.specs.Prelude.{◌≡◌, ◌+◌, ◌<◌, length};
 ghost use Rattle.bytes_text.specs.Written.{Adds};
 ghost use Rattle.devices_1401.specs.Movement.{pending_of};
 ghost use Rattle.operate_views.specs.Registers.{addresses_text, comparison_text, devices_text, index_at};
-ghost use Rattle.operate_views.specs.Registers.{indicators_text, is_blank_at, labelled_text, letters_on, or_none};
+ghost use Rattle.operate_views.specs.Registers.{indicators_text, labelled_text, letters_on, or_none};
 ghost use Rattle.operate_views.specs.Registers.{pending_text, place_text, registers_text, switches_text};
 
 use bcd_1401::Char;
@@ -87,29 +87,20 @@ pub fn put_switches(text: &mut Text, switches: &[bool; 7])
     text.put_byte(b'\n');
 }
 
-/// Whether the three characters from a place on are blank.
-fn is_blank_at(core: &Core, at: u16) -> bool
-    requires { at + 2 < length core.now }
-    ensures { result ≡ is_blank_at core.now at }
-{
-    // No core storage is so large that a place above another has no address.
-    let _ = core.size();
-    core.get(at).char == Char::BLANK
-        && core.get(at + 1).char == Char::BLANK
-        && core.get(at + 2).char == Char::BLANK
-}
-
 /// Adds an index register by its number and its first place, unless it is blank.
 #[tactic(auto, unfolding(crate::specs::Registers::index_at))]
 fn put_index(text: &mut Text, core: &Core, number: u8, at: u16)
     requires { at + 2 < length core.now }
     ensures { Adds text.old text.new (index_at core.now number at) }
 {
-    if is_blank_at(core, at) {
-        return;
-    }
     // No core storage is so large that a place above another has no address.
     let _ = core.size();
+    if core.get(at).char == Char::BLANK
+        && core.get(at + 1).char == Char::BLANK
+        && core.get(at + 2).char == Char::BLANK
+    {
+        return;
+    }
     text.put_pieces(&[
         Piece::Text(b"X"),
         Piece::Small(number),

@@ -28,7 +28,7 @@ fn zone_under(sign: Option<Sign>) -> u8
 
 /// The digit at a place counted from the units; 0 where there are no more digits.
 #[tactic(auto, using(crate::proofs::ValueLemmas::digit_read))]
-fn digit_from_units(digits: &[u8], place: usize) -> u8
+pub fn digit_from_units(digits: &[u8], place: usize) -> u8
     requires { list_all is_digit digits.now ≡ true }
     ensures value { result ≡ slice_index_or (reverse digits.now) place 48 - 48 }
     ensures range { result ≤ 9 }

@@ -1,3 +1,4 @@
 mod PairLemmas
 mod NameLemmas
+mod NumberLemmas
 mod MountLemmas

@@ -37,7 +37,7 @@ use Rattle.machine_tables.specs.declared.features.Features.{Features}
 use Rattle.serving_http.specs.Origins.{is_text_of}
 use Rattle.program_arguments.specs.Features.{features_in}
 use Rattle.program_arguments.specs.Mounting.{AreReelsIn, IsStartIn, fitted_for, program_name}
-use Rattle.program_arguments.specs.Options.{IsFlagIn, IsNamedSizeIn, IsNameIn, IsNumberIn, IsNumberOr}
+use Rattle.program_arguments.specs.Options.{AreNumbersOf, IsFlagIn, IsNamedSizeIn, IsNameIn, IsNumberIn, IsNumberOr}
 use Rattle.program_arguments.specs.Options.{graphics_by, graphics_in, language_in}
 
 -- what is written: tables with or without the listing, or else the listing, or else the image
@@ -168,7 +168,9 @@ IsSession found opening asked =
 -- `resume` of a file, but for the commands that are left out
 pub record IsResuming (found : Found) (name : List ℕ) (asked : Resuming) : Type 0 where
   pub file : string_bytes asked.file ≡ name
+  pub last : IsFlagIn found (codes "last") asked.last
   pub until : IsNumberIn 32 found (codes "until") asked.until
+  pub without : AreNumbersOf (unwrap_or (first_value found (codes "without")) []) asked.without.items
   pub sync : IsFlagIn found (codes "sync") asked.sync
 
 -- the operators, if there is a number of seats, and a port or a page

@@ -1,6 +1,8 @@
 -- What the options of a subcommand say, as they were found among the words (own).
-use Rattle.std.specs.Prelude.{◌≡◌, ◌≢◌, ◌<◌, ◌^◌, ℕ, Bool, true, false, List, [], Option, None, Some, String}
+use Rattle.std.specs.Prelude.{◌≡◌, ◌≢◌, ◌<◌, ◌^◌, ◌==◌, ℕ, Bool, true, false, List, [], ◌∷◌}
+use Rattle.std.specs.Prelude.{Option, None, Some, String}
 use Rattle.std.specs.Prelude.{IsTrue, codes, option_map, option_and_then, string_bytes, unwrap_or, if◌then◌else◌}
+use Rattle.std.specs.List.{slice_split}
 use Rattle.std.specs.Option.{option_or}
 use Rattle.std.specs.Str.{bytes_eq}
 use Rattle.std.specs.Str.Parse.{IsNumeral, digits_value, without_leading_plus}
@@ -35,6 +37,18 @@ IsReadAs bits text None =
 IsReadAs bits text (Some number) =
     IsNumeral 10 (without_leading_plus text) × (digits_value 10 (without_leading_plus text) < 2 ^ bits)
     × (number ≡ digits_value 10 (without_leading_plus text))
+
+-- the numbers that texts are, in their order
+abbrev pub AreReadAs : List (List ℕ) → List ℕ → Type 0
+AreReadAs [] [] = Unit {0}
+AreReadAs [] (number ∷ numbers) = ⊥
+AreReadAs (text ∷ texts) [] = ⊥
+AreReadAs (text ∷ texts) (number ∷ numbers) = IsReadAs 32 text (Some number) × AreReadAs texts numbers
+
+-- the numbers of a list that is parted by commas; an empty text is one of none
+abbrev pub AreNumbersOf : List ℕ → List ℕ → Type 0
+AreNumbersOf [] numbers = numbers ≡ []
+AreNumbersOf (byte ∷ bytes) numbers = AreReadAs (slice_split (λ b. b == 44) (byte ∷ bytes)) numbers
 
 -- the number that an option's text is; without a text there is none
 abbrev pub IsNumberIn : ℕ → Found → List ℕ → Option ℕ → Type 0

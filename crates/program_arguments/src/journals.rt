@@ -1,7 +1,7 @@
 //! The options of journals, read by `clap`.
 ghost use Rattle.std.specs.Prelude.{⊤, codes};
 ghost use Rattle.clap.specs.Words.{found_of};
-ghost use Rattle.program_arguments.specs.Options.{IsNumberIn, Reads};
+ghost use Rattle.program_arguments.specs.Options.{AreNumbersOf, IsNumberIn, Reads};
 ghost use Rattle.program_arguments.specs.Calls.{IsJournalIn, IsResumed, IsResuming, IsSession, IsShown};
 
 use crate::commands::{LINES, PLAIN, Subcommand};
@@ -101,6 +101,12 @@ const RESUMING: &[Argument] = &[
         help: "Leaves these commands out; --journal names the file for the rest",
         ..FREE
     },
+    Argument {
+        name: "last",
+        kind: Kind::Flag,
+        help: "Resumes the last journal of those that follow FILE: FILE.3 of FILE, FILE.2 and FILE.3",
+        ..FREE
+    },
     SYNC,
     Argument {
         needs: &["seats"],
@@ -172,9 +178,12 @@ fn until_in(matches: &ArgMatches<'_>) -> Option<u64>
 
 /// The numbers of a list that is parted by commas; an empty text is one of none.
 fn numbers_of(text: &str, faults: &mut Faults) -> Vec<u64>
-    ensures { Reads faults.old.are_none faults.new.are_none ⊤ }
+    ensures { Reads faults.old.are_none faults.new.are_none (AreNumbersOf text.now result.items) }
 {
     let mut numbers = Vec::new(faults.alloc);
+    if text.is_empty() {
+        return numbers;
+    }
     let mut are_fine = true;
     let mut are_kept = true;
     for word in text.split(',') {
@@ -183,10 +192,7 @@ fn numbers_of(text: &str, faults: &mut Faults) -> Vec<u64>
             Err(_) => are_fine = false,
         }
     }
-    faults.check(
-        are_fine || text.is_empty(),
-        "--without takes numbers separated by commas",
-    );
+    faults.check(are_fine, "--without takes numbers separated by commas");
     faults.keep(are_kept);
     numbers
 }
@@ -209,6 +215,7 @@ fn resuming_in(matches: &ArgMatches<'_>, file: &str, faults: &mut Faults) -> Res
     );
     Resuming {
         file: faults.own(file),
+        last: matches.get_flag("last"),
         until,
         without,
         sync,

@@ -297,6 +297,8 @@ pub struct NewJournal {
 pub struct Resuming {
     /// The name of the journal's file.
     pub file: String,
+    /// Whether it is the last journal that follows this one by its name: day.journal.3 after day.journal.
+    pub last: bool,
     /// The number of the last command that is carried out again; without one it is the journal's last.
     pub until: Option<u64>,
     /// The numbers of commands that aren't carried out again.

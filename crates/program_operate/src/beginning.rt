@@ -6,7 +6,7 @@ use crate::fault::OperateFault;
 use crate::opening::{Opened, Reading, labels_of, open_room};
 use bcd_1401::Graphics;
 use bytes_text::Text;
-use devices_1401::Card;
+use job_runner::CardList;
 use machine_tables::SwitchName;
 use operate_answers::put_head;
 use operate_program::Program;
@@ -21,7 +21,7 @@ pub(crate) struct Around {
     /// What is known of its program.
     pub program: Program,
     /// The cards for which the hopper has no room.
-    pub hand: Vec<Card>,
+    pub hand: CardList,
     /// What is said at the beginning.
     pub greeting: Text,
 }
@@ -31,7 +31,7 @@ impl Around {
     fn new(alloc: Global, program: Program) -> Around {
         Around {
             program,
-            hand: Vec::new(alloc),
+            hand: CardList::new(alloc),
             greeting: Text::new(alloc),
         }
     }

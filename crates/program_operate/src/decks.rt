@@ -4,9 +4,10 @@ ghost use Rattle.std.specs.Prelude.{◌≢◌, IfErr};
 use crate::beginning::Around;
 use crate::fault::{OperateFault, unready};
 use bcd_1401::Graphics;
-use devices_1401::{Card, MOST_HELD};
+use devices_1401::MOST_HELD;
+use job_runner::{CardList, Cards, Deck};
 use operate_answers::put_deck;
-use program_run::{RunFault, list_cards, read_cards};
+use program_run::{RunFault, read_cards};
 use room_alone::{Command, OWN_SEAT, Room, RoomFault};
 use std::alloc::Global;
 use std::rt::Files;
@@ -15,7 +16,7 @@ use std::rt::Files;
 #[derive(Drop)]
 pub(crate) struct NamedDeck {
     name: String,
-    cards: Vec<Card>,
+    cards: CardList,
 }
 
 impl NamedDeck {
@@ -34,7 +35,7 @@ impl NamedDeck {
         let Ok(label) = name.clone() else {
             return Err(OperateFault::Run(RunFault::Memory));
         };
-        match cards_of(rt, name, asked) {
+        match read_cards(rt, name, asked) {
             Ok(cards) => Ok(NamedDeck { name: label, cards }),
             Err(fault) => Err(OperateFault::Run(fault)),
         }
@@ -48,7 +49,7 @@ impl NamedDeck {
     pub(crate) fn feed(&self, room: &mut Room, around: &mut Around) -> Result<(), OperateFault>
         ensures { IfErr result (λ why. why ≢ OperateFault.Faulty) }
     {
-        feed_cards(room, self.cards.as_slice(), &mut around.hand)?;
+        feed_cards(room, &self.cards, &mut around.hand)?;
         put_deck(
             &mut around.greeting,
             self.name.as_bytes(),
@@ -60,38 +61,26 @@ impl NamedDeck {
     }
 }
 
-/// The cards of the file of this name, which has the graphics of the chain that was asked for.
-///
-/// # Errors
-///
-/// As those of `read_cards`.
-pub(crate) fn cards_of(
-    rt: &(impl Files + Eprint + AllocGlobal),
-    name: String,
-    asked: Option<Graphics>,
-) -> Result<Vec<Card>, RunFault> {
-    match read_cards(rt, name, asked) {
-        Ok(cards) => match list_cards(rt.alloc(), &cards) {
-            Ok(cards) => Ok(cards),
-            Err(_) => Err(RunFault::Memory),
-        },
-        Err(fault) => Err(fault),
-    }
-}
-
 /// Puts cards into the hopper, and those for which it has no room into the hand. Once a card is in hand, so is each
 /// after it.
-fn feed_cards(room: &mut Room, cards: &[Card], hand: &mut Vec<Card>) -> Result<(), OperateFault>
+fn feed_cards(room: &mut Room, cards: &CardList, hand: &mut CardList) -> Result<(), OperateFault>
     ensures { IfErr result (λ why. why ≢ OperateFault.Faulty) }
 {
-    for card in cards {
-        if usize::from(room.machine().regs().hopper) < MOST_HELD {
-            carry(room, Command::Feed { card: *card })?;
-        } else if hand.push(*card).is_err() {
-            return Err(OperateFault::Run(RunFault::Memory));
+    let mut deck = Deck::new(cards);
+    for _ in room.machine().regs().hopper..MOST_HELD as u16 {
+        match deck.next_card() {
+            Ok(Some(card)) => match carry(room, Command::Feed { card }) {
+                Ok(()) => {}
+                Err(fault) => return Err(fault),
+            },
+            // A deck in memory is always read.
+            Ok(None) | Err(_) => return Ok(()),
         }
     }
-    Ok(())
+    match hand.append(&deck) {
+        Ok(()) => Ok(()),
+        Err(_) => Err(OperateFault::Run(RunFault::Memory)),
+    }
 }
 
 /// Carries a command out, which is recorded.

@@ -1,14 +1,12 @@
 //! The files that a person names, and that of the journal.
 
-use crate::decks::cards_of;
 use bcd_1401::Graphics;
 use bytes_descriptors::read_whole;
 use bytes_streams::put_all;
-use devices_1401::Card;
-use job_runner::DeckTextFault;
+use job_runner::{CardList, DeckTextFault};
 use operate_console::{Desk, FileFault};
 use operate_sitting::Cutter;
-use program_run::RunFault;
+use program_run::{RunFault, read_cards};
 use room_alone::{NoKeeper, Room, Unkept};
 use room_files::{
     Durability, JournalFile, JournalFileFault, KeepFault, MadeJournal, TextKeeper, create_journal,
@@ -30,6 +28,7 @@ pub(crate) struct FileDesk<'a, R> {
     // The name of the journal's file; empty if it has none.
     kept: &'a str,
     transcript: Option<JournalFile>,
+    has_lost_transcript: bool,
 }
 
 impl<'a, R: Files<File = File> + Eprint + AllocGlobal> FileDesk<'a, R> {
@@ -40,6 +39,7 @@ impl<'a, R: Files<File = File> + Eprint + AllocGlobal> FileDesk<'a, R> {
             graphics,
             kept,
             transcript: None,
+            has_lost_transcript: false,
         }
     }
 
@@ -116,9 +116,9 @@ impl<'a, R: Files<File = File> + Eprint + AllocGlobal> Desk for FileDesk<'a, R> 
         }
     }
 
-    fn cards(&mut self, name: &[u8]) -> Result<Vec<Card>, FileFault> {
+    fn cards(&mut self, name: &[u8]) -> Result<CardList, FileFault> {
         let name = self.name_to_read(name)?;
-        match cards_of(self.rt, name, self.graphics) {
+        match read_cards(self.rt, name, self.graphics) {
             Ok(cards) => Ok(cards),
             Err(fault) => Err(no_deck(fault)),
         }
@@ -131,7 +131,7 @@ impl<'a, R: Files<File = File> + Eprint + AllocGlobal> Desk for FileDesk<'a, R> 
         }
     }
 
-    fn save(&mut self, name: &[u8], text: &[u8]) -> Result<(), FileFault> {
+    fn save(&mut self, name: &[u8], _room: &Room, text: &[u8]) -> Result<(), FileFault> {
         let MadeJournal { mut file, name } = self.make(name)?;
         match put_all(&mut file, text) {
             Ok(()) => Ok(()),
@@ -159,7 +159,12 @@ impl<'a, R: Files<File = File> + Eprint + AllocGlobal> Desk for FileDesk<'a, R> 
         if put_all(file, text).is_err() {
             let _ = eprintln!(self.rt; "ibm1401: the transcript cannot be written, and ends here");
             self.transcript = None;
+            self.has_lost_transcript = true;
         }
+    }
+
+    fn has_lost_transcript(&self) -> bool {
+        self.has_lost_transcript
     }
 
     fn kept_name(&self) -> &[u8] {

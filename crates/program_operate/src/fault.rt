@@ -1,8 +1,8 @@
 //! Why a person's console isn't begun, or how it ended.
 ghost use Rattle.std.specs.Prelude.{◌≡◌, ◌≢◌};
-ghost use Rattle.program_operate.specs.Outcome.{outcome};
+ghost use Rattle.program_operate.specs.Outcome.{failed_by, outcome};
 
-use operate_console::OperateEnd;
+use operate_console::{Failure, OperateEnd};
 use program_rooms::HoldFault;
 use program_run::RunFault;
 use room_alone::{RoomFault, SessionFault};
@@ -23,6 +23,12 @@ pub enum OperateFault {
     /// The file of this name, which was to have labels, has an image.
     #[error("{0}: an image has no labels")]
     NoLabels(String),
+    /// The file of this name, which was to have the first lines, is a pipe or a device: reading it might never end.
+    #[error("{0}: is not a regular file")]
+    Irregular(String),
+    /// A write of a transcript failed. That was reported at once.
+    #[error("a transcript is not whole")]
+    Transcript,
     /// A line had a fault, or what it asserted isn't so. Its answer says which.
     #[error("a line had a fault")]
     Faulty,
@@ -37,6 +43,19 @@ pub(crate) fn unready(fault: RoomFault) -> OperateFault
         RoomFault::Memory | RoomFault::NoReading | RoomFault::Unkept => OperateFault::Hold(
             HoldFault::Memory,
         ),
+    }
+}
+
+/// How a console ended by a failure is reported.
+fn ended_by(failure: Failure) -> HoldFault
+    ensures { result ≡ failed_by failure }
+{
+    match failure {
+        Failure::Write => HoldFault::Output,
+        Failure::Read => HoldFault::Session(SessionFault::Read),
+        Failure::Bound => HoldFault::Session(SessionFault::Bound),
+        Failure::Memory => HoldFault::Session(SessionFault::Memory),
+        Failure::Unkept => HoldFault::Session(SessionFault::Unkept),
     }
 }
 
@@ -56,10 +75,6 @@ pub(crate) fn ended(end: OperateEnd, counts: bool) -> Result<(), OperateFault>
                 Ok(())
             }
         }
-        OperateEnd::Write => Err(OperateFault::Hold(HoldFault::Output)),
-        OperateEnd::Read => Err(OperateFault::Hold(HoldFault::Session(SessionFault::Read))),
-        OperateEnd::Bound => Err(OperateFault::Hold(HoldFault::Session(SessionFault::Bound))),
-        OperateEnd::Memory => Err(OperateFault::Hold(HoldFault::Session(SessionFault::Memory))),
-        OperateEnd::Unkept => Err(OperateFault::Hold(HoldFault::Session(SessionFault::Unkept))),
+        OperateEnd::Failed(failure) => Err(OperateFault::Hold(ended_by(failure))),
     }
 }

@@ -1,6 +1,7 @@
 //! A person's console, from its files to its end.
-ghost use Rattle.std.specs.Prelude.{◌≡◌, ◌≢◌, ◌&&◌, nat_lt, not, Err, IfErr, OnOk};
-ghost use Rattle.program_operate.specs.Outcome.{Sat, limit_at, outcome};
+ghost use Rattle.std.specs.Prelude.{◌≡◌, ◌≢◌, ◌&&◌, length, nat_lt, not, Err, IfErr, IfOk, OnOk};
+ghost use Rattle.operate_sitting.specs.Notes.{held, no_notes};
+ghost use Rattle.program_operate.specs.Outcome.{Sat, SatAt, SatSomewhere, limit_at, outcome};
 
 use crate::beginning::{Around, Begun, around_again, begin};
 use crate::desk::{FileDesk, FileKeeper};
@@ -9,7 +10,7 @@ use crate::opening::Reading;
 use bcd_1401::Graphics;
 use bytes_descriptors::{FileFault, read_whole};
 use bytes_streams::{Source, ToWriter};
-use devices_1401::Card;
+use job_runner::CardList;
 use operate_console::{
     Beginning, Desk, Manner, OperateEnd, Operated, Script, Setting, Terminal, operate,
 };
@@ -24,9 +25,9 @@ use room_files::{
 };
 use std::alloc::Global;
 use std::fs::File;
-use std::io;
 use std::marker::Brand;
 use std::rt::Files;
+use std::{fs, io};
 
 /// What standard input and output are.
 #[derive(Clone, Copy)]
@@ -54,7 +55,7 @@ fn manner_of(ends: Ends, echo: bool, limit: u32) -> Manner
 ///
 /// # Errors
 ///
-/// `Run`, as `run` reports a file that can't be read.
+/// `Irregular`; `Run`, as `run` reports a file that can't be read.
 fn first_lines(
     rt: &(impl Files + AllocGlobal),
     name: Option<String>,
@@ -64,6 +65,13 @@ fn first_lines(
     let Some(name) = name else {
         return Ok(None);
     };
+    // A folder is refused as it is read.
+    match fs::metadata(rt, name.as_str()) {
+        Ok(metadata) if !metadata.is_file() && !metadata.is_dir() => {
+            return Err(OperateFault::Irregular(name));
+        }
+        Ok(_) | Err(_) => {}
+    }
     match read_whole(rt, name.as_str()) {
         Ok(text) => Ok(Some(Script {
             name: name.into_bytes(),
@@ -90,28 +98,17 @@ struct Console {
 fn sit_down<K: Keeper + Drop>(
     alloc: Global,
     room: KeptRoom<K>,
-    hand: Vec<Card>,
+    hand: CardList,
 ) -> Result<Sitting<K>, OperateFault>
-    ensures { IfErr result (λ why. why ≢ OperateFault.Faulty) }
+    ensures account { IfOk result (λ sitting. sitting.account ≡ room) }
+    ensures notes { IfOk result (λ sitting.
+        sitting.notes ≡ held hand (no_notes (length room.room.journal))) }
+    ensures fault { IfErr result (λ why. why ≢ OperateFault.Faulty) }
 {
-    match Sitting::new(alloc, room) {
-        Ok(sitting) => with_hand(sitting, hand),
-        Err(_) => Err(OperateFault::Run(RunFault::Memory)),
-    }
-}
-
-/// A sitting that has these cards in hand too.
-///
-/// # Errors
-///
-/// `Run` for memory.
-fn with_hand<K: Keeper + Drop>(
-    mut sitting: Sitting<K>,
-    hand: Vec<Card>,
-) -> Result<Sitting<K>, OperateFault>
-    ensures { IfErr result (λ why. why ≢ OperateFault.Faulty) }
-{
-    match sitting.hold(hand) {
+    let Ok(mut sitting) = Sitting::new(alloc, room) else {
+        return Err(OperateFault::Run(RunFault::Memory));
+    };
+    match sitting.hold(&hand) {
         Ok(()) => Ok(sitting),
         Err(_) => {
             drop(sitting);
@@ -166,7 +163,8 @@ fn answer_lines<
     desk: &mut D,
     reader: &mut I,
 ) -> Result<(), OperateFault>
-    ensures { Sat setting.now.manner.now.prompts setting.now.manner.now.limit result }
+    ensures { Sat setting.now.manner.now.prompts setting.now.manner.now.limit setting.now.program.now sitting
+        (I.has_failed reader.new) (I.left reader.new) result }
 {
     let mut writer = ToWriter::new(io::writer(rt));
     let operated = operate(setting, sitting, beginning, desk, reader, &mut writer);
@@ -177,7 +175,8 @@ fn answer_lines<
 ///
 /// # Errors
 ///
-/// `Run` for memory, `Hold` for how it ended, or `Faulty`.
+/// `Run` for memory, `Hold` for how it ended, `Faulty`, or `Transcript` if nothing else is wrong.
+#[tactic(auto, using(crate::proofs::SatLemmas::sat_at))]
 fn answer<R: Print + AllocGlobal, K: Keeper + Drop, D: Desk + Cutter<K>, I: Source + Terminal>(
     rt: &R,
     room: KeptRoom<K>,
@@ -186,8 +185,10 @@ fn answer<R: Print + AllocGlobal, K: Keeper + Drop, D: Desk + Cutter<K>, I: Sour
     console: Console,
     reader: &mut I,
 ) -> Result<(), OperateFault>
-    ensures ok { OnOk result (Sat console.manner.prompts console.manner.limit result) }
-    ensures faulty { result ≡ Err OperateFault.Faulty → Sat console.manner.prompts console.manner.limit result }
+    ensures ok { OnOk result (SatAt console.manner.prompts console.manner.limit around.program room around.hand
+        (I.has_failed reader.new) (I.left reader.new) result) }
+    ensures faulty { result ≡ Err OperateFault.Faulty → SatAt console.manner.prompts console.manner.limit
+        around.program room around.hand (I.has_failed reader.new) (I.left reader.new) result }
 {
     let Around {
         program,
@@ -208,7 +209,10 @@ fn answer<R: Print + AllocGlobal, K: Keeper + Drop, D: Desk + Cutter<K>, I: Sour
         greeting: greeting.as_slice(),
         first,
     };
-    answer_lines(rt, &setting, sitting, beginning, desk, reader)
+    match answer_lines(rt, &setting, sitting, beginning, desk, reader) {
+        Ok(()) if desk.has_lost_transcript() => Err(OperateFault::Transcript),
+        done => done,
+    }
 }
 
 /// A room whose journal a new file gets from here on, and what there is next to it.
@@ -251,6 +255,7 @@ fn kept_in(
 }
 
 /// Keeps a room in a new file, and answers the lines of a person at it.
+#[tactic(auto, using(crate::proofs::SatLemmas::sat_somewhere))]
 fn answer_in_new<R: Files<File = File> + Print + Eprint + AllocGlobal, I: Source + Terminal>(
     rt: &R,
     begun: Begun,
@@ -258,8 +263,10 @@ fn answer_in_new<R: Files<File = File> + Print + Eprint + AllocGlobal, I: Source
     console: Console,
     reader: &mut I,
 ) -> Result<(), OperateFault>
-    ensures ok { OnOk result (Sat console.manner.prompts console.manner.limit result) }
-    ensures faulty { result ≡ Err OperateFault.Faulty → Sat console.manner.prompts console.manner.limit result }
+    ensures ok { OnOk result (SatSomewhere console.manner.prompts console.manner.limit (I.has_failed reader.new)
+        (I.left reader.new) result) }
+    ensures faulty { result ≡ Err OperateFault.Faulty → SatSomewhere console.manner.prompts console.manner.limit
+        (I.has_failed reader.new) (I.left reader.new) result }
 {
     let Ok(label) = journal.file.clone() else {
         return Err(OperateFault::Run(RunFault::Memory));
@@ -324,6 +331,7 @@ fn take_up(
 }
 
 /// Goes on with the journal of a file, in the same file.
+#[tactic(auto, using(crate::proofs::SatLemmas::sat_somewhere))]
 fn go_on<R: Files<File = File> + Print + Eprint + AllocGlobal, I: Source + Terminal>(
     rt: &R,
     file: String,
@@ -332,8 +340,10 @@ fn go_on<R: Files<File = File> + Print + Eprint + AllocGlobal, I: Source + Termi
     console: Console,
     reader: &mut I,
 ) -> Result<(), OperateFault>
-    ensures ok { OnOk result (Sat console.manner.prompts console.manner.limit result) }
-    ensures faulty { result ≡ Err OperateFault.Faulty → Sat console.manner.prompts console.manner.limit result }
+    ensures ok { OnOk result (SatSomewhere console.manner.prompts console.manner.limit (I.has_failed reader.new)
+        (I.left reader.new) result) }
+    ensures faulty { result ≡ Err OperateFault.Faulty → SatSomewhere console.manner.prompts console.manner.limit
+        (I.has_failed reader.new) (I.left reader.new) result }
 {
     let Ok(label) = file.clone() else {
         return Err(OperateFault::Run(RunFault::Memory));
@@ -348,6 +358,7 @@ fn go_on<R: Files<File = File> + Print + Eprint + AllocGlobal, I: Source + Termi
 }
 
 /// Answers the lines of a person at a room, with a new file for its journal or without one.
+#[tactic(auto, using(crate::proofs::SatLemmas::sat_somewhere))]
 fn answer_begun<R: Files<File = File> + Print + Eprint + AllocGlobal, I: Source + Terminal>(
     rt: &R,
     begun: Begun,
@@ -355,8 +366,10 @@ fn answer_begun<R: Files<File = File> + Print + Eprint + AllocGlobal, I: Source 
     console: Console,
     reader: &mut I,
 ) -> Result<(), OperateFault>
-    ensures ok { OnOk result (Sat console.manner.prompts console.manner.limit result) }
-    ensures faulty { result ≡ Err OperateFault.Faulty → Sat console.manner.prompts console.manner.limit result }
+    ensures ok { OnOk result (SatSomewhere console.manner.prompts console.manner.limit (I.has_failed reader.new)
+        (I.left reader.new) result) }
+    ensures faulty { result ≡ Err OperateFault.Faulty → SatSomewhere console.manner.prompts console.manner.limit
+        (I.has_failed reader.new) (I.left reader.new) result }
 {
     match journal {
         Some(journal) => answer_in_new(rt, begun, journal, console, reader),
@@ -394,8 +407,10 @@ fn sit_at<R: Files<File = File> + Print + Eprint + AllocGlobal, I: Source + Term
     console: Console,
     reader: &mut I,
 ) -> Result<(), OperateFault>
-    ensures ok { OnOk result (Sat console.manner.prompts console.manner.limit result) }
-    ensures faulty { result ≡ Err OperateFault.Faulty → Sat console.manner.prompts console.manner.limit result }
+    ensures ok { OnOk result (SatSomewhere console.manner.prompts console.manner.limit (I.has_failed reader.new)
+        (I.left reader.new) result) }
+    ensures faulty { result ≡ Err OperateFault.Faulty → SatSomewhere console.manner.prompts console.manner.limit
+        (I.has_failed reader.new) (I.left reader.new) result }
 {
     match resumed {
         Some(resumed) => go_on(rt, resumed, file, reading, console, reader),
@@ -419,16 +434,18 @@ fn sit_at<R: Files<File = File> + Print + Eprint + AllocGlobal, I: Source + Term
 ///
 /// # Errors
 ///
-/// `Size`; `Run` or `Hold` as `run` and `console` report it; `NoLabels`; or `Faulty`, as above.
+/// `Size`; `Irregular`; `Run` or `Hold` as `run` and `console` report it; `NoLabels`; `Faulty`, as above; or
+/// `Transcript` if nothing else is wrong.
 pub fn operate_at<R: Files<File = File> + Print + Eprint + AllocGlobal, I: Source + Terminal>(
     rt: &R,
     asked: Operating,
     ends: Ends,
     reader: &mut I,
 ) -> Result<(), OperateFault>
-    ensures ok { OnOk result (Sat ends.is_typed (limit_at ends.is_typed asked.limit) result) }
-    ensures faulty { result ≡ Err OperateFault.Faulty
-        → Sat ends.is_typed (limit_at ends.is_typed asked.limit) result }
+    ensures ok { OnOk result (SatSomewhere ends.is_typed (limit_at ends.is_typed asked.limit)
+        (I.has_failed reader.new) (I.left reader.new) result) }
+    ensures faulty { result ≡ Err OperateFault.Faulty → SatSomewhere ends.is_typed
+        (limit_at ends.is_typed asked.limit) (I.has_failed reader.new) (I.left reader.new) result }
 {
     let Operating {
         file,

@@ -1,17 +1,7 @@
 //! How rooms end.
+ghost use Rattle.std.specs.Prelude.{◌≡◌, Ok, OnOk};
 
 use crate::fault::{OpenFault, not_told};
-
-/// What went wrong first.
-pub(crate) fn first_of(
-    before: Result<(), OpenFault>,
-    now: Result<(), OpenFault>,
-) -> Result<(), OpenFault> {
-    match before {
-        Ok(()) => now,
-        Err(fault) => Err(fault),
-    }
-}
 
 /// Reports on standard output how many commands the journal of a room has that ended so.
 ///
@@ -22,7 +12,12 @@ pub(crate) fn tell_end(
     rt: &impl Print,
     commands: usize,
     outcome: Result<(), OpenFault>,
-) -> Result<(), OpenFault> {
+) -> Result<(), OpenFault>
+    ensures { OnOk result (outcome ≡ Ok tt) }
+{
     let told = println!(rt; "JOURNAL {commands}").map_err(not_told);
-    first_of(outcome, told)
+    match outcome {
+        Ok(()) => told,
+        Err(fault) => Err(fault),
+    }
 }

@@ -1,45 +1,52 @@
 //! The ports at which the operators of a room come.
-ghost use Rattle.std.specs.Prelude.{◌≤◌, option_copied, IfOk, vec_len};
-ghost use Rattle.program_rooms.specs.Pages.{IsOutsideAt, IsPageAt};
+ghost use Rattle.std.specs.Prelude.{◌≡◌, ◌<◌, length, option_copied, IfOk};
+ghost use Rattle.program_rooms.specs.Pages.{ArePages, IsAtLoopback, IsOpenFor, IsOutsideAt, IsPageAt, IsPagePort};
 
 use crate::HoldFault;
-use crate::fault::{OpenFault, not_told};
+use crate::fault::OpenFault;
 use bytes_descriptors::lengthen_queue;
 use program_call::Operators;
 use serving_http::{Origin, Site, origin_after};
-use serving_room::PagePort;
+use serving_room::{Listening, PagePort};
 use std::alloc::Global;
-use std::io;
-use std::net::{Ipv4Addr, Net, TcpListener, TcpStream};
+use std::net::{Net, TcpListener, TcpStream};
+
+/// The octets of the loopback, 127.0.0.1: nobody comes there but from this machine.
+const LOOPBACK: [u8; 4] = [127, 0, 0, 1];
 
 /// The listeners at these ports.
 #[derive(Drop)]
 pub(crate) struct Entrances {
     /// The listener for consoles, if there are any.
-    pub consoles: Option<TcpListener>,
+    pub consoles: Option<Listening>,
     /// The listeners for pages, that of seat 1 first.
     pub pages: Vec<PagePort>,
 }
 
-/// The listener at this port of 127.0.0.1, with a long queue.
-fn listener_at(
+/// The listener at this port of the loopback.
+///
+/// # Errors
+///
+/// `Port`.
+pub(crate) fn listener_at(
     rt: &impl Net<Listener = TcpListener, Stream = TcpStream>,
     port: u16,
-) -> Result<TcpListener, OpenFault> {
-    let Ok(listener) = TcpListener::bind(rt, (Ipv4Addr::LOCALHOST, port)) else {
-        return Err(OpenFault::Port);
-    };
-    lengthen_queue(&listener);
-    Ok(listener)
+) -> Result<Listening, OpenFault>
+    ensures { IfOk result (IsAtLoopback port) }
+{
+    match Listening::at(rt, LOOPBACK, port) {
+        Ok(listening) => Ok(listening),
+        Err(_) => Err(OpenFault::Port),
+    }
 }
 
-/// Listens again at the ports of a room that has ended, for the one that follows.
+/// Has the listeners of a room listen with a long queue, at first and again for each room that follows.
 pub(crate) fn listen_again(entrances: &Entrances) {
-    if let Some(listener) = &entrances.consoles {
-        lengthen_queue(listener);
+    if let Some(consoles) = &entrances.consoles {
+        lengthen_queue(consoles.listener());
     }
     for page in entrances.pages.as_slice() {
-        lengthen_queue(&page.listener);
+        lengthen_queue(page.listening.listener());
     }
 }
 
@@ -53,7 +60,7 @@ pub(crate) fn open_entrances<R: AllocGlobal + Net<Listener = TcpListener, Stream
     operators: Operators,
     origin: Option<&Origin>,
 ) -> Result<Entrances, OpenFault>
-    ensures { IfOk result (λ entrances. vec_len entrances.pages ≤ operators.seats) }
+    ensures { IfOk result (IsOpenFor operators (option_copied origin.entry)) }
 {
     let consoles = match operators.port {
         Some(port) => Some(listener_at(rt, port)?),
@@ -63,7 +70,9 @@ pub(crate) fn open_entrances<R: AllocGlobal + Net<Listener = TcpListener, Stream
         Some(first) => open_pages(rt, first, operators.seats, origin)?,
         None => Vec::new(rt.alloc()),
     };
-    Ok(Entrances { consoles, pages })
+    let entrances = Entrances { consoles, pages };
+    listen_again(&entrances);
+    Ok(entrances)
 }
 
 /// Where a proxy brings the page of the seat that is so many places after the first.
@@ -96,63 +105,75 @@ fn site_at(
     let Some(port) = first.checked_add(u16::from(places)) else {
         return Err(OpenFault::Port);
     };
-    let outside = outside_at(alloc, origin, places)?;
+    let outside = match outside_at(alloc, origin, places) {
+        Ok(outside) => outside,
+        Err(fault) => return Err(fault),
+    };
     match Site::new(alloc, port, outside) {
         Ok(site) => Ok(site),
         Err(_) => Err(OpenFault::Hold(HoldFault::Memory)),
     }
 }
 
-/// The listener of the page of the seat that is so many places after the first.
+/// The page of the seat that is so many places after the first, and its listener.
 fn page_at<R: AllocGlobal + Net<Listener = TcpListener, Stream = TcpStream>>(
     rt: &R,
     first: u16,
     origin: Option<&Origin>,
     places: u8,
-) -> Result<PagePort, OpenFault> {
+) -> Result<PagePort, OpenFault>
+    requires { places < 255 }
+    ensures { IfOk result (IsPagePort first (option_copied origin.entry) places) }
+{
     let site = site_at(rt.alloc(), first, origin, places)?;
     match listener_at(rt, site.port()) {
-        Ok(listener) => Ok(PagePort { site, listener }),
+        Ok(listening) => Ok(PagePort {
+            seat: places + 1,
+            site,
+            listening,
+        }),
         Err(fault) => Err(fault),
     }
 }
 
 /// The listeners of as many pages as seats, from this port on; one beyond the last port is refused.
+#[tactic(auto, using(crate::proofs::PagesLemmas::one_page_more))]
 fn open_pages<R: AllocGlobal + Net<Listener = TcpListener, Stream = TcpStream>>(
     rt: &R,
     first: u16,
     seats: u8,
     origin: Option<&Origin>,
 ) -> Result<Vec<PagePort>, OpenFault>
-    ensures { IfOk result (λ pages. vec_len pages ≤ seats) }
+    ensures pages { IfOk result (λ pages. ArePages first (option_copied origin.entry) 0 pages.items) }
+    ensures all { IfOk result (λ pages. length pages.items ≡ seats) }
 {
     let mut pages = Vec::new(rt.alloc());
-    for seat in 0..seats {
-        if pages.push(page_at(rt, first, origin, seat)?).is_err() {
+    for places in 0..seats {
+        if pages.push(page_at(rt, first, origin, places)?).is_err() {
             return Err(OpenFault::Hold(HoldFault::Memory));
         }
     }
     Ok(pages)
 }
 
-/// Tells on standard output that the room is open, and where each page is, here and outside.
+/// Reports on standard output that the room is open, and where each page is, here and outside.
 ///
 /// # Errors
 ///
 /// `Hold` with `Output` if standard output takes nothing.
 pub(crate) fn tell_ready(rt: &impl Print, pages: &[PagePort]) -> Result<(), OpenFault> {
-    println!(rt; "READY").map_err(not_told)?;
-    for (before, page) in pages.iter().enumerate() {
-        print_page(rt, before + 1, &page.site).map_err(not_told)?;
+    if println!(rt; "READY").is_err() {
+        return Err(OpenFault::Hold(HoldFault::Output));
+    }
+    for page in pages {
+        let (seat, port) = (page.seat, page.site.port());
+        let told = match page.site.outside() {
+            None => println!(rt; "SEAT {seat} http://127.0.0.1:{port}/"),
+            Some(outside) => println!(rt; "SEAT {seat} http://127.0.0.1:{port}/ {outside}/"),
+        };
+        if told.is_err() {
+            return Err(OpenFault::Hold(HoldFault::Output));
+        }
     }
     Ok(())
-}
-
-/// Prints where the page of a seat is.
-fn print_page(rt: &impl Print, seat: usize, site: &Site) -> io::Result<()> {
-    let port = site.port();
-    match site.outside() {
-        None => println!(rt; "SEAT {seat} http://127.0.0.1:{port}/"),
-        Some(outside) => println!(rt; "SEAT {seat} http://127.0.0.1:{port}/ {outside}/"),
-    }
 }

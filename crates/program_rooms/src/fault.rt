@@ -33,7 +33,7 @@ pub enum OpenFault {
     Seats(SeatsFault),
 }
 
-/// Standard output took nothing of what is told.
+/// Standard output took nothing of a report.
 pub(crate) fn not_told(_: io::Error) -> OpenFault {
     OpenFault::Hold(HoldFault::Output)
 }

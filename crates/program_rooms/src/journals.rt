@@ -2,6 +2,7 @@
 ghost use Rattle.std.specs.Prelude.{IfOk};
 ghost use Rattle.program_rooms.specs.Choosing.{HasChosen};
 
+use crate::journal_names::last_of;
 use crate::loading::{load_file, loaded_room, read_file};
 use crate::session_fault::{HoldFault, console_fault, ended};
 use bytes_streams::{FromReader, Sink, Source, ToWriter};
@@ -21,7 +22,7 @@ use std::io;
 use std::marker::Brand;
 use std::rt::Files;
 
-/// Shows the journal of a file, or checks it and tells how many entries it has.
+/// Shows the journal of a file, or checks it and reports how many entries it has.
 ///
 /// # Errors
 ///
@@ -42,7 +43,13 @@ pub fn journal_file<R: Files<File = File> + Print + AllocGlobal>(
         Err(fault) => return Err(HoldFault::Kept(KeepFault::of_file(file, fault))),
     };
     if check {
-        return tell_entries(rt, file, check_journal(rt.alloc(), text.as_slice()));
+        return match check_journal(rt.alloc(), text.as_slice()) {
+            Ok(entries) => match println!(rt; "{entries} entries") {
+                Ok(()) => Ok(()),
+                Err(_) => Err(HoldFault::Output),
+            },
+            Err(fault) => Err(no_journal(file, fault)),
+        };
     }
     let mut writer = ToWriter::new(io::writer(rt));
     match show_journal(
@@ -61,18 +68,6 @@ pub fn journal_file<R: Files<File = File> + Print + AllocGlobal>(
 /// What it means that the file of this name has no journal, or that memory was refused.
 fn no_journal(file: String, fault: JournalFault) -> HoldFault {
     HoldFault::Kept(KeepFault::of_journal(file, fault))
-}
-
-/// Tells how many entries a journal has.
-fn tell_entries(
-    rt: &impl Print,
-    file: String,
-    entries: Result<usize, JournalFault>,
-) -> Result<(), HoldFault> {
-    match entries {
-        Ok(entries) => println!(rt; "{entries} entries").map_err(|_| HoldFault::Output),
-        Err(fault) => Err(no_journal(file, fault)),
-    }
 }
 
 /// A room of this size at power-on, whose machine is then fitted with these features.
@@ -96,10 +91,10 @@ fn begun_room(
 ) -> Result<Room, HoldFault> {
     match opening {
         Opening::PowerOn(size, features) => new_room(rt.alloc(), size, features),
-        Opening::Image(file, features) => {
-            let text = read_file(rt, file)?;
-            loaded_room(rt.alloc(), text.as_slice(), features)
-        }
+        Opening::Image(file, features) => match read_file(rt, file) {
+            Ok(text) => loaded_room(rt.alloc(), text.as_slice(), features),
+            Err(fault) => Err(fault),
+        },
         Opening::Journal(asked) => read_chosen(rt, asked),
     }
 }
@@ -117,11 +112,21 @@ pub fn hold_session<R: Files<File = File> + Input + Print + Eprint + AllocGlobal
     asked: Session,
 ) -> Result<(), HoldFault> {
     let Session { opening, journal } = asked;
+    let opening = match opening {
+        Opening::Journal(asked) => match last_of(rt, asked) {
+            Ok(asked) => Opening::Journal(asked),
+            Err(fault) => return Err(HoldFault::Kept(fault)),
+        },
+        other => other,
+    };
     let mut reader = FromReader::new(rt.reader());
     let mut writer = ToWriter::new(io::writer(rt));
     match journal {
         None => hold_unkept(rt, opening, &mut reader, &mut writer),
-        Some(journal) => hold_kept(rt, opening, journal, &mut reader, &mut writer),
+        Some(journal) => match begun_room(rt, opening) {
+            Ok(room) => keep_in_new(rt, room, journal, &mut reader, &mut writer),
+            Err(fault) => Err(fault),
+        },
     }
 }
 
@@ -139,22 +144,11 @@ fn hold_unkept<R: Source, W: Sink>(
         Opening::Image(file, features) => load_file(rt, file, features, reader, writer),
         Opening::Journal(asked) => match asked.until {
             None => go_on(rt, asked.file, durability_of(asked.sync), reader, writer),
-            Some(_) => look_at(rt.alloc(), read_chosen(rt, asked)?, reader, writer),
+            Some(_) => match read_chosen(rt, asked) {
+                Ok(room) => look_at(rt.alloc(), room, reader, writer),
+                Err(fault) => Err(fault),
+            },
         },
-    }
-}
-
-/// The same with a new file for its journal.
-fn hold_kept<R: Source, W: Sink>(
-    rt: &(impl Files<File = File> + AllocGlobal),
-    opening: Opening,
-    journal: NewJournal,
-    reader: &mut R,
-    writer: &mut W,
-) -> Result<(), HoldFault> {
-    match begun_room(rt, opening) {
-        Ok(room) => keep_in_new(rt, room, journal, reader, writer),
-        Err(fault) => Err(fault),
     }
 }
 
@@ -169,7 +163,10 @@ fn hold_console<R: Source, W: Sink>(
     if features == Features::NONE {
         return console(alloc, size, reader, writer).map_err(console_fault);
     }
-    look_at(alloc, new_room(alloc, size, features)?, reader, writer)
+    match new_room(alloc, size, features) {
+        Ok(room) => look_at(alloc, room, reader, writer),
+        Err(fault) => Err(fault),
+    }
 }
 
 /// What an entry outlasts, with `--sync` or without.
@@ -250,7 +247,10 @@ fn chosen_room(
         }
     }
     let size = room.machine().core().size();
-    carry_chosen(alloc, size, room.journal(), until, without).map_err(|_| HoldFault::Memory)
+    match carry_chosen(alloc, size, room.journal(), until, without) {
+        Ok(room) => Ok(room),
+        Err(_) => Err(HoldFault::Memory),
+    }
 }
 
 /// Holds a session at the console of a room, of which nothing is kept.
@@ -264,7 +264,7 @@ fn look_at<R: Source, W: Sink>(
     ended(session(alloc, &mut room, reader, writer))
 }
 
-/// Tells on standard error which line was cut off, if one was.
+/// Reports on standard error which line was cut off, if one was.
 pub fn tell_cut(rt: &impl Eprint, cut: Option<u32>) {
     if let Some(line) = cut {
         let _ = eprintln!(rt; "ibm1401: line {line} was unfinished and was discarded");

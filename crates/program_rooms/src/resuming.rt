@@ -1,5 +1,5 @@
 //! Rooms that operators share, and that begin with a journal.
-ghost use Rattle.std.specs.Prelude.{◌≡◌, ◌≤◌, ℕ, false, Some, Err, All, vec_len, IfOk, OnOk};
+ghost use Rattle.std.specs.Prelude.{◌≡◌, ℕ, false, Some, Err, All, IfOk, OnOk};
 ghost use Rattle.room_alone.specs.Journal.{state_of};
 ghost use Rattle.room_files.specs.JournalText.{journal_text};
 ghost use Rattle.serving_seats.specs.Giving.{IsSeated, foreign_in};
@@ -9,14 +9,14 @@ ghost use Rattle.program_rooms.specs.Beginning.{FitsAlone};
 use crate::beginning::{Before, Program};
 use crate::entrances::Entrances;
 use crate::fault::{OpenFault, not_kept};
-use crate::journal_names::JournalNames;
+use crate::journal_names::{NamedJournals, last_of};
 use crate::seating::serve_new;
 use crate::succession::{Rooms, Turn, serve_others, serve_rooms};
 use crate::{HoldFault, durability_of, read_chosen, tell_cut};
 use bytes_streams::Sink;
 use program_call::Resuming;
 use room_1401::{Entry, Room};
-use room_files::{FoundJournal, JournalFile, TakenUp, find_journal, verify_journal};
+use room_files::{JournalFile, TakenUp, find_journal, verify_journal};
 use serving_room::{Watch, foreign_seat};
 use std::fs::File;
 use std::io::StdinLock;
@@ -53,21 +53,21 @@ pub(crate) fn resume_seats<
 >(
     rt: &R,
     asked: Resuming,
-    names: Option<JournalNames>,
+    journals: Option<NamedJournals<'_, R>>,
     seats: u8,
     minutes: Option<u16>,
     entrances: &Entrances,
-) -> Result<(), OpenFault>
-    requires { vec_len entrances.now.pages ≤ seats }
-{
-    if names.is_none() && asked.until.is_none() {
-        go_on(rt, asked.file, asked.sync, seats, minutes, entrances)
-    } else {
-        begin_again(rt, asked, names, seats, minutes, entrances)
+) -> Result<(), OpenFault> {
+    match last_of(rt, asked) {
+        Ok(asked) if journals.is_none() && asked.until.is_none() => {
+            go_on(rt, asked.file, asked.sync, seats, minutes, entrances)
+        }
+        Ok(asked) => begin_again(rt, asked, journals, seats, minutes, entrances),
+        Err(fault) => Err(not_kept(fault)),
     }
 }
 
-/// Opens a room whose journal isn't the one that it begins with, and those that follow it.
+/// Opens a room that begins with another journal than its own, and those that follow it.
 fn begin_again<
     R: Threads
         + Wait
@@ -82,20 +82,18 @@ fn begin_again<
 >(
     rt: &R,
     asked: Resuming,
-    names: Option<JournalNames>,
+    journals: Option<NamedJournals<'_, R>>,
     seats: u8,
     minutes: Option<u16>,
     entrances: &Entrances,
-) -> Result<(), OpenFault>
-    requires { vec_len entrances.now.pages ≤ seats }
-{
+) -> Result<(), OpenFault> {
     match room_of(rt, asked, seats) {
         Ok(room) => {
             let rooms = Rooms {
                 size: room.machine().core().size(),
                 seats,
                 before: fitted_alike(&room),
-                names,
+                journals,
                 minutes,
             };
             serve_rooms(rt, &rooms, &Before::Journal(&room), entrances)
@@ -152,52 +150,25 @@ fn go_on<
     seats: u8,
     minutes: Option<u16>,
     entrances: &Entrances,
-) -> Result<(), OpenFault>
-    requires { vec_len entrances.now.pages ≤ seats }
-{
-    match JournalNames::from_file(rt.alloc(), file.as_str(), sync) {
-        Ok(names) => match take_up(rt, file, sync, seats) {
-            Ok(taken) => serve_taken_up(rt, taken, names, seats, minutes, entrances),
-            Err(fault) => Err(fault),
-        },
-        Err(_) => Err(OpenFault::Hold(HoldFault::Memory)),
-    }
-}
-
-/// Serves the room of a journal that was taken up, and those that follow it.
-fn serve_taken_up<
-    R: Threads
-        + Wait
-        + Sync
-        + Clock
-        + RandomSource
-        + Input<Reader = StdinLock<'static>>
-        + Print
-        + Eprint
-        + AllocGlobal
-        + Files<File = File>,
->(
-    rt: &R,
-    taken: TakenUp,
-    names: JournalNames,
-    seats: u8,
-    minutes: Option<u16>,
-    entrances: &Entrances,
-) -> Result<(), OpenFault>
-    requires pages { vec_len entrances.now.pages ≤ seats }
-    requires good { ⟦<JournalFile as Sink>⟧.has_failed taken.file ≡ false }
-    requires text { taken.text.items ≡ journal_text taken.room.size taken.room.journal }
-{
-    let rooms = Rooms {
-        size: taken.room.machine().core().size(),
-        seats,
-        before: fitted_alike(&taken.room),
-        names: Some(names),
-        minutes,
+) -> Result<(), OpenFault> {
+    let Ok(journals) = NamedJournals::from_file(rt, file.as_str(), sync) else {
+        return Err(OpenFault::Hold(HoldFault::Memory));
     };
-    let watch = Watch::new(minutes, false);
-    let served = verify_room(rt, taken, seats, entrances, &watch);
-    serve_others(rt, &rooms, served, &watch, entrances)
+    match take_up(rt, file, sync, seats) {
+        Ok(taken) => {
+            let rooms = Rooms {
+                size: taken.room.machine().core().size(),
+                seats,
+                before: fitted_alike(&taken.room),
+                journals: Some(journals),
+                minutes,
+            };
+            let watch = Watch::new(minutes, false);
+            let served = verify_room(rt, taken, seats, entrances, &watch);
+            serve_others(rt, &rooms, served, &watch, entrances)
+        }
+        Err(fault) => Err(fault),
+    }
 }
 
 /// Takes up a journal whose seats the room has.
@@ -212,23 +183,15 @@ fn take_up(
 {
     match find_journal(rt, file, durability_of(sync)) {
         Ok(found) => match expect_seats(found.entries(), 1, seats) {
-            Ok(()) => take_up_found(rt, found),
+            Ok(()) => match found.take_up() {
+                Ok(taken) => {
+                    tell_cut(rt, taken.cut);
+                    Ok(taken)
+                }
+                Err(fault) => Err(not_kept(fault)),
+            },
             Err(fault) => Err(fault),
         },
-        Err(fault) => Err(not_kept(fault)),
-    }
-}
-
-/// Takes up a journal that was found.
-fn take_up_found(rt: &impl Eprint, found: FoundJournal) -> Result<TakenUp, OpenFault>
-    ensures good { IfOk result (λ taken. ⟦<JournalFile as Sink>⟧.has_failed taken.file ≡ false) }
-    ensures text { IfOk result (λ taken. taken.text.items ≡ journal_text taken.room.size taken.room.journal) }
-{
-    match found.take_up() {
-        Ok(taken) => {
-            tell_cut(rt, taken.cut);
-            Ok(taken)
-        }
         Err(fault) => Err(not_kept(fault)),
     }
 }
@@ -245,8 +208,13 @@ fn verify_room<
         + Eprint
         + AllocGlobal
         + Files<File = File>,
->(rt: &R, taken: TakenUp, seats: u8, entrances: &Entrances, watch: &Watch) -> Result<(), OpenFault>
-    requires pages { vec_len entrances.now.pages ≤ seats }
+>(
+    rt: &R,
+    taken: TakenUp,
+    seats: u8,
+    entrances: &Entrances,
+    watch: &Watch,
+) -> Result<usize, OpenFault>
     requires good { ⟦<JournalFile as Sink>⟧.has_failed taken.file ≡ false }
     requires text { taken.text.items ≡ journal_text taken.room.size taken.room.journal }
 {

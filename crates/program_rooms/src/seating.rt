@@ -1,15 +1,16 @@
 //! What the subcommand `serve` does if seats are taken again, and what such rooms have in common.
-ghost use Rattle.std.specs.Prelude.{◌≡◌, ◌<◌, ◌≤◌, ◌^◌, [], false, vec_len};
+ghost use Rattle.std.specs.Prelude.{◌≡◌, ◌<◌, ◌^◌, [], false, IfOk};
 ghost use Rattle.std.specs.Io.KnownBytes.{Appends};
 ghost use Rattle.console_1401.specs.Served.{AreAllSeats};
 ghost use Rattle.room_alone.specs.Kept.{kept_text};
+ghost use Rattle.program_rooms.specs.Kept.{IsKeptWhole};
 ghost use Rattle.program_rooms.specs.Outcome.{seats_outcome};
 
 use crate::beginning::{Before, Program, begin};
 use crate::ending::tell_end;
 use crate::entrances::{Entrances, open_entrances, tell_ready};
 use crate::fault::{OpenFault, not_told};
-use crate::journal_names::JournalNames;
+use crate::journal_names::NamedJournals;
 use crate::resuming::resume_seats;
 use crate::serving::start_fault;
 use crate::succession::{Rooms, Turn, serve_rooms};
@@ -25,8 +26,7 @@ use room_alone::SessionFault;
 use room_files::MadeName;
 use serving_http::Origin;
 use serving_room::{
-    Listeners, NotingKeeper, PagePort, SeatsFault, SeatsServed, TakingTurns, UntilRenewed,
-    serve_seats,
+    Listeners, NotingKeeper, SeatsFault, SeatsServed, TakingTurns, UntilRenewed, serve_seats,
 };
 use std::fs::File;
 use std::io::StdinLock;
@@ -108,11 +108,16 @@ pub fn machine_of(rt: &(impl Files + AllocGlobal), opening: Opening) -> Result<M
                 Err(OpenFault::Hold(HoldFault::Size))
             }
         }
-        Opening::Image(name, features) => {
-            let text = read_file(rt, name).map_err(OpenFault::Hold)?;
-            let size = image_of(text.as_slice())?.size();
-            Ok(Machine::New(size, features, Some(text)))
-        }
+        Opening::Image(name, features) => match read_file(rt, name) {
+            Ok(text) => {
+                let size = match image_of(text.as_slice()) {
+                    Ok(image) => image.size(),
+                    Err(fault) => return Err(fault),
+                };
+                Ok(Machine::New(size, features, Some(text)))
+            }
+            Err(fault) => Err(OpenFault::Hold(fault)),
+        },
         Opening::Journal(asked) => Ok(Machine::Journal(asked)),
     }
 }
@@ -122,7 +127,7 @@ pub fn machine_of(rt: &(impl Files + AllocGlobal), opening: Opening) -> Result<M
 /// and have no cards. The journal is kept in a new file, or in that of the journal that the machine begins with, if all
 /// commands of that were asked for; or it isn't kept.
 ///
-/// It tells on standard output when it listens, with the address of each page, and at the end how many commands the
+/// It reports on standard output when it listens, with the address of each page, and at the end how many commands the
 /// journal has. QUIT on standard input, or its end, closes the room. If a number of minutes is given, a new room
 /// follows whenever a page asks for it, no command was given for so many minutes, or a minute after its journal had
 /// 95,000 entries: with the same features, image and cards, or after that of a journal with its features alone.
@@ -157,12 +162,15 @@ pub fn open_seats<
 ) -> Result<(), OpenFault> {
     match open_entrances(rt, operators, origin.as_ref()) {
         Ok(entrances) => {
-            let names = journal.map(JournalNames::new);
+            let journals = match journal {
+                Some(journal) => Some(NamedJournals::new(rt, journal)),
+                None => None,
+            };
             serve_machine(
                 rt,
                 machine,
                 cards,
-                names,
+                journals,
                 operators.seats,
                 minutes,
                 &entrances,
@@ -188,33 +196,53 @@ fn serve_machine<
     rt: &R,
     machine: Machine,
     cards: Vec<Card>,
-    names: Option<JournalNames>,
+    journals: Option<NamedJournals<'_, R>>,
     seats: u8,
     minutes: Option<u16>,
     entrances: &Entrances,
-) -> Result<(), OpenFault>
-    requires { vec_len entrances.now.pages ≤ seats }
-{
+) -> Result<(), OpenFault> {
     match machine {
         Machine::New(size, features, text) => match program_of(features, &text, cards.as_slice()) {
-            Ok(before) => {
-                let rooms = Rooms {
-                    size,
-                    seats,
-                    before,
-                    names,
-                    minutes,
-                };
-                serve_rooms(rt, &rooms, &rooms.before, entrances)
-            }
+            Ok(before) => serve_before(rt, size, seats, before, journals, minutes, entrances),
             Err(fault) => Err(fault),
         },
-        Machine::Journal(asked) => resume_seats(rt, asked, names, seats, minutes, entrances),
+        Machine::Journal(asked) => resume_seats(rt, asked, journals, seats, minutes, entrances),
     }
 }
 
-/// Opens a room by a keeper that has the head of its journal, and serves it in its turn; if it doesn't come about, the
-/// file that was made for it is taken away.
+/// Opens rooms that each begin with this.
+fn serve_before<
+    R: Threads
+        + Wait
+        + Sync
+        + Clock
+        + RandomSource
+        + Input<Reader = StdinLock<'static>>
+        + Print
+        + Eprint
+        + AllocGlobal
+        + Files<File = File>,
+>(
+    rt: &R,
+    size: u16,
+    seats: u8,
+    before: Before<'_>,
+    journals: Option<NamedJournals<'_, R>>,
+    minutes: Option<u16>,
+    entrances: &Entrances,
+) -> Result<(), OpenFault> {
+    let rooms = Rooms {
+        size,
+        seats,
+        before,
+        journals,
+        minutes,
+    };
+    serve_rooms(rt, &rooms, &rooms.before, entrances)
+}
+
+/// Opens a room by a keeper that has the head of its journal, and serves it in its turn; gives how many entries the
+/// keeper has then. If the room doesn't come about, the file that was made for it is taken away.
 pub(crate) fn serve_new<
     R: Threads
         + Wait
@@ -234,10 +262,10 @@ pub(crate) fn serve_new<
     keeper: K,
     made: Option<MadeName>,
     turn: Turn<'_>,
-) -> Result<(), OpenFault>
-    requires pages { vec_len turn.entrances.now.pages ≤ seats }
+) -> Result<usize, OpenFault>
     requires good { K.has_failed keeper ≡ false }
     requires kept { Appends K.first (K.kept keeper) (kept_text K.form size []) }
+    ensures { IfOk result (IsKeptWhole K.has_failed K.kept K.first K.form size) }
 {
     let opened = Opened::new(seats);
     let keeper = NotingKeeper::new(keeper, turn.watch, rt);
@@ -266,13 +294,13 @@ fn serve_room<
     keeper: K,
     made: Option<MadeName>,
     turn: Turn<'_>,
-) -> Result<(), OpenFault>
+) -> Result<usize, OpenFault>
     requires history { opened.book ≡ J.book }
     requires ledger { (opened.ledger ≡ J.name) × (opened.parts ≡ J.parts) × (J.parts ≡ J.seats) }
     requires named { (size ≡ J.size) × (seats ≡ J.seats) }
-    requires pages { vec_len turn.entrances.now.pages ≤ seats }
     requires good { K.has_failed keeper ≡ false }
     requires kept { Appends K.first (K.kept keeper) (kept_text K.form size []) }
+    ensures { IfOk result (IsKeptWhole K.has_failed K.kept K.first K.form size) }
 {
     let alloc = rt.alloc();
     match SharedRoom::<J, &R, K>::power_on_kept(rt, alloc, size, seats, opened, keeper) {
@@ -304,11 +332,11 @@ fn serve_begun<
     mut seats: Vec<Seat<J>>,
     made: Option<MadeName>,
     turn: Turn<'_>,
-) -> Result<(), OpenFault>
+) -> Result<usize, OpenFault>
     requires ledger { J.parts ≡ J.seats }
     requires seats { AreAllSeats J.seats seats.items }
     requires count { (0 < J.seats) × (J.seats < 2 ^ 8) }
-    requires pages { vec_len turn.entrances.now.pages ≤ J.seats }
+    ensures { IfOk result (IsKeptWhole K.has_failed K.kept K.first K.form J.size) }
 {
     match get_ready(rt, &room, &mut seats, made, turn) {
         Ok(()) => {
@@ -339,7 +367,13 @@ fn get_ready<J: RoomId, H: Wait + Drop, K: Keeper + Drop, R: Wait + Print + File
     ensures { AreAllSeats J.seats seats.new.items }
 {
     match begin(rt, room, seats, turn.before) {
-        Ok(()) => report_open(rt, turn.number, turn.entrances.pages.as_slice()),
+        Ok(()) => {
+            let number = turn.number;
+            if number == 1 {
+                return tell_ready(rt, turn.entrances.pages.as_slice());
+            }
+            println!(rt; "ROOM {number}").map_err(not_told)
+        }
         Err(fault) => {
             remove(rt, made);
             Err(fault)
@@ -367,11 +401,11 @@ fn serve_by<
     seats: Vec<Seat<J>>,
     turn: Turn<'_>,
     input: S,
-) -> Result<(), OpenFault>
+) -> Result<usize, OpenFault>
     requires ledger { J.parts ≡ J.seats }
     requires seats { AreAllSeats J.seats seats.items }
     requires count { (0 < J.seats) × (J.seats < 2 ^ 8) }
-    requires pages { vec_len turn.entrances.now.pages ≤ J.seats }
+    ensures { IfOk result (IsKeptWhole K.has_failed K.kept K.first K.form J.size) }
 {
     let listeners = Listeners {
         consoles: turn.entrances.consoles.as_ref(),
@@ -383,16 +417,11 @@ fn serve_by<
         keeper,
         fault,
     } = serve_seats(rt, room, seats, listeners, turn.watch, input, &door);
-    let outcome = seats_outcome(keeper.has_failed(), fault);
-    tell_end(rt, room.journal().len(), outcome)
-}
-
-/// Reports that the first room listens, or which of those that follow does.
-fn report_open(rt: &impl Print, number: u32, pages: &[PagePort]) -> Result<(), OpenFault> {
-    if number == 1 {
-        return tell_ready(rt, pages);
+    let commands = room.journal().len();
+    match tell_end(rt, commands, seats_outcome(keeper.has_failed(), fault)) {
+        Ok(()) => Ok(commands),
+        Err(fault) => Err(fault),
     }
-    println!(rt; "ROOM {number}").map_err(not_told)
 }
 
 /// Takes away the file that was made for a journal, if one was: it has no journal of a room that operators came to.

@@ -4,6 +4,7 @@ ghost use Rattle.program_rooms.specs.Outcome.{service_outcome, start_fault};
 
 use crate::HoldFault;
 use crate::ending::tell_end;
+use crate::entrances::listener_at;
 use crate::fault::OpenFault;
 use console_1401::{ServeFault, Served, serve};
 use program_call::PlainService;
@@ -11,7 +12,7 @@ use room_1401::{Opened, RoomId, SharedRoom, StartFault};
 use serving_room::TakingTurns;
 use std::alloc::Global;
 use std::marker::Brand;
-use std::net::{Ipv4Addr, Net, TcpListener, TcpStream};
+use std::net::{Net, TcpListener, TcpStream};
 use std::rt::Clock;
 use std::sync::Wait;
 use std::thread::Threads;
@@ -43,7 +44,7 @@ fn service_outcome(fault: Option<ServeFault>) -> Result<(), OpenFault>
     }
 }
 
-/// Opens a new machine to operators, a console for each seat, and tells on standard output when it listens, and at the
+/// Opens a new machine to operators, a console for each seat, and reports on standard output when it listens, and at the
 /// end how many commands the journal has.
 ///
 /// # Errors
@@ -73,28 +74,25 @@ fn serve_room<
 {
     let PlainService { size, seats, port } = service;
     match SharedRoom::<J, &R>::power_on(rt, alloc, size, seats, opened) {
-        Ok((room, seats)) => match listen(rt, port) {
-            Ok(listener) => {
-                let door = TakingTurns::new(rt);
-                let Served { room, fault, .. } = serve(alloc, rt, room, seats, &listener, &door);
-                tell_end(rt, room.journal().len(), service_outcome(fault))
+        Ok((room, seats)) => {
+            let listening = match listener_at(rt, port) {
+                Ok(listening) => listening,
+                Err(fault) => return Err(fault),
+            };
+            if println!(rt; "READY").is_err() {
+                return Err(OpenFault::Hold(HoldFault::Output));
             }
-            Err(fault) => Err(fault),
-        },
+            let door = TakingTurns::new(rt);
+            let Served { room, fault, .. } = serve(
+                alloc,
+                rt,
+                room,
+                seats,
+                listening.listener(),
+                &door,
+            );
+            tell_end(rt, room.journal().len(), service_outcome(fault))
+        }
         Err(fault) => Err(start_fault(fault)),
-    }
-}
-
-/// The listener at this port of 127.0.0.1, once standard output has it that the room is open.
-fn listen(
-    rt: &(impl Print + Net<Listener = TcpListener, Stream = TcpStream>),
-    port: u16,
-) -> Result<TcpListener, OpenFault> {
-    let Ok(listener) = TcpListener::bind(rt, (Ipv4Addr::LOCALHOST, port)) else {
-        return Err(OpenFault::Port);
-    };
-    match println!(rt; "READY") {
-        Ok(()) => Ok(listener),
-        Err(_) => Err(OpenFault::Hold(HoldFault::Output)),
     }
 }

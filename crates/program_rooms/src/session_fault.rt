@@ -26,7 +26,7 @@ pub enum HoldFault {
     /// Memory was refused before the session.
     #[error("memory refused")]
     Memory,
-    /// Standard output didn't take what is told of a journal.
+    /// Standard output didn't take the report of a journal.
     #[error("cannot write")]
     Output,
     /// A session ended so.

@@ -1,18 +1,18 @@
 //! Rooms that follow each other at the same ports.
-ghost use Rattle.std.specs.Prelude.{◌≤◌, vec_len};
+ghost use Rattle.std.specs.Prelude.{◌≡◌, [], false, true, is_some, IfOk};
+ghost use Rattle.std.specs.Io.KnownBytes.{Appends};
+ghost use Rattle.room_alone.specs.Kept.{kept_text};
+ghost use Rattle.program_rooms.specs.Kept.{IsKeptWhole};
 
 use crate::beginning::Before;
-use crate::ending::first_of;
 use crate::entrances::{Entrances, listen_again};
 use crate::fault::OpenFault;
-use crate::journal_names::{JournalNames, begin_named};
 use crate::seating::serve_new;
-use room_1401::NoKeeper;
-use room_files::{JournalFile, MadeJournal, TextKeeper};
+use room_1401::{Keeper, NoKeeper};
+use room_files::MadeName;
 use serving_room::Watch;
 use std::fs::File;
 use std::io::StdinLock;
-use std::marker::Brand;
 use std::random::RandomSource;
 use std::rt::{Clock, Files};
 use std::sync::Wait;
@@ -34,22 +34,31 @@ pub(crate) struct Turn<'a> {
     pub entrances: &'a Entrances,
 }
 
+/// Begins the journals of rooms that follow each other, each kept by a keeper of its own.
+pub(crate) trait Journals<K: Keeper + Drop> {
+    /// The keeper of the journal of the room of this number, which has no entry yet, and the name of its new file. After
+    /// the first room a name that is taken is passed over.
+    fn begin(&self, size: u16, number: u32) -> Result<(K, MadeName), OpenFault>
+        ensures good { IfOk result (λ begun. K.has_failed begun.0 ≡ false) }
+        ensures head { IfOk result (λ begun. Appends K.first (K.kept begun.0) (kept_text K.form size [])) };
+}
+
 /// What rooms that follow each other have in common.
 #[derive(Drop)]
-pub(crate) struct Rooms<'a> {
+pub(crate) struct Rooms<'a, M: Drop> {
     /// How many places core storage has.
     pub size: u16,
     /// How many seats there are.
     pub seats: u8,
     /// What is done before operators come, but in the first room, for which it may be something else.
     pub before: Before<'a>,
-    /// The names of the journals, if there are any.
-    pub names: Option<JournalNames>,
+    /// What begins their journals, if they have any.
+    pub journals: Option<M>,
     /// After how many minutes without a command the next room follows; without a value none does.
     pub minutes: Option<u16>,
 }
 
-impl<'a> Rooms<'a> {
+impl<'a, M: Drop> Rooms<'a, M> {
     /// What a room comes to that begins with this.
     fn watch(&self, before: &Before<'_>) -> Watch {
         Watch::new(self.minutes, before.is_prepared())
@@ -73,9 +82,14 @@ pub(crate) fn serve_rooms<
         + Eprint
         + AllocGlobal
         + Files<File = File>,
->(rt: &R, rooms: &Rooms<'_>, first: &Before<'_>, entrances: &Entrances) -> Result<(), OpenFault>
-    requires { vec_len entrances.now.pages ≤ rooms.now.seats }
-{
+    K: Keeper + Drop + Send + Sync,
+    M: Journals<K> + Drop,
+>(
+    rt: &R,
+    rooms: &Rooms<'_, M>,
+    first: &Before<'_>,
+    entrances: &Entrances,
+) -> Result<(), OpenFault> {
     let watch = rooms.watch(first);
     let turn = Turn {
         number: 1,
@@ -83,8 +97,8 @@ pub(crate) fn serve_rooms<
         before: first,
         entrances,
     };
-    let served = serve_one(rt, rooms, turn);
-    serve_others(rt, rooms, served, &watch, entrances)
+    let served = serve_one::<R, K, M>(rt, rooms, turn);
+    serve_others::<R, K, M>(rt, rooms, served, &watch, entrances)
 }
 
 /// Serves the rooms that follow the first one, which came to this and ended so.
@@ -99,17 +113,17 @@ pub(crate) fn serve_others<
         + Eprint
         + AllocGlobal
         + Files<File = File>,
+    K: Keeper + Drop + Send + Sync,
+    M: Journals<K> + Drop,
 >(
     rt: &R,
-    rooms: &Rooms<'_>,
-    served: Result<(), OpenFault>,
+    rooms: &Rooms<'_, M>,
+    served: Result<usize, OpenFault>,
     watch: &Watch,
     entrances: &Entrances,
-) -> Result<(), OpenFault>
-    requires { vec_len entrances.now.pages ≤ rooms.now.seats }
-{
+) -> Result<(), OpenFault> {
     let mut goes_on = is_followed(watch, &served);
-    let mut outcome = served;
+    let mut outcome = done(served);
     for number in 2..MOST_ROOMS {
         if !goes_on {
             return outcome;
@@ -122,19 +136,30 @@ pub(crate) fn serve_others<
             before: &rooms.before,
             entrances,
         };
-        let served = serve_one(rt, rooms, turn);
+        let served = serve_one::<R, K, M>(rt, rooms, turn);
         goes_on = is_followed(&watch, &served);
-        outcome = first_of(outcome, served);
+        if outcome.is_ok() {
+            outcome = done(served);
+        }
     }
     outcome
 }
 
-/// Whether a room follows one that came to this and ended so.
-fn is_followed(watch: &Watch, served: &Result<(), OpenFault>) -> bool {
-    watch.is_over() && matches!(served, Ok(()) | Err(OpenFault::Seats(_)))
+/// Whether a room follows the one which came to this and ended so.
+fn is_followed(watch: &Watch, served: &Result<usize, OpenFault>) -> bool {
+    watch.is_over() && matches!(served, Ok(_) | Err(OpenFault::Seats(_)))
 }
 
-/// Serves a room, with a journal in a file of its own or without one.
+/// How a room ended, without how many entries it has.
+fn done(served: Result<usize, OpenFault>) -> Result<(), OpenFault> {
+    match served {
+        Ok(_) => Ok(()),
+        Err(fault) => Err(fault),
+    }
+}
+
+/// Serves a room, with a journal of its own or without one, and gives how many entries it has then. If the rooms have
+/// journals, its keeper is one of theirs, and has them all.
 fn serve_one<
     R: Threads
         + Wait
@@ -146,19 +171,19 @@ fn serve_one<
         + Eprint
         + AllocGlobal
         + Files<File = File>,
->(rt: &R, rooms: &Rooms<'_>, turn: Turn<'_>) -> Result<(), OpenFault>
-    requires { vec_len turn.entrances.now.pages ≤ rooms.now.seats }
+    K: Keeper + Drop + Send + Sync,
+    M: Journals<K> + Drop,
+>(rt: &R, rooms: &Rooms<'_, M>, turn: Turn<'_>) -> Result<usize, OpenFault>
+    ensures { is_some rooms.now.journals ≡ true
+        → IfOk result (IsKeptWhole K.has_failed K.kept K.first K.form rooms.now.size) }
 {
     let size = rooms.size;
     let seats = rooms.seats;
-    let Some(names) = &rooms.names else {
+    let Some(journals) = &rooms.journals else {
         return serve_new(rt, size, seats, NoKeeper, None, turn);
     };
-    match begin_named(rt, names, size, turn.number) {
-        Ok(MadeJournal { file, name }) => {
-            let keeper = TextKeeper::<Brand, JournalFile>::new(rt.alloc(), file);
-            serve_new(rt, size, seats, keeper, Some(name), turn)
-        }
+    match journals.begin(size, turn.number) {
+        Ok((keeper, name)) => serve_new(rt, size, seats, keeper, Some(name), turn),
         Err(fault) => Err(fault),
     }
 }

@@ -1,5 +1,5 @@
 -- How a run of files ends, by what its parts say.
-use Rattle.std.proofs.Common.{◌≡◌, ◌∙◌, List, Option, inr, refl, string_bytes, subst, sym}
+use Rattle.std.proofs.Common.{◌≡◌, ◌∙◌, ℕ, List, Option, ap, arith, inr, refl, string_bytes, subst, sym}
 use Rattle.std.proofs.Common.{OnOk, IfErr, Result, Ok, Err}
 use Rattle.std.specs.Prelude.{⊤, option_map}
 use Rattle.cpu_1401.specs.State.{State}
@@ -10,16 +10,17 @@ use Rattle.machine_tables.specs.declared.stop.Stop.TheVariants as stop
 use Rattle.machine_tapes.specs.Tapes.{Tapes, no_tapes}
 use Rattle.machine_tapes.specs.declared.taped_machine.TapedMachine.{TapedMachine}
 use Rattle.program_call.specs.declared.call.Job.{Job}
+use Rattle.program_call.specs.declared.call.Start.{Start}
 use Rattle.program_run.specs.Run.{job_outcome, outcome_after}
 use Rattle.program_run.specs.ReelPlaces.{places_of}
 use Rattle.program_run.specs.WhyStopped.{IsWhyStopped}
-use Rattle.program_run.specs.RunDeck.{IsAtEndOf, started_job}
-use Rattle.program_run.specs.RunEnd.{EndsAs, EndsWith, IfStopped, IsBegunFor, IsHalt, IsReadFor, Ran}
+use Rattle.program_run.specs.RunDeck.{BrokeOff, IsAtEndOf, started_job}
+use Rattle.program_run.specs.RunEnd.{EndsAs, EndsWith, HandsOverAfter, IfStopped, IsBegunFor, IsHalt, IsReadFor, Ran}
 use Rattle.program_run.specs.RunFile.{IsFaultOf, written_of}
 use Rattle.program_run.specs.RunJob.{HasHalted, IsBegun, ReportsJob, begun_with, report_on}
 use Rattle.program_run.specs.GivenReels.{GivenReel}
 use Rattle.program_run.specs.RunReels.{AreMounted, IsUnwrittenReel}
-use Rattle.program_run.specs.WrittenReels.{HandsOver, KnownFiles, files_of}
+use Rattle.program_run.specs.WrittenReels.{AreHandedOver, HandsOver, KnownFiles, files_of}
 use Rattle.program_run.specs.declared.ending.Ending.{Ending}
 use Rattle.program_run.specs.declared.fault.RunFault.{RunFault}
 use Rattle.program_run.specs.declared.fault.RunFault.TheVariants as fault
@@ -170,3 +171,26 @@ pub reports : (job : Job) (old new : KnownFiles) (result : Result ⊤ RunFault) 
     → IfErr result (ReportsJob job)
 reports job old new (Ok done) ran = tt
 reports job old new (Err why) ran = told_reports job old new why ran.1
+
+-- the reels of a job that ended or broke off
+pub hands_over_after : (job : Job) (it : Begun) (old new : KnownFiles) (units : Tapes)
+    → IsBegunFor job old.given new.given it
+    → BrokeOff job.start job.limit (taped_with_deck it.cards it.taped) units
+    → AreHandedOver units job.reels.items old.handed new.handed → HandsOverAfter job old new
+hands_over_after job it old new units is off handed = record {
+  machine = is.machine;
+  cards = it.cards;
+  tapes = it.taped.tapes;
+  begun = is.begun;
+  reels = is.reels;
+  units = units;
+  broke_off =
+      subst (λ (s : State). BrokeOff job.start job.limit (begun_with s it.taped.tapes it.cards) units) is.machine_is off;
+  handed = handed;
+}
+
+-- the units of a job at its end are those after all of its steps
+pub at_end_off : (how : Start) (limit : ℕ) (t after : TapedMachine) → IsAtEndOf (started_job how limit t) after
+    → BrokeOff how limit t after.tapes
+at_end_off how limit t after end =
+    inr (limit, omega arith, ap (λ (each : TapedMachine). each.tapes) (sym end.state))

@@ -1,6 +1,6 @@
 -- How a job begins that a key starts.
 use Rattle.std.proofs.Common.{◌≡◌, ℕ, ◌==◌, not, Bool, true, false, List, [], length, Option, None, Some, Result, Ok}
-use Rattle.std.proofs.Common.{Err, IfOk, MatchOption, OnOk, subst, sym, ◌∙◌, ap}
+use Rattle.std.proofs.Common.{Err, IfOk, MatchOption, OnErr, OnOk, arith, inr, subst, sym, ◌∙◌, ap}
 use Rattle.std.proofs.lemmas.Bool.{not-false, not-true}
 use Rattle.std.specs.Prelude.{if◌then◌else◌}
 use Rattle.devices_1401.specs.declared.card.Card.{Card}
@@ -10,11 +10,12 @@ use Rattle.cpu_1401.specs.Frame.{Frame}
 use Rattle.machine_tapes.specs.TapeLoading.{loaded_from}
 use Rattle.machine_tapes.specs.TapedFrame.{TapedStepLaw}
 use Rattle.machine_tapes.specs.TapedStep.{TapedStepped}
+use Rattle.machine_tapes.specs.Tapes.{Tapes}
 use Rattle.machine_tapes.specs.declared.taped_machine.TapedMachine.{TapedMachine}
-use Rattle.job_runner.specs.Unattended.{Job, ended, taped_load, taped_with_deck, unattended}
+use Rattle.job_runner.specs.Unattended.{IsLeftOff, Job, ended, taped_load, taped_with_deck, unattended}
 use Rattle.program_call.specs.declared.call.Start.{Start}
 use Rattle.program_call.specs.declared.call.Start.TheVariants as start
-use Rattle.program_run.specs.RunDeck.{IsAtEndOf, pressed_job, report_of, started_job}
+use Rattle.program_run.specs.RunDeck.{BrokeOff, IsAtEndOf, pressed_job, report_of, started_job}
 use Rattle.program_run.specs.RunStart.{GoesOnAs, StopsAs}
 use Rattle.program_run.specs.RunTrace.{pressed_trace, started_trace}
 use Rattle.program_run.specs.TraceText.{trace_text}
@@ -129,3 +130,18 @@ pub left_at_end : (result : Result JobReport Broken) (job job' : Job) (left : Li
 left_at_end (Ok report) job job' left t e is =
     record { left = left; state = is ∙ ap (λ (each : Job). each.state) (sym e) }
 left_at_end (Err why) job job' left t e is = is
+
+-- a job that broke off is one that goes on after the key, or that the key has stopped
+pub broke_off_as : (how : Start) (limit : ℕ) (t after : TapedMachine) (tapes : Tapes) (result : Result JobReport Broken)
+    → ((steps : ℕ) → started_job how steps t ≡ unattended steps after) → OnErr result (IsLeftOff limit after tapes)
+    → OnErr result (BrokeOff how limit t tapes)
+broke_off_as how limit t after tapes (Ok report) same off = tt
+broke_off_as how limit t after tapes (Err why) same off =
+    inr (off.0, off.1, ap (λ (job : Job). job.state.tapes) (same off.0) ∙ off.2)
+
+pub stopped_off_as : (how : Start) (limit : ℕ) (why : Stop) (t after : TapedMachine) (tapes : Tapes)
+    (result : Result JobReport Broken) → ((steps : ℕ) → started_job how steps t ≡ ended 0 why after)
+    → OnErr result (tapes ≡ after.tapes) → OnErr result (BrokeOff how limit t tapes)
+stopped_off_as how limit why t after tapes (Ok report) same off = tt
+stopped_off_as how limit why t after tapes (Err broken) same off =
+    inr (0, omega arith, ap (λ (job : Job). job.state.tapes) (same 0) ∙ sym off)

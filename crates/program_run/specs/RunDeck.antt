@@ -1,5 +1,5 @@
 -- What a program that runs with a deck writes and reports (own).
-use Rattle.std.specs.Prelude.{◌≡◌, ℕ, ◌-◌, ◌^◌, ◌==◌, Bool, false, IsTrue, if◌then◌else◌}
+use Rattle.std.specs.Prelude.{◌≡◌, ◌⊎◌, ◌≤◌, ℕ, ◌+◌, ◌-◌, ◌^◌, ◌==◌, Bool, false, IsTrue, if◌then◌else◌}
 use Rattle.std.specs.Prelude.{List, [], length, map, min, Option, None, Some, option_map}
 use Rattle.std.specs.Io.KnownBytes.{Appends}
 use Rattle.std.specs.List.{flat_map}
@@ -15,6 +15,7 @@ use Rattle.job_runner.specs.Paper.{paper_text, place_beyond}
 use Rattle.job_runner.specs.Unattended.{Job, after_output, ended, taped_load, taped_with_deck, unattended}
 use Rattle.machine_tapes.specs.TapeLoading.{loaded_from}
 use Rattle.machine_tapes.specs.TapedStep.{TapedStepped}
+use Rattle.machine_tapes.specs.Tapes.{Tapes}
 use Rattle.machine_tapes.specs.declared.taped_machine.TapedMachine.{TapedMachine}
 use Rattle.bytes_streams.specs.Sink.{AppendsPart}
 use Rattle.program_call.specs.declared.call.Start.{Start}
@@ -99,6 +100,17 @@ started_job start.Entry limit t = unattended limit t
 started_job start.LoadKey limit t =
     if length t.machine.devices.hopper == 0 then ended 0 stop.Reader t else unattended limit (taped_load t)
 started_job (start.LoadTape unit) limit t = pressed_job limit (loaded_from unit t)
+
+-- a job goes on from the end of its first steps, in what it does with the tape units
+abbrev pub LeadsOn : ℕ → TapedMachine → TapedMachine → Type 0
+LeadsOn steps before after =
+    (more : ℕ) → (unattended (steps + more) before).state.tapes ≡ (unattended more after).state.tapes
+
+-- the tape units of a job that was started so and broke off: those that it began with, or those after some of its steps
+abbrev pub BrokeOff : Start → ℕ → TapedMachine → Tapes → Type 0
+BrokeOff how limit t tapes =
+    (tapes ≡ t.tapes)
+    ⊎ ((steps : ℕ) × (steps ≤ limit) × ((started_job how steps t).state.tapes ≡ tapes))
 
 -- a machine with its tape units is that of a job at its end, but for cards of its deck that weren't fed
 pub record IsAtEndOf (job : Job) (t : TapedMachine) : Type 0 where

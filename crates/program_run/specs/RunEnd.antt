@@ -10,12 +10,12 @@ use Rattle.program_call.specs.declared.call.MountedReel.{MountedReel}
 use Rattle.program_call.specs.declared.call.Start.{Start}
 use Rattle.program_run.specs.ReelPlaces.{places_of}
 use Rattle.program_run.specs.WhyStopped.{IsWhyStopped}
-use Rattle.program_run.specs.RunDeck.{IsAtEndOf, started_job}
+use Rattle.program_run.specs.RunDeck.{BrokeOff, IsAtEndOf, started_job}
 use Rattle.program_run.specs.RunFile.{IsFaultOf}
 use Rattle.program_run.specs.RunJob.{IsBegun, begun_with, report_on, set_up}
 use Rattle.program_run.specs.RunReels.{AreMounted}
 use Rattle.program_run.specs.GivenReels.{GivenReel}
-use Rattle.program_run.specs.WrittenReels.{HandsOver, KnownFiles, ReelFile, files_of}
+use Rattle.program_run.specs.WrittenReels.{AreHandedOver, HandsOver, KnownFiles, ReelFile, files_of}
 use Rattle.program_run.specs.declared.ending.Ending.{Ending}
 use Rattle.program_run.specs.declared.fault.RunFault.{RunFault}
 use Rattle.program_run.specs.declared.fault.RunFault.TheVariants as fault
@@ -87,3 +87,15 @@ pub record IsBegunFor (job : Job) (before after : Option (List GivenReel)) (it :
   pub begun : IsBegun job.start job.language job.size (option_map string_bytes job.cards) machine it.cards
   pub reels : AreMounted job.reels.items before after no_tapes it.taped.tapes
   pub machine_is : it.taped.machine ≡ set_up job.features job.switches machine
+
+-- each reel that is written is handed over with the text of what its unit has after some of the steps of the job
+pub record HandsOverAfter (job : Job) (old new : KnownFiles) : Type 0 where
+  pub machine : State
+  pub cards : List Card
+  pub tapes : Tapes
+  pub begun : IsBegun job.start job.language job.size (option_map string_bytes job.cards) machine cards
+  pub reels : AreMounted job.reels.items old.given new.given no_tapes tapes
+  pub units : Tapes
+  pub broke_off :
+      BrokeOff job.start job.limit (begun_with (set_up job.features job.switches machine) tapes cards) units
+  pub handed : AreHandedOver units job.reels.items old.handed new.handed

@@ -68,7 +68,3 @@ AreHandedOver tapes (first ∷ reels) old new =
     (between : Option (List ReelFile))
     × IsHandedOver (text_on tapes first.unit) (λ text. file_of text first) old between
     × AreHandedOver tapes reels between new
-
--- and each with the text of what one state of the units has
-abbrev pub AreAllHandedOver : List MountedReel → Option (List ReelFile) → Option (List ReelFile) → Type 0
-AreAllHandedOver reels old new = (tapes : Tapes) × AreHandedOver tapes reels old new

@@ -5,9 +5,11 @@ ghost use Rattle.std.specs.Prelude.{option_and_then};
 ghost use Rattle.std.specs.Io.KnownBytes.{Appends};
 ghost use Rattle.bytes_streams.specs.Sink.{AppendsPart};
 ghost use Rattle.job_runner.specs.Paper.{paper_text, place_beyond};
-ghost use Rattle.job_runner.specs.Unattended.{ended, taped_emptied, taped_with_deck, unattended, with_deck};
+ghost use Rattle.job_runner.specs.Unattended.{IsLeftOff, ended, taped_emptied, taped_with_deck, unattended};
+ghost use Rattle.job_runner.specs.Unattended.{with_deck};
 ghost use Rattle.machine_tables.specs.TapeUnit.{tape_units};
-ghost use Rattle.program_run.specs.RunDeck.{HasWritten, HasWrittenPart, IsAtEndOf, IsWhyUnwritten, RanStretch};
+ghost use Rattle.program_run.specs.RunDeck.{BrokeOff, HasWritten, HasWrittenPart, IsAtEndOf, IsWhyUnwritten};
+ghost use Rattle.program_run.specs.RunDeck.{LeadsOn, RanStretch};
 ghost use Rattle.program_run.specs.RunDeck.{cards_text};
 ghost use Rattle.program_run.specs.RunDeck.{failed_of, first_place, received, report_of, started_job};
 ghost use Rattle.program_run.specs.RunStart.{GoesOnAs, StopsAs};
@@ -103,7 +105,7 @@ fn write_cards<P: Sink>(alloc: Global, cards: &[Card], punch: &mut P) -> Result<
     }
 }
 
-/// Why a job of this many steps ended, a part of which has this end; none if it goes on.
+/// Why a job of this many steps ended, if a part of it has this end; none if it goes on.
 fn stop_of_job(stop: Stop, part: u32, steps: u32) -> Option<Stop>
     ensures none { result ≡ None → (stop ≡ Stop.Limit) × (part < steps) }
     ensures some { (why : Stop) → result ≡ Some why → (why ≡ stop) × ((stop ≢ Stop.Limit) ⊎ (steps ≤ part)) }
@@ -172,6 +174,9 @@ fn run_stretch<'d, W: Sink, P: Sink, F: Sink>(
         (taped_with_deck deck.new taped.new)
         (received (W.received outputs.old.paper) (P.received outputs.old.punch))
         (received (W.received outputs.new.paper) (P.received outputs.new.punch))) }
+    ensures left_off { OnErr result (IsLeftOff left (taped_with_deck deck.old taped.old) taped.new.tapes) }
+    ensures leads_on { IfOk result (λ stretch. stretch.stop ≡ None → LeadsOn stretch.steps
+        (taped_with_deck deck.old taped.old) (taped_with_deck deck.new taped.new)) }
     ensures most { IfOk result (λ stretch. stretch.steps ≤ left) }
     ensures some { IfOk result (λ stretch. stretch.stop ≡ None → 0 < stretch.steps) }
     ensures good { OnOk result ((W.has_failed outputs.new.paper ≡ W.has_failed outputs.old.paper)
@@ -259,6 +264,7 @@ fn run_deck<'d, W: Sink, P: Sink, F: Sink, T: Watch>(
         (unattended limit (taped_with_deck deck.old taped.old))) }
     ensures end { OnOk result (taped_with_deck deck.new taped.new
         ≡ (unattended limit (taped_with_deck deck.old taped.old)).state) }
+    ensures left_off { OnErr result (IsLeftOff limit (taped_with_deck deck.old taped.old) taped.new.tapes) }
     ensures written { OnOk result (HasWritten first_place
         (unattended limit (taped_with_deck deck.old taped.old)).lines
         (unattended limit (taped_with_deck deck.old taped.old)).cards
@@ -345,6 +351,7 @@ fn run_nothing<'d, W: Sink, P: Sink, F: Sink, T: Watch>(
         (ended 0 stop (taped_with_deck deck.old taped.old))) }
     ensures end { OnOk result (taped_with_deck deck.new taped.new
         ≡ taped_emptied (taped_with_deck deck.old taped.old)) }
+    ensures left_off { OnErr result (taped.new.tapes ≡ taped.old.tapes) }
     ensures written { OnOk result (HasWritten first_place
         taped.old.machine.devices.paper taped.old.machine.devices.stacker
         (received (W.received outputs.old.paper) (P.received outputs.old.punch))
@@ -414,6 +421,9 @@ pub fn run_started<W: Sink, P: Sink, F: Sink, T: Watch>(
     // The machine with its tape units is that of the job at its end.
     ensures end { OnOk result
         (IsAtEndOf (started_job start limit (taped_with_deck cards.now taped.old)) taped.new) }
+
+    // If it breaks off, its tape units are those after some of its steps.
+    ensures broke_off { OnErr result (BrokeOff start limit (taped_with_deck cards.now taped.old) taped.new.tapes) }
     ensures written { OnOk result (HasWritten first_place
         (started_job start limit (taped_with_deck cards.now taped.old)).lines
         (started_job start limit (taped_with_deck cards.now taped.old)).cards

@@ -19,7 +19,7 @@ use autocoder_statements::Language;
 use bcd_1401::{Graphics, Suggestion, in_ours, suggest, suggest_for_source};
 use bytes_descriptors::{FileFault, read_whole};
 use cpu_1401::Machine;
-use job_runner::{CardList, DeckTextFault, read_deck};
+use job_runner::{CardList, Deck, DeckTextFault, read_deck};
 use program_call::{DEFAULT_SIZE, Job, Start};
 use std::alloc::Global;
 use std::rt::Files;
@@ -380,11 +380,11 @@ fn with_cards(inputs: Inputs, beyond: &CardList) -> Result<Inputs, RunFault>
 {
     let Inputs {
         machine,
-        cards,
+        mut cards,
         source,
     } = inputs;
-    match cards.followed_by(beyond) {
-        Ok(cards) => Ok(Inputs {
+    match cards.append(&Deck::new(beyond)) {
+        Ok(()) => Ok(Inputs {
             machine,
             cards,
             source,

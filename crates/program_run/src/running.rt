@@ -1,13 +1,14 @@
 //! What the subcommand `run` does.
-ghost use Rattle.std.specs.Prelude.{◌≡◌, ◌⊎◌, true, false, Err, IfOk, IfErr, List, OnOk, Option};
+ghost use Rattle.std.specs.Prelude.{◌≡◌, ◌⊎◌, true, false, Err, IfOk, IfErr, List, OnErr, OnOk, Option};
 ghost use Rattle.job_runner.specs.Unattended.{taped_with_deck};
-ghost use Rattle.program_run.specs.RunDeck.{IsAtEndOf, started_job};
+ghost use Rattle.program_run.specs.RunDeck.{BrokeOff, IsAtEndOf, started_job};
 ghost use Rattle.program_run.specs.Run.{job_outcome};
 ghost use Rattle.program_run.specs.RunFile.{IsFaultOf};
 ghost use Rattle.program_run.specs.RunJob.{HasHalted, ReportsJob, report_on, set_up, with_switches};
-ghost use Rattle.program_run.specs.RunEnd.{EndsAs, IfStopped, IsBegunFor, IsHalt, IsNoStopOf, IsReadFor, Ran};
+ghost use Rattle.program_run.specs.RunEnd.{EndsAs, HandsOverAfter, IfStopped, IsBegunFor, IsHalt, IsNoStopOf};
+ghost use Rattle.program_run.specs.RunEnd.{IsReadFor, Ran};
 ghost use Rattle.program_run.specs.GivenReels.{GivenReel};
-ghost use Rattle.program_run.specs.WrittenReels.{AreAllHandedOver, known_files};
+ghost use Rattle.program_run.specs.WrittenReels.{known_files};
 ghost use Rattle.program_call.specs.Sizes.{is_refused};
 
 use crate::deck_running::{Broken, run_started};
@@ -82,6 +83,8 @@ fn run_shown<R: Eprint + Clock + AllocGlobal, W: Sink, P: Sink, F: Sink>(
         report ≡ report_on job.now.start job.now.limit (taped_with_deck begun.old.cards begun.old.taped)) }
     ensures end { OnOk result (IsAtEndOf
         (started_job job.now.start job.now.limit (taped_with_deck begun.old.cards begun.old.taped)) begun.new.taped) }
+    ensures broke_off { OnErr result (BrokeOff job.now.start job.now.limit
+        (taped_with_deck begun.old.cards begun.old.taped) begun.new.taped.tapes) }
 {
     let alloc = rt.alloc();
     let start = job.start;
@@ -130,6 +133,8 @@ fn run_into<'r, R: Files + Print + Eprint + Clock + AllocGlobal>(
         report ≡ report_on job.now.start job.now.limit (taped_with_deck begun.old.cards begun.old.taped)) }
     ensures end { OnOk result (IsAtEndOf
         (started_job job.now.start job.now.limit (taped_with_deck begun.old.cards begun.old.taped)) begun.new.taped) }
+    ensures broke_off { OnErr result (BrokeOff job.now.start job.now.limit
+        (taped_with_deck begun.old.cards begun.old.taped) begun.new.taped.tapes) }
 {
     let Outputs {
         paper,
@@ -176,6 +181,8 @@ fn run_inputs<R: Files + Print + Eprint + Clock + AllocGlobal>(
         report ≡ report_on job.now.start job.now.limit (taped_with_deck begun.old.cards begun.old.taped)) }
     ensures end { OnOk result (IsAtEndOf
         (started_job job.now.start job.now.limit (taped_with_deck begun.old.cards begun.old.taped)) begun.new.taped) }
+    ensures broke_off { OnErr result (BrokeOff job.now.start job.now.limit
+        (taped_with_deck begun.old.cards begun.old.taped) begun.new.taped.tapes) }
     ensures fault { IfErr result (IsNoStopOf job.now) }
 {
     match create_outputs(rt, job) {
@@ -265,9 +272,11 @@ pub fn run_job<R: Files + Print + Eprint + Clock + AllocGlobal, D: ReelFiles>(
     ensures told { IfErr result (IfStopped (λ ending. EndsAs job ending
         (known_files (D.given files.old) (D.handed files.old)) (known_files (D.given files.new) (D.handed files.new)))) }
 
-    // Whatever fault there is, either none is handed over, or each of them, with the text of what its unit has then.
+    // Whatever fault there is, either none is handed over, or each of them, with the text of what its unit has after some of
+    // the steps of the job.
     ensures handed { (D.handed files.new ≡ D.handed files.old)
-        ⊎ AreAllHandedOver job.reels.items (D.handed files.old) (D.handed files.new) }
+        ⊎ HandsOverAfter job (known_files (D.given files.old) (D.handed files.old))
+        (known_files (D.given files.new) (D.handed files.new)) }
 {
     run_lent(rt, error_output, &job, files)
 }
@@ -283,7 +292,8 @@ fn run_lent<R: Files + Print + Eprint + Clock + AllocGlobal, D: ReelFiles>(
     ensures ran { Ran job.now (known_files (D.given files.old) (D.handed files.old))
         (known_files (D.given files.new) (D.handed files.new)) result }
     ensures handed { (D.handed files.new ≡ D.handed files.old)
-        ⊎ AreAllHandedOver job.now.reels.items (D.handed files.old) (D.handed files.new) }
+        ⊎ HandsOverAfter job.now (known_files (D.given files.old) (D.handed files.old))
+        (known_files (D.given files.new) (D.handed files.new)) }
 {
     if is_refused(job.size) {
         return Err(RunFault::Size);
@@ -342,8 +352,9 @@ fn run_begun<R: Files + Print + Eprint + Clock + AllocGlobal, D: ReelFiles>(
     ensures ran { (before : Option (List GivenReel)) → IsReadFor job.now before (D.given files.old) begun.old
         → Ran job.now (known_files before (D.handed files.old)) (known_files (D.given files.new) (D.handed files.new))
         result }
-    ensures handed { (D.handed files.new ≡ D.handed files.old)
-        ⊎ AreAllHandedOver job.now.reels.items (D.handed files.old) (D.handed files.new) }
+    ensures handed { (before : Option (List GivenReel)) → IsReadFor job.now before (D.given files.old) begun.old
+        → (D.handed files.new ≡ D.handed files.old) ⊎ HandsOverAfter job.now (known_files before (D.handed files.old))
+        (known_files (D.given files.new) (D.handed files.new)) }
 {
     match make_ready(rt, job, &begun.cards) {
         Ok(()) => {}
@@ -364,7 +375,9 @@ fn run_and_tell<R: Files + Print + Eprint + Clock + AllocGlobal, D: ReelFiles>(
     ensures ran { (before : Option (List GivenReel)) → IsBegunFor job.now before (D.given files.old) begun.old
         → Ran job.now (known_files before (D.handed files.old)) (known_files (D.given files.new) (D.handed files.new))
         result }
-    ensures handed { AreAllHandedOver job.now.reels.items (D.handed files.old) (D.handed files.new) }
+    ensures handed { (before : Option (List GivenReel)) → IsBegunFor job.now before (D.given files.old) begun.old
+        → HandsOverAfter job.now (known_files before (D.handed files.old))
+        (known_files (D.given files.new) (D.handed files.new)) }
 {
     let ran = run_inputs(rt, error_output, job, begun);
     let written = write_reels(rt.alloc(), files, &begun.taped.tapes, job.reels.as_slice());

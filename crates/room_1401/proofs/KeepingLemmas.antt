@@ -3,7 +3,6 @@ use Rattle.std.proofs.Common.{◌≡◌, ℕ, ◌-◌, Bool, true, false, List, 
 use Rattle.std.proofs.Common.{refl, ap, sym, ◌∙◌, subst, arith, true≢false}
 use Rattle.std.specs.Prelude.{Result, Ok, Err, OnOk, is_ok}
 use Rattle.std.proofs.lemmas.List.{length_push, take_all, take-append-le}
-use mathlib.Core.List.{IsPrefix}
 use Rattle.machine_commands.specs.declared.answer.Answer.{Answer}
 use Rattle.machine_commands.specs.declared.command.Command.{Command}
 use Rattle.room_alone.specs.declared.entry.Entry.{Entry}
@@ -11,8 +10,8 @@ use Rattle.room_alone.specs.declared.entry.SeatedCommand.{SeatedCommand}
 use Rattle.room_alone.specs.Journal.{entry, pairs_of}
 use Rattle.room_alone.specs.Kept.{Form, KeptAccount}
 use Rattle.room_alone.specs.Replay.{pair}
-use Rattle.room_1401.specs.Keeping.{AreShown, HasFailed, IsBeyond, SeesMore, shown_by, shown_in}
-use Rattle.room_alone.proofs.ReplayLemmas.{length-pairs_of, pairs_of-append}
+use Rattle.room_1401.specs.Keeping.{AreShown, shown_by, shown_in}
+use Rattle.room_alone.proofs.ReplayLemmas.{pairs_of-append}
 
 -- while no write has failed, all of it
 pub all_shown : (failed : Bool) (journal : List Entry) → failed ≡ false → shown_by failed journal ≡ pairs_of journal
@@ -70,29 +69,3 @@ pub shown_as : {S : Type 0} (has_failed : S → Bool) (kept : S → Option (List
 shown_as has_failed kept first form size failed now pairs seen shown is same =
     subst (λ (list : List SeatedCommand). AreShown has_failed kept first form size now list) (sym same)
     (subst (λ (bad : Bool). AreShown has_failed kept first form size bad pairs) is shown)
-
--- a keeper that keeps nothing never fails
-pub none_failed : {S : Type 0} (kept : S → Option (List ℕ)) (first : Option (List ℕ)) (form : Form) (size : ℕ)
-    (pairs : List SeatedCommand) → HasFailed (λ (keeper : S). false) kept first form size pairs → ⊥
-none_failed kept first form size pairs failed = true≢false (sym failed.failed_is)
-
--- so an entry isn't unkept there
-pub kept_by_none : {S : Type 0} (kept : S → Option (List ℕ)) (first : Option (List ℕ)) (form : Form) (size : ℕ)
-    (pairs : List SeatedCommand) (is_kept : Bool)
-    → (is_kept ≡ false → HasFailed (λ (keeper : S). false) kept first form size pairs) → is_kept ≡ true
-kept_by_none kept first form size pairs true unkept = refl
-kept_by_none kept first form size pairs false unkept = absurd (none_failed kept first form size pairs (unkept refl))
-
--- and a seat that has seen more than is shown has seen more than a journal has
-pub beyond_none : {S : Type 0} (kept : S → Option (List ℕ)) (first : Option (List ℕ)) (form : Form) (size : ℕ)
-    (seen : List SeatedCommand) → SeesMore (λ (keeper : S). false) kept first form size seen → IsBeyond size seen
-beyond_none kept first form size seen more =
-    let journal = more.are_shown.journal in
-    let is : pairs_of journal ≡ more.shown =
-    sym (all_shown more.failed journal (sym more.are_shown.failed_is)) ∙ more.are_shown.pairs_are in
-    record {
-      journal = journal;
-      legal = more.are_shown.legal;
-      begins = subst (λ (list : List SeatedCommand). IsPrefix list seen) (sym is) more.begins;
-      fewer = omega (arith, more.fewer, ap length is, length-pairs_of journal);
-    }

@@ -69,5 +69,5 @@ both_seats_have_what_they_made = record {
 one_of_two_is_back : back_of 2 (one ∷ []) ≡ 1
 one_of_two_is_back = refl
 
-seat_one_alone_is_not_all : ClosesBy 2 (one ∷ []) (Unreturned 1 2)
+seat_one_alone_is_not_all : ClosesBy (λ shown. Unit {0}) 2 (one ∷ []) (Unreturned 1 2)
 seat_one_alone_is_not_all = (refl, refl, omega arith)

@@ -54,7 +54,8 @@ pub record IsSettled (journal : List Entry) (seats : List SeatView) : Type 0 whe
   pub made : length journal ≡ made_of seats
 
 -- Why a room of n seats wasn't closed: not all of their numbers are back; or all are, and one has seen more commands
--- than are shown.
-abbrev pub ClosesBy : ℕ → List SeatView → CloseFault → Type 0
-ClosesBy n seats (Unreturned back total) = (back ≡ back_of n seats) × (total ≡ n) × (back < n)
-ClosesBy n seats NoReading = (back_of n seats ≡ n) × ((shown : List SeatedCommand) × OneBeyond shown seats)
+-- than are shown at some moment.
+abbrev pub ClosesBy : (List SeatedCommand → Type 0) → ℕ → List SeatView → CloseFault → Type 0
+ClosesBy Shown n seats (Unreturned back total) = (back ≡ back_of n seats) × (total ≡ n) × (back < n)
+ClosesBy Shown n seats NoReading =
+    (back_of n seats ≡ n) × ((shown : List SeatedCommand) × Shown shown × OneBeyond shown seats)

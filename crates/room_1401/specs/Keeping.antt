@@ -41,6 +41,17 @@ abbrev pub HasFailed : {S : Type 0} → (S → Bool) → (S → Option (List ℕ
     → List SeatedCommand → Type 0
 HasFailed has_failed kept first form size pairs = AreShown has_failed kept first form size true pairs
 
+-- At one moment exactly these commands are shown, by what a keeper has kept then. Only the room has a keeper, so nobody
+-- else can say so.
+abbrev pub AreAllShown : {S : Type 0} → (S → Bool) → (S → Option (List ℕ)) → Option (List ℕ) → Form → ℕ
+    → List SeatedCommand → Type 0
+AreAllShown has_failed kept first form size pairs =
+    (failed : Bool) × AreShown has_failed kept first form size failed pairs
+
+-- No write of such a keeper ever fails.
+abbrev pub NeverFails : {S : Type 0} → (S → Bool) → Type 0
+NeverFails {S} has_failed = (keeper : S) → has_failed keeper ≡ false
+
 -- What a seat has seen begins with all that is shown, and goes on.
 pub record SeesMore {S : Type 0} (has_failed : S → Bool) (kept : S → Option (List ℕ)) (first : Option (List ℕ))
     (form : Form) (size : ℕ) (seen : List SeatedCommand) : Type 0 where
@@ -49,10 +60,3 @@ pub record SeesMore {S : Type 0} (has_failed : S → Bool) (kept : S → Option 
   pub are_shown : AreShown has_failed kept first form size failed shown
   pub begins : IsPrefix shown seen
   pub fewer : length shown < length seen
-
--- What a seat has seen begins with all commands of a legal journal, and goes on.
-pub record IsBeyond (size : ℕ) (seen : List SeatedCommand) : Type 0 where
-  pub journal : List Entry
-  pub legal : IsLegal size journal
-  pub begins : IsPrefix (pairs_of journal) seen
-  pub fewer : length journal < length seen

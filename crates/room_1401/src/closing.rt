@@ -31,7 +31,7 @@ pub(crate) fn count_back<J: RoomId>(seats: &[Seat<J>], total: u8) -> u8
     back
 }
 
-/// Whether what each seat has seen is no longer than these commands; it is a prefix of them then.
+/// Whether no seat has seen more than these commands; each has then seen a prefix of them.
 pub(crate) fn all_fit<J: RoomId>(seats: &[Seat<J>], front: &SeenPrefix<J>) -> bool
     ensures { MatchBool result (AllFit front.now seats.now) (OneBeyond front.now seats.now) }
 {

@@ -6,7 +6,7 @@ ghost use Rattle.room_1401.specs.Closing.{AllFit, IsSettled, OneBeyond, back_of}
 ghost use Rattle.room_alone.specs.Journal.{IsLegal, entry, most_entries, refusal_of};
 ghost use Rattle.room_alone.specs.Kept.{IsKeptAs};
 ghost use Rattle.room_alone.specs.Replay.{reply_to};
-ghost use Rattle.room_1401.specs.Keeping.{AreShown, HasFailed, HasKept, SeesMore, kept_part, shown_in};
+ghost use Rattle.room_1401.specs.Keeping.{AreAllShown, AreShown, HasFailed, HasKept, SeesMore, kept_part, shown_in};
 ghost use Rattle.room_1401.specs.Seen.{Carries, own};
 
 use crate::closing::{all_fit, merge_all};
@@ -150,6 +150,7 @@ impl<J: RoomId, R: Wait + Drop, K: Keeper + Drop> LockedRoom<J, R, K> {
         ensures grows { IsPrefix seat.old.list seat.new.list }
         ensures all { OnOk result (seat.new.list ≡ shown_in self.now) }
         ensures told { IfOk result (λ told. told ≡ seat.new.list) }
+        ensures shown { OnOk result (AreAllShown K.has_failed K.kept K.first K.form J.size seat.new.list) }
 
         // It is refused only if the seat had seen more than is shown.
         ensures err { OnErr result ((result ≡ Err RoomFault.NoReading) × (seat.new.list ≡ seat.old.list)
@@ -171,7 +172,8 @@ impl<J: RoomId, R: Wait + Drop, K: Keeper + Drop> LockedRoom<J, R, K> {
 
     /// Whether what each seat has seen is a prefix of the commands that are shown; else one of them has seen more.
     pub(crate) fn knows(&self, seats: &[Seat<J>]) -> bool
-        ensures { MatchBool result (AllFit (shown_in self.now) seats.now) (OneBeyond (shown_in self.now) seats.now) }
+        ensures fit { MatchBool result (AllFit (shown_in self.now) seats.now) (OneBeyond (shown_in self.now) seats.now) }
+        ensures shown { AreShown K.has_failed K.kept K.first K.form J.size self.now.failed (shown_in self.now) }
     {
         all_fit(seats, self.recorder.front())
     }

@@ -285,7 +285,7 @@ impl<J: RoomId> Seat<J> {
         self.made += 1;
     }
 
-    /// Whether what it has seen is no longer than these commands; it is a prefix of them then.
+    /// Whether it has seen no more than these commands; what it has seen is then a prefix of them.
     pub(crate) fn fits(&self, front: &SeenPrefix<J>) -> bool
         ensures fits { result ≡ true
             → IsPrefix self.now.list front.now × (self.now.made ≤ own self.now.number front.now) }

@@ -9,7 +9,7 @@ ghost use Rattle.room_1401.specs.Closing.{ClosesBy, IsSettled, back_of};
 ghost use Rattle.room_alone.specs.Journal.{IsLegal, most_entries};
 ghost use Rattle.room_alone.specs.Kept.{IsKeptAs, kept_text};
 ghost use Rattle.room_alone.specs.Replay.{reply_to};
-ghost use Rattle.room_1401.specs.Keeping.{HasFailed, HasKept, IsBeyond, SeesMore, kept_part};
+ghost use Rattle.room_1401.specs.Keeping.{AreAllShown, HasFailed, HasKept, NeverFails, SeesMore, kept_part};
 ghost use Rattle.room_1401.specs.Rule.{Publishes};
 ghost use Rattle.room_1401.specs.Seen.{Carries, most_seats, newcomers, own};
 
@@ -65,68 +65,6 @@ impl<J: RoomId, R: Wait + Drop> SharedRoom<J, R> {
             ↔ ((is_core_size size ≡ true) × ((seats ≡ 0) ⊎ (most_seats < seats))) }
     {
         SharedRoom::<J, R>::power_on_kept(rt, alloc, size, seats, opened, NoKeeper)
-    }
-
-    /// Carries a command out for a seat, and records it with its answer. The seat has then seen the journal up to it.
-    ///
-    /// # Errors
-    ///
-    /// `NoReading` if the seat has seen more than the journal has, which doesn't happen while seats and room are of one
-    /// `power_on`; else `JournalFull` if the journal has its 100,000 entries, else `Memory` if there is no room for one
-    /// more. The room's journal and machine are as they were.
-    pub fn command<W: Wait>(
-        &self,
-        wait: &W,
-        seat: &mut Seat<J>,
-        command: Command,
-    ) -> Result<Answer, RoomFault>
-        ensures carried { IfOk result (λ answer.
-            Carries J.size seat.old.list seat.new.list seat.old.number command answer) }
-        ensures made { OnOk result (seat.new.made ≡ seat.old.made + 1) }
-        ensures own { OnOk result (seat.new.made ≤ own seat.new.number seat.new.list) }
-        ensures number { seat.new.number ≡ seat.old.number }
-
-        // After a refusal the seat made no more, and it has seen no less.
-        ensures err { OnErr result (seat.new.made ≡ seat.old.made) }
-        ensures grows { IsPrefix seat.old.list seat.new.list }
-        ensures full { result ≡ Err RoomFault.JournalFull → length seat.new.list ≡ most_entries }
-
-        // A full journal is never reported as refused memory, and nothing is ever reported as unkept.
-        ensures memory { result ≡ Err RoomFault.Memory → length seat.new.list < most_entries }
-        ensures unkept { result ≢ Err RoomFault.Unkept }
-
-        // There is no reading only for a seat that had seen more than the journal has, and it has learnt nothing then.
-        ensures no_reading { result ≡ Err RoomFault.NoReading
-            → (seat.new.list ≡ seat.old.list) × IsBeyond J.size seat.old.list }
-    {
-        match self.command_kept(wait, seat, command) {
-            Ok(carried) => Ok(carried.answer),
-            Err(fault) => Err(fault),
-        }
-    }
-
-    /// The room, with all its seats back.
-    ///
-    /// # Errors
-    ///
-    /// `Unreturned` if a number of the room's seats has no seat among them, else `NoReading`, as in `command`. The
-    /// room comes back, with the seats as they were.
-    pub fn close(
-        self,
-        seats: Vec<Seat<J>>,
-    ) -> Result<Room, (SharedRoom<J, R>, Vec<Seat<J>>, CloseFault)>
-        requires { J.parts ≡ J.seats }
-        ensures size { IfOk result (λ room. room.size ≡ J.size) }
-        ensures legal { IfOk result (λ room. IsLegal J.size room.journal) }
-        ensures settled { IfOk result (λ room. IsSettled room.journal seats.items) }
-        ensures back { OnOk result (back_of J.seats seats.items ≡ J.seats) }
-        ensures seats { IfErr result (λ back. back.1.items ≡ seats.items) }
-        ensures fault { IfErr result (λ back. ClosesBy J.seats seats.items back.2) }
-    {
-        match self.close_kept(seats) {
-            Ok((room, _keeper)) => Ok(room),
-            Err(back) => Err(back),
-        }
     }
 }
 
@@ -215,6 +153,48 @@ impl<J: RoomId, R: Wait + Drop, K: Keeper + Drop> SharedRoom<J, R, K> {
         carried
     }
 
+    /// Carries a command out for a seat, and records it with its answer. The seat has then seen the journal up to it.
+    ///
+    /// # Errors
+    ///
+    /// `NoReading` if the seat has seen more than the journal has, which doesn't happen while seats and room are of one
+    /// `power_on`; else `Unkept` if its entry or an earlier one wasn't kept, which no keeper that never fails has; else
+    /// `JournalFull` if the journal has its 100,000 entries, else `Memory` if there is no room for one more. The room's
+    /// journal and machine are as they were, but for a command whose entry wasn't kept.
+    pub fn command<W: Wait>(
+        &self,
+        wait: &W,
+        seat: &mut Seat<J>,
+        command: Command,
+    ) -> Result<Answer, RoomFault>
+        ensures carried { IfOk result (λ answer.
+            Carries J.size seat.old.list seat.new.list seat.old.number command answer) }
+        ensures made { OnOk result (seat.new.made ≡ seat.old.made + 1) }
+        ensures own { OnOk result (seat.new.made ≤ own seat.new.number seat.new.list) }
+        ensures number { seat.new.number ≡ seat.old.number }
+
+        // After a refusal the seat made no more, and it has seen no less.
+        ensures err { OnErr result (seat.new.made ≡ seat.old.made) }
+        ensures grows { IsPrefix seat.old.list seat.new.list }
+        ensures full { result ≡ Err RoomFault.JournalFull → length seat.new.list ≡ most_entries }
+
+        // A full journal is never reported as refused memory, and nothing as unkept by a keeper that never fails.
+        ensures memory { result ≡ Err RoomFault.Memory → length seat.new.list < most_entries }
+        ensures failed { result ≡ Err RoomFault.Unkept
+            → HasFailed K.has_failed K.kept K.first K.form J.size seat.new.list }
+        ensures unkept { NeverFails K.has_failed → result ≢ Err RoomFault.Unkept }
+
+        // There is no reading only for a seat that had seen more than is shown, and it has learnt nothing then.
+        ensures no_reading { result ≡ Err RoomFault.NoReading → (seat.new.list ≡ seat.old.list)
+            × SeesMore K.has_failed K.kept K.first K.form J.size seat.old.list }
+    {
+        match self.command_kept(wait, seat, command) {
+            Ok(Carried { answer, kept: true }) => Ok(answer),
+            Ok(Carried { kept: false, .. }) => Err(RoomFault::Unkept),
+            Err(fault) => Err(fault),
+        }
+    }
+
     /// A note of what the seat has then seen: all commands whose entries are kept.
     ///
     /// # Errors
@@ -225,6 +205,9 @@ impl<J: RoomId, R: Wait + Drop, K: Keeper + Drop> SharedRoom<J, R, K> {
         ensures made { seat.new.made ≡ seat.old.made }
         ensures grows { IsPrefix seat.old.list seat.new.list }
         ensures told { IfOk result (λ told. told ≡ seat.new.list) }
+
+        // These are all commands that are shown at some moment of the call.
+        ensures shown { IfOk result (λ told. AreAllShown K.has_failed K.kept K.first K.form J.size told) }
         ensures err { OnErr result ((result ≡ Err RoomFault.NoReading) × (seat.new.list ≡ seat.old.list)
             × SeesMore K.has_failed K.kept K.first K.form J.size seat.old.list) }
     {
@@ -251,6 +234,33 @@ impl<J: RoomId, R: Wait + Drop, K: Keeper + Drop> SharedRoom<J, R, K> {
         locked.into_inner().into_room()
     }
 
+    /// The room, with all its seats back.
+    ///
+    /// # Errors
+    ///
+    /// `Unreturned` if a number of the room's seats has no seat among them, else `NoReading`, as in `command`. The
+    /// room comes back, with the seats as they were.
+    pub fn close(
+        self,
+        seats: Vec<Seat<J>>,
+    ) -> Result<Room, (SharedRoom<J, R, K>, Vec<Seat<J>>, CloseFault)>
+        requires { J.parts ≡ J.seats }
+        ensures size { IfOk result (λ room. room.size ≡ J.size) }
+        ensures legal { IfOk result (λ room. IsLegal J.size room.journal) }
+
+        // If the keeper never fails, each of the journal's commands is shown.
+        ensures settled { IfOk result (λ room. NeverFails K.has_failed → IsSettled room.journal seats.items) }
+        ensures back { OnOk result (back_of J.seats seats.items ≡ J.seats) }
+        ensures seats { IfErr result (λ back. back.1.items ≡ seats.items) }
+        ensures fault { IfErr result (λ back.
+            ClosesBy (AreAllShown K.has_failed K.kept K.first K.form J.size) J.seats seats.items back.2) }
+    {
+        match self.close_kept(seats) {
+            Ok((room, _keeper)) => Ok(room),
+            Err(back) => Err(back),
+        }
+    }
+
     /// As `close`, and gives the keeper: what is kept is the text of the journal, or breaks off in the last line after
     /// a failed write. The command of that last line is none that a seat made.
     ///
@@ -270,7 +280,8 @@ impl<J: RoomId, R: Wait + Drop, K: Keeper + Drop> SharedRoom<J, R, K> {
             IsKeptAs K.form J.size closed.0.journal (K.has_failed closed.1) K.first (K.kept closed.1)) }
         ensures back { OnOk result (back_of J.seats seats.items ≡ J.seats) }
         ensures seats { IfErr result (λ back. back.1.items ≡ seats.items) }
-        ensures fault { IfErr result (λ back. ClosesBy J.seats seats.items back.2) }
+        ensures fault { IfErr result (λ back.
+            ClosesBy (AreAllShown K.has_failed K.kept K.first K.form J.size) J.seats seats.items back.2) }
     {
         let SharedRoom { locked } = self;
         let locked = locked.into_inner();

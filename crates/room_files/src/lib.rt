@@ -65,4 +65,4 @@ pub use sessions::{keep_session, resume_session};
 pub use showing::{ShowFault, check_journal, show_journal};
 pub use text_keeper::{Beginning, TextKeeper};
 pub use verifier::Verifier;
-pub use writing::{put_entry, write_journal};
+pub use writing::write_journal;

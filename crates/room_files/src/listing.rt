@@ -1,11 +1,11 @@
 //! A journal in columns, to be read by people.
-ghost use Rattle.std.specs.Prelude.{◌≡◌, ◌++◌, IfOk, OnOk};
+ghost use Rattle.std.specs.Prelude.{◌≡◌, IfOk};
+ghost use Rattle.bytes_text.specs.Written.{Adds};
 ghost use Rattle.console_text.specs.CommandText.{command_text};
-ghost use Rattle.room_files.specs.Listing.{front_columns, is_seat, listed, listed_line, listing_text};
-ghost use Rattle.room_files.specs.Listing.{to_command_columns};
+ghost use Rattle.room_files.specs.Listing.{is_seat, listed, listed_line, listing_text, to_command_columns};
 
-use console_text::{put_command, reply_text};
-use machine_notation::put_digits;
+use crate::writing::{put_answer, put_said};
+use bytes_text::{Piece, Text};
 use room_alone::{Command, Entry};
 use std::alloc::{AllocError, Global};
 
@@ -29,28 +29,20 @@ pub struct View {
 pub fn list_journal(alloc: Global, journal: &[Entry], view: View) -> Result<Vec<u8>, AllocError>
     ensures { IfOk result (λ text. text.items ≡ listing_text view journal.now) }
 {
-    let mut text = Vec::new(alloc);
+    let mut text = Text::new(alloc);
     for (i, entry) in journal.iter().enumerate() {
-        put_listed(alloc, &mut text, view, i as u64 + 1, entry)?;
+        put_listed(alloc, &mut text, view, i as u64 + 1, entry);
     }
-    Ok(text)
+    text.into_bytes()
 }
 
 /// Adds the line of an entry, if it is asked for.
 #[tactic(auto, unfolding(crate::specs::Listing::listed))]
-fn put_listed(
-    alloc: Global,
-    text: &mut Vec<u8>,
-    view: View,
-    number: u64,
-    entry: &Entry,
-) -> Result<(), AllocError>
-    ensures { OnOk result (text.new.items ≡ text.old.items ++ listed view number entry.now) }
+fn put_listed(alloc: Global, text: &mut Text, view: View, number: u64, entry: &Entry)
+    ensures { Adds text.old text.new (listed view number entry.now) }
 {
     if number >= view.from && is_seat(view.seat, entry.seat) {
-        put_line(alloc, text, number, entry)
-    } else {
-        Ok(())
+        put_line(alloc, text, number, entry);
     }
 }
 
@@ -65,38 +57,28 @@ fn is_seat(named: Option<u8>, seat: u8) -> bool
 }
 
 /// Adds the line of an entry.
-#[tactic(auto, unfolding(crate::specs::Listing::listed_line))]
-fn put_line(alloc: Global, text: &mut Vec<u8>, number: u64, entry: &Entry) -> Result<(), AllocError>
-    ensures { OnOk result (text.new.items ≡ text.old.items ++ listed_line number entry.now) }
+#[tactic(auto, unfolding(crate::specs::Listing::listed_line, crate::specs::Listing::front_columns), using(bytes_text::proofs::AddsLemmas::adds_padded))]
+fn put_line(alloc: Global, text: &mut Text, number: u64, entry: &Entry)
+    ensures { Adds text.old text.new (listed_line number entry.now) }
 {
-    put_front(text, number, entry.seat)?;
-    let command = to_command_columns(alloc, &entry.command)?;
-    text.extend_from_slice(command.as_slice())?;
-    text.extend_from_slice(b"  ")?;
-    let answer = reply_text(alloc, &entry.answer)?;
-    text.extend_from_slice(answer.as_slice())?;
-    text.push(b'\n')?;
-    Ok(())
+    text.put_pieces(&[
+        Piece::Count(number),
+        Piece::Text(b" seat "),
+        Piece::Small(entry.seat),
+        Piece::Text(b"  "),
+    ]);
+    put_command_columns(text, &entry.command);
+    text.put(b"  ");
+    put_answer(alloc, text, &entry.answer);
+    text.put_byte(b'\n');
 }
 
-/// Adds an entry's number and its seat, and two blanks.
-#[tactic(auto, unfolding(crate::specs::Listing::front_columns))]
-fn put_front(text: &mut Vec<u8>, number: u64, seat: u8) -> Result<(), AllocError>
-    ensures { OnOk result (text.new.items ≡ text.old.items ++ front_columns number seat) }
+/// Adds a command's text, followed by blanks up to the columns of a command.
+#[tactic(auto, using(bytes_text::proofs::AddsLemmas::adds_padded))]
+fn put_command_columns(text: &mut Text, command: &Command)
+    ensures { Adds text.old text.new (to_command_columns (command_text command.now)) }
 {
-    put_digits(text, 1, number)?;
-    text.extend_from_slice(b" seat ")?;
-    put_digits(text, 1, u64::from(seat))?;
-    text.extend_from_slice(b"  ")
-}
-
-/// A command's text, followed by blanks up to the columns of a command.
-fn to_command_columns(alloc: Global, command: &Command) -> Result<Vec<u8>, AllocError>
-    ensures { IfOk result (λ text. text.items ≡ to_command_columns (command_text command.now)) }
-{
-    let mut text = Vec::new(alloc);
-    put_command(&mut text, command)?;
-    let columns = text.len().max(COMMAND_COLUMNS);
-    text.resize(columns, b' ')?;
-    Ok(text)
+    let from = text.len();
+    put_said(text, command);
+    text.pad(from, COMMAND_COLUMNS);
 }

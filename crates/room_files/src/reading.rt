@@ -14,10 +14,11 @@ ghost use Rattle.room_files.specs.Reading.{Takes, command_at, command_in, entry_
 ghost use Rattle.room_files.specs.Reading.{seat_in, size_among};
 
 use crate::journal_fault::{JournalFault, Wrong};
-use crate::writing::put_header;
-use console_text::{Line, parse_fit, parse_line, put_command, reply_text};
+use crate::writing::{put_answer, put_header, put_said};
+use bytes_text::{Piece, Text};
+use console_text::{Line, parse_fit, parse_line};
 use core_1401::SIZES;
-use machine_notation::{put_digits, read_digits};
+use machine_notation::read_digits;
 use room_alone::{Answer, Command, Room, RoomFault};
 use std::alloc::{AllocError, Global};
 
@@ -126,22 +127,15 @@ fn split_header<'a>(alloc: Global, text: &'a [u8], sizes: &[u16]) -> Result<(u16
     let [size, more @ ..] = sizes else {
         return Err(Wrong::Header);
     };
-    let Ok(front) = header(alloc, *size) else {
+    let mut front = Text::new(alloc);
+    put_header(&mut front, *size);
+    let Ok(front) = front.into_bytes() else {
         return Err(Wrong::Memory);
     };
     match text.strip_prefix(front.as_slice()) {
         Some(rest) => Ok((*size, rest)),
         None => split_header(alloc, text, more),
     }
-}
-
-/// The first line of a journal of a machine of this size.
-fn header(alloc: Global, size: u16) -> Result<Vec<u8>, AllocError>
-    ensures { IfOk result (λ text. text.items ≡ header_text size) }
-{
-    let mut text = Vec::new(alloc);
-    put_header(&mut text, size)?;
-    Ok(text)
 }
 
 /// Reads the entry that a text begins with, has the machine carry its command out, and compares the answer. Gives what
@@ -210,10 +204,9 @@ fn split_number(alloc: Global, number: u64, text: &[u8]) -> Result<&[u8], Wrong>
 fn number_front(alloc: Global, number: u64) -> Result<Vec<u8>, AllocError>
     ensures { IfOk result (λ text. text.items ≡ with_tab (digits_in 1 number)) }
 {
-    let mut text = Vec::new(alloc);
-    put_digits(&mut text, 1, number)?;
-    text.push(b'\t')?;
-    Ok(text)
+    let mut text = Text::new(alloc);
+    text.put_pieces(&[Piece::Count(number), Piece::Byte(b'\t')]);
+    text.into_bytes()
 }
 
 /// A seat, and what follows it and its tab.
@@ -257,7 +250,10 @@ fn split_command(alloc: Global, text: &[u8]) -> Result<(Command, &[u8]), Wrong>
     let Some(command) = command(field(text)) else {
         return Err(Wrong::Command);
     };
-    let Ok(front) = command_front(alloc, &command) else {
+    let mut front = Text::new(alloc);
+    put_said(&mut front, &command);
+    front.put_byte(b'\t');
+    let Ok(front) = front.into_bytes() else {
         return Err(Wrong::Memory);
     };
     match text.strip_prefix(front.as_slice()) {
@@ -279,33 +275,17 @@ fn command(text: &[u8]) -> Option<Command>
     }
 }
 
-/// A command's text and its tab.
-fn command_front(alloc: Global, command: &Command) -> Result<Vec<u8>, AllocError>
-    ensures { IfOk result (λ text. text.items ≡ with_tab (command_text command.now)) }
-{
-    let mut text = Vec::new(alloc);
-    put_command(&mut text, command)?;
-    text.push(b'\t')?;
-    Ok(text)
-}
-
 /// What follows an answer and its line feed.
 fn split_answer<'a>(alloc: Global, answer: &Answer, text: &'a [u8]) -> Result<&'a [u8], Wrong>
     ensures ok { IfOk result (λ rest. after_prefix (with_feed (answer_text answer.now)) text.now ≡ Some rest.now) }
     ensures why { IfErr result
         (IsWhy (ok_or (after_prefix (with_feed (answer_text answer.now)) text.now) Wrong.Answer)) }
 {
-    let Ok(front) = answer_front(alloc, answer) else {
+    let mut front = Text::new(alloc);
+    put_answer(alloc, &mut front, answer);
+    front.put_byte(b'\n');
+    let Ok(front) = front.into_bytes() else {
         return Err(Wrong::Memory);
     };
     text.strip_prefix(front.as_slice()).ok_or(Wrong::Answer)
-}
-
-/// An answer's text and its line feed.
-fn answer_front(alloc: Global, answer: &Answer) -> Result<Vec<u8>, AllocError>
-    ensures { IfOk result (λ text. text.items ≡ with_feed (answer_text answer.now)) }
-{
-    let mut text = reply_text(alloc, answer)?;
-    text.push(b'\n')?;
-    Ok(text)
 }

@@ -1,11 +1,11 @@
 //! A keeper that writes the text of a journal to a sink.
-ghost use Rattle.std.specs.Prelude.{◌≡◌, List, Option, ℕ, IfOk};
-ghost use Rattle.room_files.specs.JournalText.{entry_text};
+ghost use Rattle.std.specs.Prelude.{◌≡◌, List, Option, ℕ};
 
-use crate::put_entry;
+use crate::writing::put_entry;
 use bytes_streams::{Sink, put_all};
+use bytes_text::Text;
 use room_alone::{Entry, Keeper, Unkept};
-use std::alloc::{AllocError, Global};
+use std::alloc::Global;
 use std::marker::{Brand, PhantomData};
 
 /// What a journal's sink had received before the journal. A function that keeps a journal is generic in it, and its
@@ -73,7 +73,9 @@ impl<J: Beginning, S: Sink + Drop> Keeper for TextKeeper<J, S> {
     }
 
     fn keep(&mut self, number: u64, entry: &Entry) -> Result<(), Unkept> {
-        let Ok(line) = line_of(self.alloc, number, entry) else {
+        let mut line = Text::new(self.alloc);
+        put_entry(self.alloc, &mut line, number, entry);
+        let Ok(line) = line.into_bytes() else {
             self.failed = true;
             return Err(Unkept);
         };
@@ -83,13 +85,4 @@ impl<J: Beginning, S: Sink + Drop> Keeper for TextKeeper<J, S> {
         }
         Ok(())
     }
-}
-
-/// The line of an entry.
-fn line_of(alloc: Global, number: u64, entry: &Entry) -> Result<Vec<u8>, AllocError>
-    ensures { IfOk result (λ line. line.items ≡ entry_text number entry.now) }
-{
-    let mut line = Vec::new(alloc);
-    put_entry(alloc, &mut line, number, entry)?;
-    Ok(line)
 }

@@ -58,13 +58,15 @@ where
 {
     let rt = page.serving.rt;
     let service = page.serving.service;
-    let mut number = 0;
+    let mut number = 0u64;
     let mut looks = NAPS;
     for _ in rt.forever() {
-        let Some(stream) = service.accept(rt, &page.port.listener) else {
+        let Some(stream) = service.accept(rt, page.port.listening.listener()) else {
             break;
         };
-        number = next_after(number);
+
+        // Nobody counts to the last one.
+        number = number.wrapping_add(1);
         match let_in(scope, page, stream, number, looks, &asked) {
             // Once one was refused, the next one isn't waited for until there is a place again.
             Ok(is_inside) => looks = if is_inside { NAPS } else { 1 },
@@ -72,11 +74,6 @@ where
         }
     }
     page.crowd.close_idle(rt);
-}
-
-/// The next number. Nobody counts to the last one.
-fn next_after(number: u64) -> u64 {
-    number.wrapping_add(1)
 }
 
 /// Lets a connection in, and starts its thread; or answers that too many wait, if they do each time that it looks.

@@ -38,7 +38,9 @@ pub(crate) fn going_on(hold: Option<Hold>, now: u64) -> Option<Hold>
     // No hold outlasts 60 seconds.
     ensures ends { IfSome result (λ hold. (hold.since ≤ now) × (now - hold.since ≤ 59)) }
 {
-    let hold = hold?;
+    let Some(hold) = hold else {
+        return None;
+    };
     if seconds_held(&hold, now) > 0 {
         Some(hold)
     } else {
@@ -64,7 +66,9 @@ pub(crate) fn held_by(hold: Option<Hold>, seat: u8, now: u64) -> Option<Hold>
 pub(crate) fn ended_by(hold: Option<Hold>, seat: u8) -> Option<Hold>
     ensures { result ≡ ended_by hold seat }
 {
-    let hold = hold?;
+    let Some(hold) = hold else {
+        return None;
+    };
     if hold.seat == seat { None } else { Some(hold) }
 }
 
@@ -72,7 +76,9 @@ pub(crate) fn ended_by(hold: Option<Hold>, seat: u8) -> Option<Hold>
 pub(crate) fn seen_by(hold: Option<Hold>, seat: u8, now: u64) -> Option<Hold>
     ensures { result ≡ seen_by hold seat now }
 {
-    let hold = hold?;
+    let Some(hold) = hold else {
+        return None;
+    };
     if hold.seat != seat {
         return Some(hold);
     }

@@ -1,73 +1,80 @@
 //! The text that says who holds a machine, what was last done at it, who sits where, and how its room was begun.
-ghost use Rattle.std.specs.Prelude.{◌≡◌, ◌++◌, IfOk, OnOk};
+ghost use Rattle.std.specs.Prelude.{◌≡◌, IfOk};
+ghost use Rattle.bytes_text.specs.Written.{Adds};
 ghost use Rattle.serving_room.specs.Holds.{beginning_line, hold_line, last_line, numbers_text, taken_line};
 ghost use Rattle.serving_room.specs.Errands.{said_of};
 
 use crate::hold::{Hold, seconds_held};
 use crate::last::{Last, put_act};
 use crate::room_state::RoomState;
-use machine_notation::put_digits;
+use bytes_text::{Piece, Text};
 use std::alloc::{AllocError, Global};
 
 /// Adds the line that says who holds the machine, and for how many seconds.
-fn put_hold(text: &mut Vec<u8>, hold: Option<Hold>, now: u64) -> Result<(), AllocError>
-    ensures { OnOk result (text.new.items ≡ text.old.items ++ hold_line hold now) }
+fn put_hold(text: &mut Text, hold: Option<Hold>, now: u64)
+    ensures { Adds text.old text.new (hold_line hold now) }
 {
-    let Some(hold) = hold else {
-        return text.extend_from_slice(b"HOLD FREE\n");
-    };
-    text.extend_from_slice(b"HOLD ")?;
-    put_digits(text, 1, u64::from(hold.seat))?;
-    text.extend_from_slice(b" FOR ")?;
-    put_digits(text, 1, seconds_held(&hold, now))?;
-    text.extend_from_slice(b"\n")
+    match hold {
+        None => text.put(b"HOLD FREE\n"),
+        Some(hold) => text.put_pieces(&[
+            Piece::Text(b"HOLD "),
+            Piece::Small(hold.seat),
+            Piece::Text(b" FOR "),
+            Piece::Count(seconds_held(&hold, now)),
+            Piece::Text(b"\n"),
+        ]),
+    }
 }
 
 /// Adds the line that says which seat gave the last command, and the command.
-fn put_last(text: &mut Vec<u8>, last: Option<Last>) -> Result<(), AllocError>
-    ensures { OnOk result (text.new.items ≡ text.old.items ++ last_line last) }
+fn put_last(text: &mut Text, last: Option<Last>)
+    ensures { Adds text.old text.new (last_line last) }
 {
-    let Some(last) = last else {
-        return text.extend_from_slice(b"LAST NONE\n");
-    };
-    text.extend_from_slice(b"LAST ")?;
-    put_digits(text, 1, u64::from(last.seat))?;
-    text.extend_from_slice(b" ")?;
-    put_act(text, last.act)?;
-    text.extend_from_slice(b"\n")
+    match last {
+        None => text.put(b"LAST NONE\n"),
+        Some(last) => {
+            text.put_pieces(&[
+                Piece::Text(b"LAST "),
+                Piece::Small(last.seat),
+                Piece::Text(b" "),
+            ]);
+            put_act(text, last.act);
+            text.put(b"\n");
+        }
+    }
 }
 
 /// Adds numbers of seats.
-fn put_numbers(text: &mut Vec<u8>, numbers: &[u8]) -> Result<(), AllocError>
-    ensures { OnOk result (text.new.items ≡ text.old.items ++ numbers_text numbers.now) }
+fn put_numbers(text: &mut Text, numbers: &[u8])
+    ensures { Adds text.old text.new (numbers_text numbers.now) }
 {
     match numbers {
-        [] => Ok(()),
+        [] => {}
         [first, rest @ ..] => {
-            text.extend_from_slice(b" ")?;
-            put_digits(text, 1, u64::from(*first))?;
-            put_numbers(text, rest)
+            text.put(b" ");
+            text.put_number(1, u64::from(*first));
+            put_numbers(text, rest);
         }
     }
 }
 
 /// Adds the line that says at which seats somebody sits.
-fn put_taken(text: &mut Vec<u8>, taken: &[u8]) -> Result<(), AllocError>
-    ensures { OnOk result (text.new.items ≡ text.old.items ++ taken_line taken.now) }
+fn put_taken(text: &mut Text, taken: &[u8])
+    ensures { Adds text.old text.new (taken_line taken.now) }
 {
-    text.extend_from_slice(b"TAKEN")?;
-    put_numbers(text, taken)?;
-    text.extend_from_slice(b"\n")
+    text.put(b"TAKEN");
+    put_numbers(text, taken);
+    text.put(b"\n");
 }
 
 /// Adds the line that says whether the room was begun with an image or with cards.
-fn put_beginning(text: &mut Vec<u8>, is_prepared: bool) -> Result<(), AllocError>
-    ensures { OnOk result (text.new.items ≡ text.old.items ++ beginning_line is_prepared) }
+fn put_beginning(text: &mut Text, is_prepared: bool)
+    ensures { Adds text.old text.new (beginning_line is_prepared) }
 {
     if is_prepared {
-        text.extend_from_slice(b"BEGAN PREPARED\n")
+        text.put(b"BEGAN PREPARED\n");
     } else {
-        text.extend_from_slice(b"BEGAN PLAIN\n")
+        text.put(b"BEGAN PLAIN\n");
     }
 }
 
@@ -83,10 +90,10 @@ pub(crate) fn hold_text(
 ) -> Result<Vec<u8>, AllocError>
     ensures { IfOk result (λ text. text.items ≡ said_of room.now taken.now) }
 {
-    let mut text = Vec::new(alloc);
-    put_hold(&mut text, room.hold, room.time)?;
-    put_last(&mut text, room.last)?;
-    put_taken(&mut text, taken)?;
-    put_beginning(&mut text, room.is_prepared)?;
-    Ok(text)
+    let mut text = Text::new(alloc);
+    put_hold(&mut text, room.hold, room.time);
+    put_last(&mut text, room.last);
+    put_taken(&mut text, taken);
+    put_beginning(&mut text, room.is_prepared);
+    text.into_bytes()
 }

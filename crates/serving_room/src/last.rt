@@ -1,10 +1,10 @@
 //! What was last done at a machine.
-ghost use Rattle.std.specs.Prelude.{◌≡◌, ◌++◌, OnOk};
+ghost use Rattle.std.specs.Prelude.{◌≡◌};
+ghost use Rattle.bytes_text.specs.Written.{Adds};
 ghost use Rattle.serving_room.specs.Lasts.{act_of, act_text};
 
+use bytes_text::Text;
 use machine_commands::Command;
-use machine_notation::put_digits;
-use std::alloc::AllocError;
 
 /// What a command does, without what it does it with.
 #[derive(Clone, Copy)]
@@ -68,23 +68,23 @@ pub(crate) fn act_of(command: &Command) -> Act
 }
 
 /// Adds the console's word for it, or a journal's where a console has none; for a run also its limit.
-pub(crate) fn put_act(text: &mut Vec<u8>, act: Act) -> Result<(), AllocError>
-    ensures { OnOk result (text.new.items ≡ text.old.items ++ act_text act) }
+pub(crate) fn put_act(text: &mut Text, act: Act)
+    ensures { Adds text.old text.new (act_text act) }
 {
     match act {
-        Act::Deposit => text.extend_from_slice(b"DEPOSIT"),
-        Act::Examine => text.extend_from_slice(b"EXAMINE"),
-        Act::Registers => text.extend_from_slice(b"REGS"),
-        Act::Start => text.extend_from_slice(b"START"),
-        Act::Switch => text.extend_from_slice(b"SWITCH"),
-        Act::Feed => text.extend_from_slice(b"FEED"),
-        Act::Load => text.extend_from_slice(b"LOAD"),
+        Act::Deposit => text.put(b"DEPOSIT"),
+        Act::Examine => text.put(b"EXAMINE"),
+        Act::Registers => text.put(b"REGS"),
+        Act::Start => text.put(b"START"),
+        Act::Switch => text.put(b"SWITCH"),
+        Act::Feed => text.put(b"FEED"),
+        Act::Load => text.put(b"LOAD"),
         Act::Run(limit) => {
-            text.extend_from_slice(b"RUN ")?;
-            put_digits(text, 1, u64::from(limit))
+            text.put(b"RUN ");
+            text.put_number(1, u64::from(limit));
         }
-        Act::Line => text.extend_from_slice(b"LINE"),
-        Act::Card => text.extend_from_slice(b"CARD"),
-        Act::Fit => text.extend_from_slice(b"FIT"),
+        Act::Line => text.put(b"LINE"),
+        Act::Card => text.put(b"CARD"),
+        Act::Fit => text.put(b"FIT"),
     }
 }

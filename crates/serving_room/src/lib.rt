@@ -24,6 +24,9 @@ mod room_page;
 mod room_pages;
 mod room_state;
 
+// where a room listens
+pub mod ports;
+
 // the connections of a page, its requests at its seat, and the pages of all seats
 mod arrivals;
 mod crowd;
@@ -35,6 +38,7 @@ pub mod serving;
 
 pub use noting::NotingKeeper;
 pub use paging::PagePort;
+pub use ports::Listening;
 pub use serving::{Listeners, SeatsServed, serve_seats};
 pub use serving_seats::{GiveFault, SeatsFault, TakingTurns, foreign_seat, give, give_entries};
 pub use until_renewed::UntilRenewed;

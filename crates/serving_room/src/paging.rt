@@ -1,8 +1,9 @@
 //! The pages of a service: each at a port of its own, for a seat of its own.
-ghost use Rattle.std.specs.Prelude.{◌≡◌, ◌<◌, ◌≤◌, ◌^◌, length};
+ghost use Rattle.std.specs.Prelude.{◌≡◌, ◌<◌, ◌≤◌};
 
 use crate::arrivals::{Asked, accept_arrivals};
 use crate::crowd::{Crowd, MOST_INSIDE};
+use crate::ports::Listening;
 use crate::room_pages::{PageOfRoom, Serving};
 use crate::visits::Visits;
 use crossbeam_channel::{Receiver, Sender, bounded};
@@ -11,23 +12,24 @@ use serving_page::document::document;
 use serving_page::{RoomShown, SeatPage, Site, TakenPage, answer_each, answer_page};
 use serving_seats::SeatsFault;
 use std::alloc::AllocGlobal;
-use std::net::TcpListener;
 use std::random::RandomSource;
 use std::sync::Wait;
 use std::thread;
 use std::thread::{Scope, Threads};
 use std::time::Clock;
 
-/// Where a page is served.
+/// Where the page of a seat is served.
 #[derive(Drop)]
 pub struct PagePort {
+    /// The number of its seat.
+    pub seat: u8,
     /// The port on 127.0.0.1, as a browser names it, and the origin outside, if there is one.
     pub site: Site,
     /// The listener at that port.
-    pub listener: TcpListener,
+    pub listening: Listening,
 }
 
-/// Starts the threads of all pages: the first is that of seat 1, the next that of seat 2, and so on.
+/// Starts the thread of each page. One of a seat that the room hasn't is not served, nor one whose thread is refused.
 pub(crate) fn start_pages<'s, E: 's, J, H, K, R>(
     scope: &Scope<'s, E>,
     serving: &'s Serving<'s, J, R>,
@@ -39,56 +41,32 @@ where
     H: Wait + Drop + Send + Sync + 's,
     K: Keeper + Drop + Send + Sync + 's,
     R: Threads + Wait + Sync + Clock + AllocGlobal + RandomSource + 's,
-    requires seats { length pages.now ≤ J.seats }
-    requires count { J.seats < 2 ^ 8 }
 {
-    let mut number = 0;
-    for page in pages {
-        number += 1;
-        start_page(scope, serving, room, page, number);
+    for port in pages {
+        if port.seat < 1 || serving.service.seats() < port.seat {
+            continue;
+        }
+        if scope
+            .spawn(
+                move ||
+                    requires { (0 < port.now.seat) × (port.now.seat ≤ J.seats) }
+                { serve_page(serving, room, port) },
+            )
+            .is_err()
+        {
+            serving.give_up(port, SeatsFault::Thread);
+        }
     }
 }
 
-/// Starts the thread of a page; if it is refused, the page isn't served.
-fn start_page<'s, E: 's, J, H, K, R>(
-    scope: &Scope<'s, E>,
-    serving: &'s Serving<'s, J, R>,
-    room: &'s SharedRoom<J, H, K>,
-    port: &'s PagePort,
-    seat: u8,
-)
-where
-    J: RoomId + Send + Sync + 's,
-    H: Wait + Drop + Send + Sync + 's,
-    K: Keeper + Drop + Send + Sync + 's,
-    R: Threads + Wait + Sync + Clock + AllocGlobal + RandomSource + 's,
-    requires { (0 < seat) × (seat ≤ J.seats) }
-{
-    if scope
-        .spawn(
-            move ||
-                requires { (0 < seat) × (seat ≤ J.seats) }
-            { serve_page(serving, room, port, seat) },
-        )
-        .is_err()
-    {
-        serving.give_up(port, SeatsFault::Thread);
-    }
-}
-
-/// Serves the page of the seat of this number until the room is being closed.
-fn serve_page<J, H, K, R>(
-    serving: &Serving<'_, J, R>,
-    room: &SharedRoom<J, H, K>,
-    port: &PagePort,
-    seat: u8,
-)
+/// Serves a page until the room is being closed.
+fn serve_page<J, H, K, R>(serving: &Serving<'_, J, R>, room: &SharedRoom<J, H, K>, port: &PagePort)
 where
     J: RoomId + Send + Sync,
     H: Wait + Drop + Send + Sync,
     K: Keeper + Drop + Send + Sync,
     R: Threads + Wait + Sync + Clock + AllocGlobal + RandomSource,
-    requires { (0 < seat) × (seat ≤ J.seats) }
+    requires { (0 < port.now.seat) × (port.now.seat ≤ J.seats) }
 {
     let alloc = serving.rt.alloc();
     let (Ok((asked, receiver)), Ok(crowd), Some(name)) = (
@@ -102,7 +80,6 @@ where
     let page = PageOfRoom {
         serving,
         port,
-        seat,
         name,
         crowd: &crowd,
     };
@@ -121,13 +98,13 @@ where
     H: Wait + Drop + Send + Sync,
     K: Keeper + Drop + Send + Sync,
     R: Threads + Wait + Sync + Clock + AllocGlobal + RandomSource,
-    requires { (0 < page.now.seat) × (page.now.seat ≤ J.seats) }
+    requires { (0 < page.now.port.now.seat) × (page.now.port.now.seat ≤ J.seats) }
 {
     thread::scope(
         thread::scope_env(),
         page.serving.rt,
         move |scope|
-            requires { (0 < page.now.seat) × (page.now.seat ≤ J.seats) }
+            requires { (0 < page.now.port.now.seat) × (page.now.port.now.seat ≤ J.seats) }
         { accept_and_answer(scope, room, page, asked, receiver) },
     );
 }
@@ -145,7 +122,7 @@ where
     H: Wait + Drop + Send + Sync + 's,
     K: Keeper + Drop + Send + Sync + 's,
     R: Threads + Wait + Sync + Clock + AllocGlobal + RandomSource + 's,
-    requires { (0 < page.now.seat) × (page.now.seat ≤ J.seats) }
+    requires { (0 < page.now.port.now.seat) × (page.now.port.now.seat ≤ J.seats) }
 {
     let serving = page.serving;
     if scope.spawn(move || accept_arrivals(page, asked)).is_err() {
@@ -172,7 +149,7 @@ where
     H: Wait + Drop,
     K: Keeper + Drop,
     R: Wait + Clock + AllocGlobal + RandomSource,
-    requires { (0 < page.now.seat) × (page.now.seat ≤ J.seats) }
+    requires { (0 < page.now.port.now.seat) × (page.now.port.now.seat ≤ J.seats) }
 {
     let rt = page.serving.rt;
     let service = page.serving.service;
@@ -180,7 +157,7 @@ where
         if !visits.wait() {
             return;
         }
-        match service.take_free(rt, page.seat) {
+        match service.take_free(rt, page.port.seat) {
             Some(seat) => {
                 let seats = service.seats();
                 let seat = answer_at(room, page, seat, seats, visits);
@@ -208,7 +185,8 @@ where
     H: Wait + Drop,
     K: Keeper + Drop,
     R: Wait + Clock + AllocGlobal + RandomSource,
-    requires { seats ≡ J.seats }
+    requires seats { seats ≡ J.seats }
+    requires seat { seat.number ≡ page.now.port.now.seat }
     ensures { result.number ≡ seat.number }
 {
     let rt = page.serving.rt;

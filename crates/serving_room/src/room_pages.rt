@@ -1,4 +1,5 @@
 //! What the pages of a room have in common: the room's name, and the hold of its machine.
+ghost use Rattle.std.specs.Prelude.{◌≡◌, IfSome};
 
 use crate::crowd::Crowd;
 use crate::hold::Hold;
@@ -59,7 +60,8 @@ pub(crate) struct Serving<'a, J: RoomId, R> {
 impl<'a, J: RoomId, R: Wait> Serving<'a, J, R> {
     /// Closes the port of a page, which isn't served any more, and notes why.
     pub(crate) fn give_up(&self, port: &PagePort, fault: SeatsFault) {
-        self.service.give_up(self.rt, &port.listener, fault);
+        self.service
+            .give_up(self.rt, port.listening.listener(), fault);
     }
 }
 
@@ -68,10 +70,8 @@ impl<'a, J: RoomId, R: Wait> Serving<'a, J, R> {
 pub(crate) struct PageOfRoom<'a, J: RoomId, R> {
     /// What it shares with all others.
     pub serving: &'a Serving<'a, J, R>,
-    /// Where it is.
+    /// Where it is, and its seat.
     pub port: &'a PagePort,
-    /// The number of its seat.
-    pub seat: u8,
     /// The name of the room.
     pub name: &'a RoomName,
     /// The connections that came to it.
@@ -81,11 +81,13 @@ pub(crate) struct PageOfRoom<'a, J: RoomId, R> {
 impl<'a, J: RoomId, R: Wait + Clock + AllocGlobal + RandomSource> PageOfRoom<'a, J, R> {
     /// What the page knows of its room with this hold; or `None` if the clock can't be read. The clock is read after the
     /// hold, so no hold begins later than now.
-    fn room_with(&self, hold: Option<Hold>) -> Option<RoomState> {
+    fn room_with(&self, hold: Option<Hold>) -> Option<RoomState>
+        ensures { IfSome result (λ room. (room.seat ≡ self.now.port.now.seat) × (room.hold ≡ hold)) }
+    {
         let rt = self.serving.rt;
         let watch = self.serving.watch;
         Some(RoomState {
-            seat: self.seat,
+            seat: self.port.seat,
             time: rt.monotonic().ok()?.as_secs(),
             last: watch.last(rt),
             is_prepared: watch.is_prepared(),

@@ -1,5 +1,5 @@
 //! A shared room whose seats are taken again.
-ghost use Rattle.std.specs.Prelude.{◌≡◌, ◌≢◌, ◌<◌, ◌≤◌, ◌^◌, Some, IfSome, length};
+ghost use Rattle.std.specs.Prelude.{◌≡◌, ◌≢◌, ◌<◌, ◌^◌, Some, IfSome};
 ghost use Rattle.room_alone.specs.Journal.{IsLegal};
 ghost use Rattle.room_alone.specs.Kept.{IsKeptAs};
 ghost use Rattle.room_1401.specs.Keeping.{kept_part};
@@ -7,6 +7,7 @@ ghost use Rattle.console_1401.specs.Served.{AreAllSeats};
 ghost use Rattle.serving_room.specs.Accounted.{IsAccounted};
 
 use crate::paging::{PagePort, start_pages};
+use crate::ports::Listening;
 use crate::room_pages::{RoomPages, Serving};
 use crate::watch::Watch;
 use bytes_descriptors::shut_down;
@@ -15,7 +16,6 @@ use console_1401::Door;
 use room_1401::{Keeper, Room, RoomId, Seat, SharedRoom};
 use serving_seats::{SeatService, SeatsFault, accept_each};
 use std::alloc::AllocGlobal;
-use std::net::TcpListener;
 use std::random::RandomSource;
 use std::sync::Wait;
 use std::thread;
@@ -29,8 +29,8 @@ const LOOK: u64 = 100;
 #[derive(Clone, Copy)]
 pub struct Listeners<'a> {
     /// The listener for consoles, if there is one.
-    pub consoles: Option<&'a TcpListener>,
-    /// The ports of pages, that of seat 1 first.
+    pub consoles: Option<&'a Listening>,
+    /// The ports of pages.
     pub pages: &'a [PagePort],
 }
 
@@ -49,11 +49,10 @@ pub struct SeatsServed<K: Keeper + Drop> {
 /// a thread of its own, at the lowest seat that is free; when the console ends, its seat is free again, with what it made
 /// and has seen. A connection for which no seat is free is told `FULL` and closed.
 ///
-/// Each seat that has a port among the pages has a page there: the first is that of seat 1, the next that of seat 2, and
-/// so on. A seat goes to whoever comes first, the page or a console. A page takes its seat by the first picture or line
-/// that is accepted from the page itself, and gives it back if there is none for a minute and no other seat is free;
-/// while a console sits there, each request of the page is refused. If a new room may follow this one, its pages are
-/// answered when, and may ask for it.
+/// Each seat that has a port among the pages has a page there. A seat goes to whoever comes first, the page or a
+/// console. A page takes its seat by the first picture or line that is accepted from the page itself, and gives it back
+/// if there is none for a minute and no other seat is free; while a console sits there, each request of the page is
+/// refused. If a new room may follow this one, its pages are answered when, and may ask for it.
 ///
 /// A line of the input that says QUIT, or the end of the input, closes the room: all listeners are shut down, and accept
 /// no connection any more; each console ends as at the end of its input, with its last reply out; the request of each
@@ -86,7 +85,6 @@ where
     // All of the room's seats are handed in, in the order of their numbers.
     requires seats { AreAllSeats J.seats seats.items }
     requires count { (0 < J.seats) × (J.seats < 2 ^ 8) }
-    requires pages { length listeners.pages.now ≤ J.seats }
     ensures size { result.room.size ≡ J.size }
     ensures legal { IsLegal J.size result.room.journal }
     ensures kept { IsKeptAs K.form J.size result.room.journal (K.has_failed result.keeper) K.first
@@ -159,8 +157,6 @@ where
     R: Threads + Wait + Sync + Clock + Eprint + AllocGlobal + RandomSource,
     S: Source + Drop + Send,
     D: Door + Sync,
-    requires pages { length listeners.pages.now ≤ J.seats }
-    requires count { J.seats < 2 ^ 8 }
 {
     let in_common = RoomPages::new(rt);
     let serving = Serving {
@@ -170,13 +166,9 @@ where
         watch,
     };
     let serving = &serving;
-    thread::scope(
-        thread::scope_env(),
-        rt,
-        move |scope|
-            requires { (length listeners.pages.now ≤ J.seats) × (J.seats < 2 ^ 8) }
-        { listen(scope, serving, room, listeners, input, door) },
-    );
+    thread::scope(thread::scope_env(), rt, move |scope| {
+        listen(scope, serving, room, listeners, input, door)
+    });
 }
 
 /// Starts the threads that wait for the input's end and for a port that is closed, and those of the pages, and accepts
@@ -196,8 +188,6 @@ where
     R: Threads + Wait + Sync + Clock + Eprint + AllocGlobal + RandomSource + 's,
     S: Source + Drop + Send + 's,
     D: Door + Sync + 's,
-    requires pages { length listeners.pages.now ≤ J.seats }
-    requires count { J.seats < 2 ^ 8 }
 {
     let rt = serving.rt;
     let service = serving.service;
@@ -213,7 +203,15 @@ where
     }
     start_pages(scope, serving, room, listeners.pages);
     if let Some(listener) = listeners.consoles {
-        accept_each(scope, rt.alloc(), rt, room, service, listener, door);
+        accept_each(
+            scope,
+            rt.alloc(),
+            rt,
+            room,
+            service,
+            listener.listener(),
+            door,
+        );
     }
 }
 
@@ -252,10 +250,10 @@ fn close_by_input<J: RoomId, R: Wait + Clock, S: Source + Drop>(
     let mut input = input;
     service.close_by(rt, &mut input);
     if let Some(listener) = listeners.consoles {
-        shut_down(listener);
+        shut_down(listener.listener());
     }
     for page in listeners.pages {
-        shut_down(&page.listener);
+        shut_down(page.listening.listener());
     }
     service.end_consoles(rt);
 }

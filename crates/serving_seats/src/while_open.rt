@@ -1,8 +1,11 @@
 //! A connection of a console, while its room is open.
 
+use libc::net::{POLLOUT, poll};
+use libc::types::pollfd;
 use std::io;
 use std::io::{ErrorKind, Read, Write};
 use std::net::TcpStream;
+use std::os::fd::AsRawFd;
 use std::sync::atomic::AtomicBool;
 use std::sync::atomic::Ordering::SeqCst;
 use std::time::Duration;
@@ -11,8 +14,8 @@ use std::time::Duration;
 const LOOK: u64 = 100;
 
 /// A connection that waits for its peer while the room is open. Once the room is being closed, a read takes what has
-/// come, and is at the end when nothing has; once that is over, there is nothing more to read, and a write that the
-/// peer doesn't take at once fails.
+/// come, and is at the end when nothing has; once that is over, there is nothing more to read, and a write for which there
+/// is no room at once fails.
 #[derive(Clone, Copy)]
 pub(crate) struct WhileOpen<'a> {
     stream: &'a TcpStream,
@@ -82,12 +85,24 @@ impl Read for WhileOpen<'_> {
 }
 
 impl Write for WhileOpen<'_> {
+    /// Writes once the peer has taken so much that the system calls the connection writable, which it does while a third
+    /// of its buffer is free. So a reply goes out whole; or, once the time of the peers is over, not at all.
     fn write(&mut self, buf: &[u8]) -> io::Result<usize> {
         let mut stream = self.stream;
         for _ in 0..u64::MAX {
-            match stream.write(buf) {
-                Err(error) if has_waited(&error) && !self.is_over.load(SeqCst) => {}
-                written => return written,
+            let is_over = self.is_over.load(SeqCst);
+            let mut asked = [pollfd {
+                fd: stream.as_raw_fd(),
+                events: POLLOUT,
+                revents: 0,
+            }];
+            if poll(&mut asked, if is_over { 0 } else { LOOK as i32 }) > 0 {
+                match stream.write(buf) {
+                    Err(error) if has_waited(&error) && !is_over => {}
+                    written => return written,
+                }
+            } else if is_over {
+                break;
             }
         }
         Err(ErrorKind::TimedOut.into())

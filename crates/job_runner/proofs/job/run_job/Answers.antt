@@ -1,18 +1,20 @@
 -- Each stretch leaves the whole, or ends it.
-use Rattle.std.proofs.Common.{◌-◌, arith, length, subst, sym, ◌∙◌, ap, rules}
+use Rattle.std.proofs.Common.{◌≡◌, ◌+◌, ◌-◌, ℕ, arith, length, refl, subst, sym, ◌∙◌, ap, rules}
 use Rattle.cpu_1401.specs.State.{State}
-use Rattle.job_runner.specs.Unattended.{Job, IsPartOf, taped_with_deck, unattended}
+use Rattle.machine_tapes.specs.TapedRun.{TapedFinished}
+use Rattle.machine_tapes.specs.declared.taped_machine.TapedMachine.{TapedMachine}
+use Rattle.job_runner.specs.Unattended.{Job, IsLeftOff, IsPartOf, taped_with_deck, unattended}
 use Rattle.job_runner.proofs.JoinLemmas.{at_end, begins, goes_on}
 use Rattle.job_runner.proofs.job.run_job.Goals as goal
 use Rattle.job_runner.proofs.JobLemmas.{HasRoom, room_for, part_beyond, stretch_begins, waiting_begins, taken_out, with_machine}
-use Rattle.job_runner.proofs.JobLemmas.{stretch_goes_on, stretch_stops, nothing_left}
+use Rattle.job_runner.proofs.JobLemmas.{no_step, run_tapes, stretch_goes_on, stretch_stops, nothing_left}
 
 pub loop-steps-init : goal.loop-steps-init
 loop-steps-init g c =
     let out = c.in_ok-take_all.ensures in
     record {
-      whole =
-          taken_out c.args.limit (c.args.limit - 0) 0 (g.W.Output.lines c.args.output.now)
+      whole = λ limit few.
+          taken_out limit (limit - 0) 0 (g.W.Output.lines c.args.output.now)
           (g.W.Output.lines c.take_all.new.output) (g.W.Output.cards c.args.output.now)
           (g.W.Output.cards c.take_all.new.output) (g.R.Cards.left c.args.cards.now) c.args.taped.now
           (with_machine c.args.taped.now c.take_all.new.machine) out.lines out.cards
@@ -39,12 +41,13 @@ loop-steps-preserved g c =
     room_for c.min.result left filled (omega arith) c.in_ok-fill_hopper.ensures.full
     (fed.stacker ∙ before.stacker) (fed.paper ∙ before.paper) in
     record {
-      whole = before.whole ∙ stretch_goes_on c.taped_step_law.ensures c.args.limit c.loop-steps.steps c.min.result c.run-ran.result.steps
+      whole = λ limit few.
+          before.whole limit (omega (arith, few)) ∙ stretch_goes_on c.taped_step_law.ensures limit c.loop-steps.steps c.min.result c.run-ran.result.steps
           c.run-ran.result.stop (g.W.Output.lines c.loop-steps.output) (g.W.Output.lines c.take_all-in-loop-steps.new.output)
           (g.W.Output.cards c.loop-steps.output) (g.W.Output.cards c.take_all-in-loop-steps.new.output)
           (g.R.Cards.left c.loop-steps.cards) left m filled after
           (with_machine after c.take_all-in-loop-steps.new.machine)
-          (ap (with_machine m) fed.deck) room (omega arith) run.run c.in-Limit.is (run.limit c.in-Limit.is)
+          (ap (with_machine m) fed.deck) room (omega (arith, few, run.limit c.in-Limit.is)) run.run c.in-Limit.is (run.limit c.in-Limit.is)
           out.lines out.cards (ap (with_machine after) out.state);
       stacker = ap (λ (s : State). s.devices.stacker) out.state;
       paper = ap (λ (s : State). s.devices.paper) out.state;
@@ -67,7 +70,7 @@ returns-in_default-clause-job g c =
     let room : HasRoom c.min.result left filled =
     room_for c.min.result left filled (omega arith) c.in_ok-fill_hopper.ensures.full
     (fed.stacker ∙ before.stacker) (fed.paper ∙ before.paper) in
-    before.whole ∙ stretch_stops c.taped_step_law.ensures c.args.limit c.loop-steps.steps c.min.result c.run-ran.result.steps
+    before.whole c.args.limit before.steps ∙ stretch_stops c.taped_step_law.ensures c.args.limit c.loop-steps.steps c.min.result c.run-ran.result.steps
     c.run-ran.result.stop (g.W.Output.lines c.loop-steps.output) (g.W.Output.lines c.take_all-in-loop-steps.new.output)
     (g.W.Output.cards c.loop-steps.output) (g.W.Output.cards c.take_all-in-loop-steps.new.output)
     (g.R.Cards.left c.loop-steps.cards) left m filled after
@@ -78,7 +81,7 @@ returns-in_default-clause-job g c =
 pub returns-clause-job : goal.returns-clause-job
 returns-clause-job g c =
     let before = c.loop-steps.invariant in
-    before.whole
+    before.whole c.args.limit before.steps
     ∙ nothing_left c.args.limit c.loop-steps.steps (g.W.Output.lines c.loop-steps.output)
     (g.W.Output.cards c.loop-steps.output) (g.R.Cards.left c.loop-steps.cards) c.loop-steps.taped (omega arith)
     before.stacker before.paper
@@ -106,7 +109,7 @@ returns-in_err-take_all-2-clause-part g c =
     (fed.stacker ∙ before.stacker) (fed.paper ∙ before.paper) in
     let part =
     subst (λ (job : Job). IsPartOf (g.W.Output.lines c.take_all-in-loop-steps.new.output)
-    (g.W.Output.cards c.take_all-in-loop-steps.new.output) job) (sym before.whole)
+    (g.W.Output.cards c.take_all-in-loop-steps.new.output) job) (sym (before.whole c.args.limit before.steps))
     (stretch_begins c.taped_step_law.ensures c.args.limit c.loop-steps.steps c.min.result c.run-ran.result.steps
     c.run-ran.result.stop (g.W.Output.lines c.loop-steps.output) (g.W.Output.lines c.take_all-in-loop-steps.new.output)
     (g.W.Output.cards c.loop-steps.output) (g.W.Output.cards c.take_all-in-loop-steps.new.output)
@@ -134,3 +137,47 @@ returns-clause-goes_on g c = λ _ more.
 pub returns-clause-begins : goal.returns-clause-begins
 returns-clause-begins g c = λ more.
     begins c.args.limit more (taped_with_deck (g.R.Cards.left c.args.cards.now) c.args.taped.now)
+
+pub returns-in_err-take_all-clause-left_off : goal.returns-in_err-take_all-clause-left_off
+returns-in_err-take_all-clause-left_off g c =
+    let start = taped_with_deck (g.R.Cards.left c.args.cards.now) c.args.taped.now in
+    let off : IsLeftOff c.args.limit start c.args.taped.now.tapes = (0, omega arith, no_step 0 refl start) in
+    search (rules, off)
+
+pub returns-in_err-fill_hopper-clause-left_off : goal.returns-in_err-fill_hopper-clause-left_off
+returns-in_err-fill_hopper-clause-left_off g c =
+    let before = c.loop-steps.invariant in
+    let start = taped_with_deck (g.R.Cards.left c.args.cards.now) c.args.taped.now in
+    let steps = c.loop-steps.steps in
+    let off : IsLeftOff c.args.limit start c.loop-steps.taped.tapes = (
+      steps,
+      before.steps,
+      ap (λ (job : Job). job.state.tapes) (before.whole steps (omega arith))
+          ∙ no_step (steps - steps) (omega arith) (taped_with_deck (g.R.Cards.left c.loop-steps.cards) c.loop-steps.taped),
+    ) in
+    search (rules, off)
+
+pub returns-in_err-take_all-2-clause-left_off : goal.returns-in_err-take_all-2-clause-left_off
+returns-in_err-take_all-2-clause-left_off g c =
+    let before = c.loop-steps.invariant in
+    let start = taped_with_deck (g.R.Cards.left c.args.cards.now) c.args.taped.now in
+    let left = g.R.Cards.left c.fill_hopper.new.cards in
+    let m = c.loop-steps.taped in
+    let filled = with_machine m c.fill_hopper.new.machine in
+    let fed = c.fill_hopper.ensures in
+    let room : HasRoom c.min.result left filled =
+    room_for c.min.result left filled (omega arith) c.in_ok-fill_hopper.ensures.full
+    (fed.stacker ∙ before.stacker) (fed.paper ∙ before.paper) in
+    let steps = c.loop-steps.steps in
+    let n = c.min.result in
+    let parts : (steps + n) - steps ≡ n = omega arith in
+    let off : IsLeftOff c.args.limit start c.run-ran.new.self.tapes = (
+      steps + n,
+      omega arith,
+      ap (λ (job : Job). job.state.tapes) (before.whole (steps + n) (omega arith))
+          ∙ ap (λ (k : ℕ). (unattended k (taped_with_deck (g.R.Cards.left c.loop-steps.cards) m)).state.tapes) parts
+          ∙ ap (λ (t : TapedMachine). (unattended n t).state.tapes) (sym (ap (with_machine m) fed.deck))
+          ∙ run_tapes c.taped_step_law.ensures n left filled room
+          ∙ ap (λ (r : TapedFinished). r.taped.tapes) c.run-ran.ensures.run,
+    ) in
+    search (rules, off)

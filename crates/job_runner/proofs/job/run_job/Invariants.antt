@@ -1,14 +1,15 @@
--- What was written, and what the rest of the job writes, make the whole.
-use Rattle.std.proofs.Common.{◌-◌, ◌≡◌, ◌≤◌, [], length}
+-- What was written, and what the rest of the job writes, make the whole, whatever its limit.
+use Rattle.std.proofs.Common.{◌-◌, ◌≡◌, ◌≤◌, ℕ, [], length}
 use Rattle.job_runner.specs.Unattended.{after_output, taped_with_deck, unattended}
 use Rattle.job_runner.proofs.job.run_job.Given as goal
 
 abbrev pub invariant-loop-steps : goal.invariant-loop-steps
 invariant-loop-steps g l = record {
-  whole : after_output (g.W.Output.lines l.fn.output) (g.W.Output.cards l.fn.output) 0
-      (unattended l.limit (taped_with_deck (g.R.Cards.left l.fn.cards) l.fn.taped))
+  whole : (limit : ℕ) → l.steps ≤ limit
+      → after_output (g.W.Output.lines l.fn.output) (g.W.Output.cards l.fn.output) 0
+      (unattended limit (taped_with_deck (g.R.Cards.left l.fn.cards) l.fn.taped))
       ≡ after_output (g.W.Output.lines l.output) (g.W.Output.cards l.output) l.steps
-      (unattended (l.limit - l.steps) (taped_with_deck (g.R.Cards.left l.cards) l.taped));
+      (unattended (limit - l.steps) (taped_with_deck (g.R.Cards.left l.cards) l.taped));
   stacker : l.taped.machine.devices.stacker ≡ [];
   paper : l.taped.machine.devices.paper ≡ [];
   steps : l.steps ≤ l.limit;

@@ -1,6 +1,6 @@
 -- Each round after which the run isn't over is a round more.
-use Rattle.std.proofs.Common.{rules, ◌≡◌, ◌∙◌, true, false, refl, arith}
-use Rattle.operate_console.specs.Run.{AfterRounds, at_run, is_why_met, slice_after}
+use Rattle.std.proofs.Common.{rules, ◌≡◌, ◌∙◌, true, false, refl, arith, ap}
+use Rattle.operate_console.specs.Run.{AfterRounds, at_run, is_why_met, read_on, slice_after}
 use Rattle.operate_console.specs.declared.rounds.Progress.TheVariants as progress
 use Rattle.operate_console.proofs.RunLemmas.{no_round, round_more, run_cut, run_unbegun, steps_on, still_left, went_on}
 use Rattle.operate_console.proofs.running.run_rounds.Goals as goal
@@ -49,6 +49,10 @@ loop-round-preserved g c =
           more;
       steps = omega (arith, all, c.in-Ok-On.ensures.bound, c.loop-round.invariant.steps);
       left = still_left most false before (record { at = now; steps = c.in-Ok-On.all }) more;
-      noted = c.show_and_listen.ensures.noted ∙ c.go_on.ensures.noted ∙ c.loop-round.invariant.noted;
+      noted = c.show_and_listen.ensures.noted
+          ∙ ap (read_on c.show_and_listen.new.notebook.has_ended)
+          (c.go_on.ensures.noted ∙ c.loop-round.invariant.noted);
       good = c.in-Ok-false.ensures.good;
+      sink = c.in-Ok-false.ensures.sink;
+      kept = c.in-Ok-On.ensures.kept;
     }

@@ -1,8 +1,9 @@
 -- Each stretch adds what it writes, and leaves the rest.
-use Rattle.std.proofs.Common.{Bool, refl, sym, subst, ap, ◌∙◌}
+use Rattle.std.proofs.Common.{◌≡◌, ◌+◌, ◌-◌, ℕ, Bool, arith, refl, sym, subst, ap, ◌∙◌}
 use Rattle.bytes_streams.specs.Sink.{AppendsPart}
 use Rattle.program_run.specs.TraceText.{trace_text}
 use Rattle.program_run.specs.RunTrace.{IsWhyUntraced, seen_if, traced}
+use Rattle.job_runner.proofs.JobLemmas.{no_step}
 use Rattle.program_run.proofs.WrittenLemmas.{nothing_yet}
 use Rattle.program_run.proofs.TraceLemmas.{all_traced, is_seen, trace_at_first, trace_goes_on, trace_part}
 use Rattle.std.specs.Prelude.{is_some, option_and_then}
@@ -20,6 +21,9 @@ loop-stretch-init g c =
     let file = c.begin.ensures.file in
     record {
       so_far = at_first c.args.limit s first;
+      on = λ more.
+          let none : (c.args.limit - c.args.limit) + more ≡ more = omega arith in
+          ap (λ (steps : ℕ). (unattended steps s).state.tapes) none;
       paper = refl;
       punch = refl;
       traced =
@@ -48,6 +52,16 @@ loop-stretch-preserved g c =
       so_far =
           goes_on_so_far whole c.in-None.is i.so_far.within c.saturating_add-printed.ensures
           c.saturating_add-punched.ensures;
+      on = λ more.
+          let limit = c.args.limit in
+          let left = c.loop-stretch.left in
+          let steps = c.in-Ok-run_stretch.stretch.steps in
+          let few = c.in-Ok-run_stretch.ensures.most in
+          let parts : (limit - (left - steps)) + more ≡ (limit - left) + (steps + more) =
+          omega (arith, few, i.so_far.within) in
+          ap (λ (k : ℕ). (unattended k (taped_with_deck c.args.deck.now c.args.taped.now)).state.tapes) parts
+          ∙ i.on (steps + more)
+          ∙ c.in-Ok-run_stretch.ensures.leads_on c.in-None.is more;
       paper = c.in-Ok-run_stretch.ensures.good.0 ∙ i.paper;
       punch = c.in-Ok-run_stretch.ensures.good.1 ∙ i.punch;
       traced = trace_goes_on c.loop-stretch.taped.machine i.seen i.traced c.in-Ok-run_stretch.ensures.traced c.in-None.is;
@@ -127,3 +141,16 @@ returns-in-Err-run_stretch-clause-why_untraced g c =
     subst (λ (old : Bool). IsWhyUntraced c.in-Err-run_stretch.broken old
     (failed_of g.F.Sink.has_failed c.run_stretch.new.outputs.trace.file)) c.loop-stretch.invariant.trace
     c.in-Err-run_stretch.ensures.why_untraced
+
+pub returns-in-Err-clause-left_off : goal.returns-in-Err-clause-left_off
+returns-in-Err-clause-left_off g c =
+    (0, omega arith, no_step 0 refl (taped_with_deck c.args.deck.now c.args.taped.now))
+
+pub returns-in-Err-run_stretch-clause-left_off : goal.returns-in-Err-run_stretch-clause-left_off
+returns-in-Err-run_stretch-clause-left_off g c =
+    let i = c.loop-stretch.invariant in
+    let off = c.in-Err-run_stretch.ensures.left_off in (
+      (c.args.limit - c.loop-stretch.left) + off.0,
+      omega (arith, off.1, i.so_far.within),
+      i.on off.0 ∙ off.2,
+    )

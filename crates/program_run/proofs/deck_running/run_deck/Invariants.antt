@@ -1,8 +1,8 @@
 -- What was written, and what the rest of the job writes, make the whole.
-use Rattle.std.proofs.Common.{◌≡◌}
+use Rattle.std.proofs.Common.{◌≡◌, ◌-◌}
 use Rattle.job_runner.specs.Unattended.{taped_with_deck}
 use Rattle.std.specs.Prelude.{is_some, option_and_then}
-use Rattle.program_run.specs.RunDeck.{failed_of, received}
+use Rattle.program_run.specs.RunDeck.{LeadsOn, failed_of, received}
 use Rattle.program_run.specs.RunTrace.{seen_if}
 use Rattle.program_run.proofs.TraceLemmas.{TraceSoFar}
 use Rattle.program_run.proofs.StretchLemmas.{SoFar}
@@ -14,6 +14,7 @@ invariant-loop-stretch g l = record {
       (taped_with_deck l.deck l.taped)
       (received (g.W.Sink.received l.fn.outputs.paper) (g.P.Sink.received l.fn.outputs.punch))
       (received (g.W.Sink.received l.outputs.paper) (g.P.Sink.received l.outputs.punch)) l.place l.printed l.punched;
+  on : LeadsOn (l.fn.limit - l.left) (taped_with_deck l.fn.deck l.fn.taped) (taped_with_deck l.deck l.taped);
   paper : g.W.Sink.has_failed l.outputs.paper ≡ g.W.Sink.has_failed l.fn.outputs.paper;
   punch : g.P.Sink.has_failed l.outputs.punch ≡ g.P.Sink.has_failed l.fn.outputs.punch;
   traced : TraceSoFar (is_some l.fn.outputs.trace.file) l.fn.limit l.left

@@ -7,7 +7,8 @@ use Rattle.devices_1401.specs.declared.card.Card.{Card}
 use Rattle.job_runner.specs.Unattended.{Job, ended, taped_with_deck, unattended}
 use Rattle.program_run.specs.RunDeck.{HasWritten, HasWrittenPart, first_place, received, started_job}
 use Rattle.program_run.specs.RunTrace.{traced}
-use Rattle.program_run.proofs.StartLemmas.{left_at_end, reported, started_as, stopped_as, traced_as, untraced_as}
+use Rattle.program_run.proofs.StartLemmas.{broke_off_as, left_at_end, reported, started_as, stopped_as}
+use Rattle.program_run.proofs.StartLemmas.{stopped_off_as, traced_as, untraced_as}
 use Rattle.program_run.proofs.deck_running.run_started.Goals as goal
 
 pub returns-in-None-clause-report : goal.returns-in-None-clause-report
@@ -133,3 +134,21 @@ returns-in-Some-clause-traced_part g c =
     subst (λ (each : List ℕ). OnErr c.run_nothing.result (AppendsPart (option_and_then g.F.Sink.received c.args.outputs.now.trace.file)
     (option_and_then g.F.Sink.received c.run_nothing.new.outputs.trace.file) (traced (is_some c.args.outputs.now.trace.file) each))) (sym text)
     c.run_nothing.ensures.traced_part
+
+pub returns-in-None-clause-broke_off : goal.returns-in-None-clause-broke_off
+returns-in-None-clause-broke_off g c =
+    let t = c.args.taped.now in
+    let after = taped_with_deck c.press_start.new.deck c.press_start.new.taped in
+    broke_off_as c.args.start c.args.limit (taped_with_deck c.args.cards.now t) after c.run_deck.new.taped.tapes
+    c.run_deck.result
+    (λ steps. started_as c.args.start steps c.args.cards.now c.new-deck.result t after c.new-deck.ensures c.in-None.ensures)
+    c.run_deck.ensures.left_off
+
+pub returns-in-Some-clause-broke_off : goal.returns-in-Some-clause-broke_off
+returns-in-Some-clause-broke_off g c =
+    let t = c.args.taped.now in
+    let after = taped_with_deck c.press_start.new.deck c.press_start.new.taped in
+    stopped_off_as c.args.start c.args.limit c.in-Some.why (taped_with_deck c.args.cards.now t) after
+    c.run_nothing.new.taped.tapes c.run_nothing.result
+    (λ steps. stopped_as c.args.start c.in-Some.why steps c.args.cards.now c.new-deck.result t after c.new-deck.ensures
+    c.in-Some.ensures) c.run_nothing.ensures.left_off

@@ -1,5 +1,5 @@
 -- What a stretch writes, and what it leaves.
-use Rattle.std.proofs.Common.{Bool, Option, length, subst, sym, ap, ◌∙◌, ◌<◌, ℕ, refl}
+use Rattle.std.proofs.Common.{Bool, Option, length, subst, sym, ap, arith, ◌∙◌, ◌+◌, ◌<◌, ℕ, refl}
 use Rattle.std.specs.Prelude.{is_some, nat_lt, option_and_then}
 use Rattle.std.specs.Io.KnownBytes.{Appends}
 use Rattle.bytes_streams.specs.Sink.{AppendsPart}
@@ -9,7 +9,7 @@ use Rattle.program_run.specs.TraceText.{trace_text}
 use Rattle.program_run.specs.RunTrace.{lines_after, seen_if, traced}
 use Rattle.program_run.proofs.TraceLemmas.{line_part, of_size, some_limit, stretch_told, work_by}
 use Rattle.job_runner.specs.Paper.{paper_text}
-use Rattle.job_runner.specs.Unattended.{taped_with_deck, unattended}
+use Rattle.job_runner.specs.Unattended.{Job, taped_with_deck, unattended}
 use Rattle.program_run.specs.RunDeck.{IsWhyUnwritten, cards_text, failed_of, received}
 use Rattle.program_run.proofs.StretchLemmas.{few_steps, ran_part, stretch_begins, stretch_job, within_left}
 use Rattle.program_run.proofs.WrittenLemmas.{all_of_it, first_part_written, nothing_yet, only_traced}
@@ -246,3 +246,31 @@ returns-clause-file g c = c.put_line.ensures.file
 
 pub returns-clause-why_untraced : goal.returns-clause-why_untraced
 returns-clause-why_untraced g c = c.in-Err-put_line.ensures.why
+
+pub returns-in-Err-clause-left_off : goal.returns-in-Err-clause-left_off
+returns-in-Err-clause-left_off g c =
+    let few = within_left c.min-limit.result c.args.left c.most_at_once.result c.min-limit.ensures in
+    let off = c.in-Err.ensures.left_off in (off.0, omega (arith, few, off.1), off.2)
+
+pub returns-in-Err-write_paper-clause-left_off : goal.returns-in-Err-write_paper-clause-left_off
+returns-in-Err-write_paper-clause-left_off g c =
+    let few = within_left c.min-limit.result c.args.left c.most_at_once.result c.min-limit.ensures in
+    (c.min-limit.result, few, ap (λ (job : Job). job.state.tapes) c.in-Ok.ensures.job)
+
+pub returns-in-Err-write_cards-clause-left_off : goal.returns-in-Err-write_cards-clause-left_off
+returns-in-Err-write_cards-clause-left_off g c =
+    let few = within_left c.min-limit.result c.args.left c.most_at_once.result c.min-limit.ensures in
+    (c.min-limit.result, few, ap (λ (job : Job). job.state.tapes) c.in-Ok.ensures.job)
+
+pub returns-clause-left_off : goal.returns-clause-left_off
+returns-clause-left_off g c =
+    let few = within_left c.min-limit.result c.args.left c.most_at_once.result c.min-limit.ensures in
+    (c.min-limit.result, few, ap (λ (job : Job). job.state.tapes) c.in-Ok.ensures.job)
+
+pub returns-in-Ok-put_line-clause-leads_on : goal.returns-in-Ok-put_line-clause-leads_on
+returns-in-Ok-put_line-clause-leads_on g c = λ none more.
+    let s = taped_with_deck c.args.deck.now c.args.taped.now in
+    let stopped = c.stop_of_job-stop.ensures.none none in
+    ap (λ (steps : ℕ). (unattended (steps + more) s).state.tapes) (c.in-Ok.ensures.limit stopped.0)
+    ∙ ap (λ (job : Job). job.state.tapes) (c.in-Ok.ensures.goes_on stopped.0 more)
+    ∙ ap (λ (job : Job). (unattended more job.state).state.tapes) c.in-Ok.ensures.job

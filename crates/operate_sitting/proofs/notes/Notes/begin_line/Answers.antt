@@ -21,7 +21,7 @@ returns-clause-ok c =
     let noted : List Mark → Noted = λ ms. record {
       marks = ms;
       loaded = notes.loaded;
-      deck = notes.deck.items;
+      deck = notes.deck;
       given = notes.given.items;
     } in
     let now : Mark = end_at c.args.entries c.args.self.now in

@@ -10,7 +10,7 @@ returns-clause-search g c =
     let room = c.self.inside.paired.room in
     let machine : state_of room.size room.journal ≡ machine_of c.args.self.now = ap machine_of c.self.view_is in
     let hand : c.watching-test.result ≡ watching (hand_of c.args.self.now.notes) =
-    c.watching-test.ensures ∙ ap watching c.hand.ensures
+    c.watching-test.ensures
     ∙ ap (λ (it : SittingAccount). watching (hand_of it.notes)) c.self.view_is in
     rw (hand, machine) at c.run_until.ensures.search
 
@@ -19,6 +19,6 @@ returns-clause-first g c =
     let room = c.self.inside.paired.room in
     let machine : state_of room.size room.journal ≡ machine_of c.args.self.now = ap machine_of c.self.view_is in
     let hand : c.watching-test.result ≡ watching (hand_of c.args.self.now.notes) =
-    c.watching-test.ensures ∙ ap watching c.hand.ensures
+    c.watching-test.ensures
     ∙ ap (λ (it : SittingAccount). watching (hand_of it.notes)) c.self.view_is in
     rw (hand, machine) at c.run_until.ensures.first

@@ -18,5 +18,5 @@ returns-then-not-knows-clause-fault g c =
     ∙ ap (λ (those : List SeatView). back_of n those) c.as_slice.ensures.value in
     let all : back_of n seats ≡ n = omega (arith, is, back.bound, total, c.if-back-total.false) in
     let beyond : OneBeyond shown seats =
-    subst (λ (those : List SeatView). OneBeyond shown those) c.as_slice-2.ensures.value c.if-not-knows.ensures in
-    (all, (shown, beyond))
+    subst (λ (those : List SeatView). OneBeyond shown those) c.as_slice-2.ensures.value c.if-not-knows.ensures.fit in
+    (all, (shown, (c.into_inner-locked.result.failed, c.if-not-knows.ensures.shown), beyond))
