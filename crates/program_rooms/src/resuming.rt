@@ -14,7 +14,7 @@ use crate::seating::serve_new;
 use crate::succession::{Rooms, Turn, serve_others, serve_rooms};
 use crate::{HoldFault, durability_of, read_chosen, tell_cut};
 use bytes_streams::Sink;
-use program_call::Resuming;
+use program_arguments::Resuming;
 use room_1401::{Entry, Room};
 use room_files::{JournalFile, TakenUp, find_journal, verify_journal};
 use serving_room::{Watch, foreign_seat};

@@ -1,6 +1,6 @@
 //! The file of a reel, and its ring.
 ghost use Rattle.std.specs.Prelude.{◌≡◌, option_map};
-ghost use Rattle.program_call.specs.Mounted.{file_of, has_ring};
+ghost use Rattle.program_arguments.specs.Mounted.{file_of, has_ring};
 
 use crate::call::ReelSource;
 

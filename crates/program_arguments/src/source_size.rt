@@ -1,7 +1,7 @@
 //! How many places core storage has for a source.
 ghost use Rattle.std.specs.Prelude.{◌≡◌, true, false};
 ghost use Rattle.core_1401.specs.Storage.{is_core_size};
-ghost use Rattle.program_call.specs.Sizes.{is_refused, size_for};
+ghost use Rattle.program_arguments.specs.SourceSize.{is_refused, size_for};
 
 use crate::call::DEFAULT_SIZE;
 use autocoder_statements::{Language, size_asked};

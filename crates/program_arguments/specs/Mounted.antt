@@ -1,7 +1,7 @@
 -- The file of a reel that is mounted before a job, and its ring (own).
 use Rattle.std.specs.Prelude.{ℕ, Bool, true, false, List, Option, None, Some, string_bytes}
-use Rattle.program_call.specs.declared.call.ReelSource.{ReelSource}
-use Rattle.program_call.specs.declared.call.ReelSource.TheVariants as reel
+use Rattle.program_arguments.specs.declared.call.ReelSource.{ReelSource}
+use Rattle.program_arguments.specs.declared.call.ReelSource.TheVariants as reel
 
 -- the name of the file that has the reel or gets it
 abbrev pub file_of : ReelSource → Option (List ℕ)
