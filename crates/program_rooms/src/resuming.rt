@@ -2,7 +2,7 @@
 ghost use Rattle.std.specs.Prelude.{◌≡◌, ℕ, false, Some, Err, All, IfOk, OnOk};
 ghost use Rattle.room_alone.specs.Journal.{state_of};
 ghost use Rattle.room_files.specs.JournalText.{journal_text};
-ghost use Rattle.serving_seats.specs.Giving.{IsSeated, foreign_in};
+ghost use Rattle.serving_room.specs.Giving.{IsSeated, foreign_in};
 ghost use Rattle.program_rooms.specs.Choosing.{HasChosen};
 ghost use Rattle.program_rooms.specs.Beginning.{FitsAlone};
 
