@@ -20,8 +20,7 @@ use crate::hopper::cards_of;
 use crate::terminal::FromTerminal;
 use bcd_1401::Graphics;
 use bytes_descriptors::hold_closed_streams;
-use program_arguments::read_call;
-use program_call::{Call, Operating, Parity, ReelTask, Reeling, Seating};
+use program_arguments::{Call, Operating, Parity, ReelTask, Reeling, Seating, read_call};
 use program_convert::{
     assemble_file, check_names, check_size, disassemble_deck, disassemble_file, list_reel,
     write_reel, write_reel_deck,

@@ -11,10 +11,10 @@ use Rattle.std.specs.Prelude.{is_some, nat_eq, not, ◌&&◌, ◌||◌}
 use Rattle.clap.proofs.WalkLemmas.{list_any-map}
 use Rattle.clap.specs.Words.{first_value}
 use Rattle.clap.specs.declared.parser.matches.Found.{Found}
-use Rattle.program_call.specs.declared.call.MountedReel.{MountedReel}
-use Rattle.program_call.specs.declared.call.ReelSource.{ReelSource}
-use Rattle.program_call.specs.declared.call.Start.{Start}
-use Rattle.program_call.specs.declared.call.Start.TheVariants as start
+use Rattle.program_arguments.specs.declared.call.MountedReel.{MountedReel}
+use Rattle.program_arguments.specs.declared.call.ReelSource.{ReelSource}
+use Rattle.program_arguments.specs.declared.call.Start.{Start}
+use Rattle.program_arguments.specs.declared.call.Start.TheVariants as start
 use Rattle.program_arguments.specs.Mounting.{AreMounted, AreReelsIn, IsLoadable, IsMountable, IsStartIn}
 use Rattle.program_arguments.specs.Mounting.{are_apart, loads_tape, mounted_text, reel_text, texts_of}
 use Rattle.program_arguments.specs.Options.{values_in}

@@ -8,28 +8,28 @@ use Rattle.std.specs.Str.{bytes_eq}
 use Rattle.clap.specs.Words.{first_value, has_subcommand, rows_of, subcommand_rows_of}
 use Rattle.clap.specs.declared.parser.matches.ArgMatches.{ArgMatches}
 use Rattle.clap.specs.declared.parser.matches.Found.{Found}
-use Rattle.program_call.specs.declared.call.Assembling.{Assembling}
-use Rattle.program_call.specs.declared.call.Call.{Call}
-use Rattle.program_call.specs.declared.call.Call.TheVariants as call
-use Rattle.program_call.specs.declared.call.Job.{Job}
-use Rattle.program_call.specs.declared.call.NewJournal.{NewJournal}
-use Rattle.program_call.specs.declared.call.Opening.{Opening}
-use Rattle.program_call.specs.declared.call.Opening.TheVariants as opening
-use Rattle.program_call.specs.declared.call.Operating.{Operating}
-use Rattle.program_call.specs.declared.call.Operators.{Operators}
-use Rattle.program_call.specs.declared.call.Parity.{Parity}
-use Rattle.program_call.specs.declared.call.Parity.TheVariants as parity
-use Rattle.program_call.specs.declared.call.Product.{Product}
-use Rattle.program_call.specs.declared.call.Product.TheVariants as product
-use Rattle.program_call.specs.declared.call.ReelTask.{ReelTask}
-use Rattle.program_call.specs.declared.call.ReelTask.TheVariants as task
-use Rattle.program_call.specs.declared.call.Reeling.{Reeling}
-use Rattle.program_call.specs.declared.call.Resuming.{Resuming}
-use Rattle.program_call.specs.declared.call.Seating.{Seating}
-use Rattle.program_call.specs.declared.call.PlainService.{PlainService}
-use Rattle.program_call.specs.declared.call.Showing.{Showing}
-use Rattle.program_call.specs.declared.call.Reported.{Reported}
-use Rattle.program_call.specs.declared.call.Reported.TheVariants as told
+use Rattle.program_arguments.specs.declared.call.Assembling.{Assembling}
+use Rattle.program_arguments.specs.declared.call.Call.{Call}
+use Rattle.program_arguments.specs.declared.call.Call.TheVariants as call
+use Rattle.program_arguments.specs.declared.call.Job.{Job}
+use Rattle.program_arguments.specs.declared.call.NewJournal.{NewJournal}
+use Rattle.program_arguments.specs.declared.call.Opening.{Opening}
+use Rattle.program_arguments.specs.declared.call.Opening.TheVariants as opening
+use Rattle.program_arguments.specs.declared.call.Operating.{Operating}
+use Rattle.program_arguments.specs.declared.call.Operators.{Operators}
+use Rattle.program_arguments.specs.declared.call.Parity.{Parity}
+use Rattle.program_arguments.specs.declared.call.Parity.TheVariants as parity
+use Rattle.program_arguments.specs.declared.call.Product.{Product}
+use Rattle.program_arguments.specs.declared.call.Product.TheVariants as product
+use Rattle.program_arguments.specs.declared.call.ReelTask.{ReelTask}
+use Rattle.program_arguments.specs.declared.call.ReelTask.TheVariants as task
+use Rattle.program_arguments.specs.declared.call.Reeling.{Reeling}
+use Rattle.program_arguments.specs.declared.call.Resuming.{Resuming}
+use Rattle.program_arguments.specs.declared.call.Seating.{Seating}
+use Rattle.program_arguments.specs.declared.call.PlainService.{PlainService}
+use Rattle.program_arguments.specs.declared.call.Showing.{Showing}
+use Rattle.program_arguments.specs.declared.call.Reported.{Reported}
+use Rattle.program_arguments.specs.declared.call.Reported.TheVariants as told
 use Rattle.serving_http.specs.declared.origins.Origin.{Origin}
 use Rattle.bcd_1401.specs.declared.graphics.Graphics.{Graphics}
 use Rattle.machine_tables.specs.Features.{no_features}

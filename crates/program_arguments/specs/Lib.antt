@@ -1,3 +1,5 @@
+pub mod Mounted
+pub mod SourceSize
 pub mod Options
 pub mod Calls
 pub mod Features

@@ -6,12 +6,12 @@ use Rattle.std.specs.List.{list_any, slice_get}
 use Rattle.clap.specs.Words.{first_value}
 use Rattle.clap.specs.declared.parser.matches.Found.{Found}
 use Rattle.machine_tables.specs.declared.features.Features.{Features}
-use Rattle.program_call.specs.Mounted.{file_of}
-use Rattle.program_call.specs.declared.call.MountedReel.{MountedReel}
-use Rattle.program_call.specs.declared.call.ReelSource.{ReelSource}
-use Rattle.program_call.specs.declared.call.ReelSource.TheVariants as reel
-use Rattle.program_call.specs.declared.call.Start.{Start}
-use Rattle.program_call.specs.declared.call.Start.TheVariants as start
+use Rattle.program_arguments.specs.Mounted.{file_of}
+use Rattle.program_arguments.specs.declared.call.MountedReel.{MountedReel}
+use Rattle.program_arguments.specs.declared.call.ReelSource.{ReelSource}
+use Rattle.program_arguments.specs.declared.call.ReelSource.TheVariants as reel
+use Rattle.program_arguments.specs.declared.call.Start.{Start}
+use Rattle.program_arguments.specs.declared.call.Start.TheVariants as start
 use Rattle.program_arguments.specs.Options.{IsFlagIn, values_in}
 
 -- what is typed for a reel: the name of its file, with :ring or :new after it or without; or :scratch

@@ -4,6 +4,7 @@ ghost use Rattle.clap.specs.Words.{first_value, found_of};
 ghost use Rattle.program_arguments.specs.Calls.{IsAssembled, IsProductIn, are_one, tells_all};
 ghost use Rattle.program_arguments.specs.Options.{IsFlagIn, Reads};
 
+use crate::call::{Assembling, Call, Product, Reported, Tables};
 use crate::commands::{PLAIN, Subcommand};
 use crate::faults::Faults;
 use crate::features::{FIT, features_in};
@@ -12,7 +13,6 @@ use crate::languages::{LANGUAGE, language_in};
 use crate::options::{Argument, FREE, Kind, TEXT};
 use crate::sizes::{SIZE, named_size_in};
 use clap::ArgMatches;
-use program_call::{Assembling, Call, Product, Reported, Tables};
 
 /// The arguments of `assemble`: what is written, how, and of which source.
 const ARGUMENTS: &[Argument] = &[

@@ -1,6 +1,6 @@
 //! The texts of the help that are made of tables.
+use crate::call::DEFAULT_SIZE;
 use core_1401::SIZES;
-use program_call::DEFAULT_SIZE;
 use std::alloc::{AllocError, Global};
 
 /// The texts of the help that are made of tables.

@@ -4,6 +4,7 @@ ghost use Rattle.clap.specs.Words.{found_of};
 ghost use Rattle.program_arguments.specs.Options.{AreNumbersOf, IsNumberIn, Reads};
 ghost use Rattle.program_arguments.specs.Calls.{IsJournalIn, IsResumed, IsResuming, IsSession, IsShown};
 
+use crate::call::{Call, NewJournal, Opening, Resuming, Session, Showing};
 use crate::commands::{LINES, PLAIN, Subcommand};
 use crate::faults::Faults;
 use crate::options::{ANY_U8, ANY_U32, Argument, FREE, Kind, TEXT};
@@ -11,7 +12,6 @@ use crate::serving::{
     ORIGIN, PAGE, PORT, RENEW_AFTER, SEATS, check_pages, operators_in, origin_in, seats_call,
 };
 use clap::ArgMatches;
-use program_call::{Call, NewJournal, Opening, Resuming, Showing};
 
 /// The file in which a session's journal is kept.
 pub(crate) const JOURNAL: Argument = Argument {
@@ -227,7 +227,7 @@ pub(crate) fn session_call(matches: &ArgMatches<'_>, opening: Opening, faults: &
     ensures { Reads faults.old.are_none faults.new.are_none (IsSession (found_of matches.now) opening result) }
 {
     let journal = new_journal_in(matches, faults);
-    Call::Console(program_call::Session { opening, journal })
+    Call::Console(Session { opening, journal })
 }
 
 /// What the options of `resume` ask for.

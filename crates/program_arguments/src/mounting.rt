@@ -7,11 +7,11 @@ ghost use Rattle.program_arguments.specs.Mounting.{AreMounted, AreReelsIn, IsLoa
 ghost use Rattle.program_arguments.specs.Mounting.{fitted_for, loads_tape, program_name, reel_text, texts_of};
 ghost use Rattle.program_arguments.specs.Options.{Reads};
 
+use crate::call::{MountedReel, ReelSource, Start};
 use crate::faults::Faults;
 use crate::options::{Argument, FREE, Kind, TEXT};
 use clap::ArgMatches;
 use machine_tables::Features;
-use program_call::{MountedReel, ReelSource, Start};
 use std::alloc::AllocError;
 
 /// Why a value is refused that doesn't begin with a tape unit.

@@ -3,6 +3,7 @@ ghost use Rattle.clap.specs.Words.{found_of};
 ghost use Rattle.program_arguments.specs.Calls.{IsOperated};
 ghost use Rattle.program_arguments.specs.Options.{Reads};
 
+use crate::call::{Call, Operating};
 use crate::commands::{ORDERS, PLAIN, Subcommand};
 use crate::faults::Faults;
 use crate::features::{FIT, features_in};
@@ -14,7 +15,6 @@ use crate::running::{LIMIT, limit_in};
 use crate::sizes::{SIZE, named_size_in};
 use crate::switches::{SWITCHES, switches_in};
 use clap::ArgMatches;
-use program_call::{Call, Operating};
 
 /// The arguments of `operate`: what the machine begins with, its journal, and where lines come from.
 const OPERATING: &[Argument] = &[

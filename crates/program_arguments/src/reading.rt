@@ -5,6 +5,7 @@ ghost use Rattle.program_arguments.specs.Calls.{IsAsked, IsConsole, IsDisassembl
 ghost use Rattle.program_arguments.specs.Options.{Reads};
 
 use crate::assembling::assemble_call;
+use crate::call::{Call, DEFAULT_SIZE, Opening, Session};
 use crate::commands::{LINES, PLAIN, Subcommand, program, refusal};
 use crate::faults::Faults;
 use crate::features::{FIT, features_in};
@@ -19,7 +20,6 @@ use crate::serving::{operators_in, serve_call};
 use crate::sizes::{SIZE, size_in};
 use clap::{ArgMatches, Error};
 use machine_tables::Features;
-use program_call::{Call, DEFAULT_SIZE, Opening};
 use std::alloc::{AllocError, Global};
 use std::convert::AsStr;
 
@@ -125,7 +125,7 @@ pub fn read_call(alloc: Global, words: &[impl AsStr]) -> Result<Call, Error> {
 fn bare_call() -> Call
     ensures { result ≡ bare_call }
 {
-    Call::Console(program_call::Session {
+    Call::Console(Session {
         opening: Opening::PowerOn(DEFAULT_SIZE, Features::NONE),
         journal: None,
     })

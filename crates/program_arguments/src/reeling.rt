@@ -4,12 +4,12 @@ ghost use Rattle.clap.specs.Words.{found_of};
 ghost use Rattle.program_arguments.specs.Calls.{IsParityIn, IsReel, reel_task};
 ghost use Rattle.program_arguments.specs.Options.{Reads};
 
+use crate::call::{Call, Parity, ReelTask, Reeling};
 use crate::commands::{PLAIN, Subcommand};
 use crate::faults::Faults;
 use crate::graphics::{GRAPHICS, graphics_in};
 use crate::options::{Argument, FREE, Kind, TEXT};
 use clap::ArgMatches;
-use program_call::{Call, Parity, ReelTask, Reeling};
 
 /// The arguments of `reel`: what is done with which reel or deck.
 const ARGUMENTS: &[Argument] = &[

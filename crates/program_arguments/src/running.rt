@@ -4,6 +4,7 @@ ghost use Rattle.clap.specs.Words.{found_of};
 ghost use Rattle.program_arguments.specs.Options.{IsNumberOr, Reads};
 ghost use Rattle.program_arguments.specs.Calls.{IsRun};
 
+use crate::call::{Call, Job};
 use crate::commands::{PLAIN, Subcommand};
 use crate::faults::Faults;
 use crate::features::{FIT, features_in};
@@ -14,7 +15,6 @@ use crate::options::{ANY_U32, Argument, FREE, Kind, TEXT};
 use crate::sizes::{SIZE, named_size_in};
 use crate::switches::{SWITCHES, switches_in};
 use clap::ArgMatches;
-use program_call::{Call, Job};
 
 /// The most instructions that are carried out if no number is named.
 const DEFAULT_LIMIT: u32 = 1_000_000_000;

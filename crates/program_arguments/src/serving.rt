@@ -5,6 +5,7 @@ ghost use Rattle.program_arguments.specs.Features.{features_in};
 ghost use Rattle.program_arguments.specs.Calls.{AreOperatorsIn, IsOpeningIn, IsOriginIn, IsPlainIn, IsRoom, IsSeated};
 ghost use Rattle.program_arguments.specs.Options.{Reads};
 
+use crate::call::{Call, Opening, Operators, PlainService, Seating};
 use crate::commands::{LINES, Subcommand};
 use crate::faults::Faults;
 use crate::features::{FIT, features_in};
@@ -15,7 +16,6 @@ use crate::sizes::{SIZE, size_in};
 use clap::ArgMatches;
 use clap::builder::ValueParser;
 use machine_tables::Features;
-use program_call::{Call, Opening, Operators, PlainService, Seating};
 use serving_http::{Origin, OriginFault, read_origin};
 use std::alloc::AllocError;
 

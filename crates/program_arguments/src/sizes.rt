@@ -3,10 +3,10 @@ ghost use Rattle.std.specs.Prelude.{codes};
 ghost use Rattle.clap.specs.Words.{found_of};
 ghost use Rattle.program_arguments.specs.Options.{IsNamedSizeIn, IsNumberOr};
 
+use crate::call::DEFAULT_SIZE;
 use crate::options::{Argument, FREE, Kind};
 use clap::ArgMatches;
 use clap::parser::ValueSource;
-use program_call::DEFAULT_SIZE;
 
 /// The size of core storage.
 pub(crate) const SIZE: Argument = Argument {

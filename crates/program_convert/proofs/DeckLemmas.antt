@@ -11,8 +11,8 @@ use Rattle.devices_1401.specs.declared.card.Card.{Card}
 use Rattle.job_runner.specs.DeckText.{card_text}
 use Rattle.machine_tapes.specs.Reel.{is_tape_mark, tape_mark}
 use Rattle.machine_tapes.specs.TapReading.{records_read}
-use Rattle.program_call.specs.declared.call.Parity.{Parity}
-use Rattle.program_call.specs.declared.call.Parity.TheVariants.{Even, Odd}
+use Rattle.program_arguments.specs.declared.call.Parity.{Parity}
+use Rattle.program_arguments.specs.declared.call.Parity.TheVariants.{Even, Odd}
 use Rattle.program_convert.specs.Decks.{are_whole, card_record, cards_from, cards_with, deck_records, reel_cards}
 use Rattle.program_convert.specs.Decks.{record_card}
 use Rattle.program_convert.specs.Decks.{text_after, with_card, StayAsTheyAre}

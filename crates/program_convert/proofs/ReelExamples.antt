@@ -3,7 +3,7 @@ use Rattle.std.proofs.Common.{◌≡◌, List, ℕ, [], ◌∷◌, Ok, Err, refl
 use Rattle.std.specs.Prelude.{codes}
 use Rattle.bcd_1401.specs.Graphic.{graphics}
 use Rattle.machine_tapes.specs.Reel.{tape_mark}
-use Rattle.program_call.specs.declared.call.Parity.TheVariants.{Even, Odd}
+use Rattle.program_arguments.specs.declared.call.Parity.TheVariants.{Even, Odd}
 use Rattle.program_convert.specs.Decks.{cards_from, cards_with, record_card, reel_cards}
 use Rattle.program_convert.specs.ReelListing.{before_char, chars_text}
 

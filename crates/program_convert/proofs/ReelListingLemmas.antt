@@ -6,7 +6,7 @@ use Rattle.std.proofs.lemmas.List.{drop_all}
 use Rattle.std.specs.Prelude.{slice_index}
 use Rattle.bcd_1401.specs.Graphic.{graphics}
 use Rattle.machine_tapes.specs.Reel.{is_tape_mark}
-use Rattle.program_call.specs.declared.call.Parity.{Parity}
+use Rattle.program_arguments.specs.declared.call.Parity.{Parity}
 use Rattle.program_convert.specs.Parity.{read_as}
 use Rattle.program_convert.specs.ReelListing.{before_char, char_text, chars_text, data_lines, lines_from, mark_line}
 use Rattle.program_convert.specs.ReelListing.{record_lines}

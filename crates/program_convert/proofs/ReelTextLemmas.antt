@@ -13,7 +13,7 @@ use Rattle.machine_tapes.specs.Reel.{characters_in, most_characters, tape_mark}
 use Rattle.machine_tapes.specs.TapReading.{records_read}
 use Rattle.machine_tapes.specs.TapText.{length_text, odd_byte, record_text, tap_text}
 use Rattle.machine_tapes.proofs.TapWriteLemmas.{tap_again, tap_text-first, tap_text-none}
-use Rattle.program_call.specs.declared.call.Parity.{Parity}
+use Rattle.program_arguments.specs.declared.call.Parity.{Parity}
 use Rattle.program_convert.specs.Decks.{are_whole, card_record, deck_records, reel_cards, StayAsTheyAre}
 use Rattle.program_convert.specs.declared.reel_fault.ReelFault.{ReelFault}
 use Rattle.program_convert.proofs.DeckLemmas.{deck_again, first_whole, long_is_none, record_length}

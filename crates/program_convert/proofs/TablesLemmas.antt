@@ -6,7 +6,7 @@ use Rattle.std.specs.Bool.{⊤}
 use Rattle.std.specs.Io.KnownBytes.{Appends}
 use Rattle.std.specs.Prelude.{Ok, Err, Some, None, codes}
 use Rattle.bytes_streams.proofs.SentLemmas.{part_before, sent_part}
-use Rattle.program_call.specs.declared.call.Tables.{Tables}
+use Rattle.program_arguments.specs.declared.call.Tables.{Tables}
 use Rattle.program_convert.specs.Assemble.{with_part, with_part_if, tables_text, Wrote}
 use Rattle.program_convert.specs.ReadyTables.{has_some, separator, listing_in}
 use Rattle.program_convert.specs.declared.fault.AssembleFault.{AssembleFault}

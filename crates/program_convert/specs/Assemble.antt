@@ -15,9 +15,9 @@ use Rattle.autocoder_deck.specs.declared.fault.DeckFault.TheVariants.{Place}
 use Rattle.autocoder_statements.specs.declared.language.Language.{Language}
 use Rattle.bytes_streams.specs.Sink.{AppendsPart}
 use Rattle.machine_image.specs.ImageText.{IsTextOf, written_text}
-use Rattle.program_call.specs.declared.call.Product.{Product}
-use Rattle.program_call.specs.declared.call.Product.TheVariants as product
-use Rattle.program_call.specs.declared.call.Tables.{Tables}
+use Rattle.program_arguments.specs.declared.call.Product.{Product}
+use Rattle.program_arguments.specs.declared.call.Product.TheVariants as product
+use Rattle.program_arguments.specs.declared.call.Tables.{Tables}
 use Rattle.program_convert.specs.declared.fault.AssembleFault.{AssembleFault}
 use Rattle.program_convert.specs.declared.fault.AssembleFault.TheVariants as fault
 

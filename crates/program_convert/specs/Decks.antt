@@ -8,8 +8,8 @@ use Rattle.devices_1401.specs.Card.{card_columns}
 use Rattle.devices_1401.specs.declared.card.Card.{Card}
 use Rattle.job_runner.specs.DeckText.{card_text}
 use Rattle.machine_tapes.specs.Reel.{is_tape_mark, tape_mark}
-use Rattle.program_call.specs.declared.call.Parity.{Parity}
-use Rattle.program_call.specs.declared.call.Parity.TheVariants.{Even, Odd}
+use Rattle.program_arguments.specs.declared.call.Parity.{Parity}
+use Rattle.program_arguments.specs.declared.call.Parity.TheVariants.{Even, Odd}
 use Rattle.program_convert.specs.Parity.{a_alone, read_as, taped}
 use Rattle.program_convert.specs.declared.reel_fault.ReelFault.{ReelFault}
 use Rattle.program_convert.specs.declared.reel_fault.ReelFault.TheVariants as fault

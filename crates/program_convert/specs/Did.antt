@@ -5,7 +5,7 @@ use Rattle.bcd_1401.specs.Graphics.{chain_of, theirs_of}
 use Rattle.bcd_1401.specs.declared.graphics.Graphics.{Graphics}
 use Rattle.bytes_streams.specs.Sink.{AppendsPart}
 use Rattle.machine_tapes.specs.TapReading.{records_read}
-use Rattle.program_call.specs.declared.call.Parity.{Parity}
+use Rattle.program_arguments.specs.declared.call.Parity.{Parity}
 use Rattle.program_convert.specs.Decks.{reel_deck_text}
 use Rattle.program_convert.specs.ReelListing.{listing_text}
 use Rattle.program_convert.specs.declared.reel_fault.ReelFault.{ReelFault}

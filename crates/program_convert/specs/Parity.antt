@@ -1,8 +1,8 @@
 -- Characters on tape (A24-1403, "Magnetic Tape", from memory): in even parity a blank would have no bit, so bit A alone
 -- stands for it.
 use Rattle.std.specs.Prelude.{ℕ, ◌==◌, if◌then◌else◌}
-use Rattle.program_call.specs.declared.call.Parity.{Parity}
-use Rattle.program_call.specs.declared.call.Parity.TheVariants.{Even, Odd}
+use Rattle.program_arguments.specs.declared.call.Parity.{Parity}
+use Rattle.program_arguments.specs.declared.call.Parity.TheVariants.{Even, Odd}
 
 -- the character with bit A alone
 abbrev pub a_alone : ℕ

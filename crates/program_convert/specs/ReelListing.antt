@@ -4,7 +4,7 @@ use Rattle.std.specs.List.{count_by}
 use Rattle.bcd_1401.specs.Graphic.{graphics}
 use Rattle.machine_notation.specs.Digits.{digits_in}
 use Rattle.machine_tapes.specs.Reel.{characters_in, is_tape_mark}
-use Rattle.program_call.specs.declared.call.Parity.{Parity}
+use Rattle.program_arguments.specs.declared.call.Parity.{Parity}
 use Rattle.program_convert.specs.Parity.{read_as}
 
 -- how many characters of a record a line has

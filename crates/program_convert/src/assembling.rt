@@ -8,7 +8,7 @@ ghost use Rattle.machine_image.specs.ImageText.{written_text, IsTextOf};
 ghost use Rattle.autocoder_image.specs.ReadyImage.{text_of, HasPages};
 ghost use Rattle.autocoder_listing.specs.Writing.{IsReadyFor, text_for};
 ghost use Rattle.autocoder_1401.specs.Assembly.{assembly_in, with_listing};
-ghost use Rattle.program_call.specs.declared.call.Product.TheVariants.{Image as InImage, Listing, Tables as InTables};
+ghost use Rattle.program_arguments.specs.declared.call.Product.TheVariants.{Image as InImage, Listing, Tables as InTables};
 ghost use Rattle.program_convert.specs.Assemble.{with_part, with_part_if, tables_text, IsProductOf, IsWhyNotAssembled};
 ghost use Rattle.program_convert.specs.ReadyTables.{has_some, separator, ready_text, AreReadyFor, IsReady};
 ghost use Rattle.program_convert.specs.ReadyTables.{product_text};
@@ -24,7 +24,7 @@ use autocoder_statements::{Language, split_line};
 use bytes_streams::{Sink, put_all};
 use core_1401::Core;
 use machine_image::Image;
-use program_call::{Product, Tables};
+use program_arguments::{Product, Tables};
 use std::alloc::{AllocError, Global};
 
 /// What parts the listing and the tables.

@@ -12,7 +12,7 @@ use bcd_1401::{Char, Graphics, in_theirs};
 use devices_1401::{CARD_COLUMNS, Card};
 use job_runner::put_cards;
 use machine_tapes::{TapeRecord, TapeRecords};
-use program_call::Parity;
+use program_arguments::Parity;
 use std::alloc::Global;
 
 /// The card of a record that is no longer than one.

@@ -13,7 +13,7 @@ use bcd_1401::Char;
 use bytes_streams::{Failed, Sink, make_room, put_through};
 use machine_notation::put_named_digits;
 use machine_tapes::{TapeRecord, TapeRecords};
-use program_call::Parity;
+use program_arguments::Parity;
 
 /// How many characters of a record a line has: as many as a card.
 const LINE_CHARACTERS: usize = 80;

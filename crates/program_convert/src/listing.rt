@@ -12,7 +12,7 @@ use crate::lines::{put_number, put_records, put_text};
 use crate::reel_fault::ReelFault;
 use bytes_streams::{Failed, PAGE, Sink, put_all};
 use machine_tapes::{Reel, TapFault, TapeRecords, read_tap};
-use program_call::Parity;
+use program_arguments::Parity;
 use std::alloc::Global;
 
 /// The reel of a text.

@@ -3,7 +3,7 @@ ghost use Rattle.std.specs.Prelude.{◌≡◌};
 ghost use Rattle.program_convert.specs.Parity.{read_as, taped};
 
 use bcd_1401::Char;
-use program_call::Parity;
+use program_arguments::Parity;
 
 /// The character that stands for a blank on a tape of even parity: bit A alone.
 const A_ALONE: u8 = 16;

@@ -12,7 +12,7 @@ use bytes_descriptors::{
 };
 use bytes_streams::ToWriter;
 use job_runner::CardList;
-use program_call::Parity;
+use program_arguments::Parity;
 use std::alloc::Global;
 use std::io;
 use std::rt::Files;

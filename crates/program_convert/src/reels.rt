@@ -20,7 +20,7 @@ use crate::reel_fault::ReelFault;
 use bytes_streams::{Failed, PAGE, Sink};
 use devices_1401::{CARD_COLUMNS, Card};
 use job_runner::{CardList, Cards, Deck};
-use program_call::Parity;
+use program_arguments::Parity;
 use std::alloc::Global;
 
 /// The most cards of a deck that becomes a reel, with a tape mark after them: so the file of the reel has no more bytes

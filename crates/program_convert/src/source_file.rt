@@ -2,7 +2,7 @@
 ghost use Rattle.std.specs.Prelude.{◌≡◌, false, true};
 ghost use Rattle.core_1401.specs.Storage.{is_core_size};
 ghost use Rattle.program_convert.specs.ReadyTables.{IsReady};
-ghost use Rattle.program_call.specs.Sizes.{is_refused};
+ghost use Rattle.program_arguments.specs.SourceSize.{is_refused};
 
 use crate::assembling::{
     ReadyProduct, check_size, ready_product, source_deck, write_assembly, write_ready_product,
@@ -18,7 +18,7 @@ use bytes_descriptors::{
 };
 use bytes_streams::ToWriter;
 use machine_tables::Features;
-use program_call::{Assembling, Product, Reported, is_refused, size_for};
+use program_arguments::{Assembling, Product, Reported, is_refused, size_for};
 use std::alloc::Global;
 use std::io;
 use std::rt::Files;

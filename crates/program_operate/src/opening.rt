@@ -5,7 +5,7 @@ ghost use Rattle.autocoder_listing.specs.SymbolTable.{symbols_in};
 ghost use Rattle.autocoder_symbols.specs.Reading.{lines_in};
 ghost use Rattle.console_1401.specs.ImageLoading.{load_entries};
 ghost use Rattle.machine_image.specs.Image.{IsInCore};
-ghost use Rattle.program_call.specs.Sizes.{is_refused};
+ghost use Rattle.program_arguments.specs.SourceSize.{is_refused};
 ghost use Rattle.room_alone.specs.Journal.{refusal_of};
 
 use crate::decks::NamedDeck;
@@ -19,7 +19,7 @@ use machine_commands::Command;
 use machine_image::Segment;
 use machine_tables::Features;
 use operate_program::Program;
-use program_call::{DEFAULT_SIZE, is_refused, size_for};
+use program_arguments::{DEFAULT_SIZE, is_refused, size_for};
 use program_rooms::loaded_room;
 use program_run::{RunFault, is_image, read_program_text, report_source};
 use room_alone::{Room, RoomFault};

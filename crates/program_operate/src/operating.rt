@@ -15,7 +15,7 @@ use operate_console::{
     Beginning, Desk, Manner, OperateEnd, Operated, Script, Setting, Terminal, operate,
 };
 use operate_sitting::{Cutter, Sitting};
-use program_call::{NewJournal, Operating};
+use program_arguments::{NewJournal, Operating};
 use program_rooms::{HoldFault, durability_of, tell_cut};
 use program_run::RunFault;
 use room_alone::{Keeper, KeptRoom, NoKeeper};

@@ -4,7 +4,7 @@ use Rattle.std.specs.Prelude.{Ok}
 use Rattle.room_alone.specs.declared.entry.Entry.{Entry}
 use Rattle.room_alone.specs.Journal.{IsLegal}
 use Rattle.room_alone.specs.Kept.{Form, IsKeptAs}
-use Rattle.serving_seats.specs.declared.fault.SeatsFault.{SeatsFault}
+use Rattle.serving_room.specs.declared.fault.SeatsFault.{SeatsFault}
 use Rattle.program_rooms.specs.Kept.{IsKeptWhole}
 use Rattle.program_rooms.specs.Outcome.{seats_outcome}
 

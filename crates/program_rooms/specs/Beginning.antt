@@ -8,7 +8,7 @@ use Rattle.machine_commands.specs.declared.command.Command.TheVariants.{Feed}
 use Rattle.room_1401.specs.Seen.{SeatView, Carries}
 use Rattle.machine_image.specs.Loading.{fit_commands, load_commands}
 use Rattle.machine_tables.specs.declared.features.Features.{Features}
-use Rattle.serving_seats.specs.Giving.{GiveAll}
+use Rattle.serving_room.specs.Giving.{GiveAll}
 use Rattle.program_rooms.specs.declared.beginning.Before.{Before}
 use Rattle.program_rooms.specs.declared.beginning.Before.TheVariants.{Program, Journal}
 

@@ -1,7 +1,7 @@
 -- The names of journals that follow each other (own).
 use Rattle.std.specs.Prelude.{◌≡◌, ◌≤◌, ℕ, List, ◌∷◌, ◌++◌, true, false, nat_eq, string_bytes, if◌then◌else◌}
 use Rattle.std.specs.Fmt.{decimal}
-use Rattle.program_call.specs.declared.call.Resuming.{Resuming}
+use Rattle.program_arguments.specs.declared.call.Resuming.{Resuming}
 
 -- the name with this number: the first has none
 abbrev pub name_at : List ℕ → ℕ → List ℕ

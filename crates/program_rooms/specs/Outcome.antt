@@ -6,10 +6,10 @@ use Rattle.console_1401.specs.declared.serving.ServeFault.{ServeFault}
 use Rattle.console_1401.specs.declared.serving.ServeFault.TheVariants as serve
 use Rattle.machine_commands.specs.declared.fault.RoomFault.{RoomFault}
 use Rattle.machine_commands.specs.declared.fault.RoomFault.TheVariants as room
-use Rattle.serving_seats.specs.declared.fault.SeatsFault.{SeatsFault}
-use Rattle.serving_seats.specs.declared.fault.SeatsFault.TheVariants as seats
-use Rattle.serving_seats.specs.declared.giving.GiveFault.{GiveFault}
-use Rattle.serving_seats.specs.declared.giving.GiveFault.TheVariants as give
+use Rattle.serving_room.specs.declared.fault.SeatsFault.{SeatsFault}
+use Rattle.serving_room.specs.declared.fault.SeatsFault.TheVariants as seats
+use Rattle.serving_room.specs.declared.giving.GiveFault.{GiveFault}
+use Rattle.serving_room.specs.declared.giving.GiveFault.TheVariants as give
 use Rattle.room_alone.specs.declared.terminal_fault.SessionFault.TheVariants as session
 use Rattle.program_rooms.specs.declared.session_fault.HoldFault.TheVariants as hold
 use Rattle.program_rooms.specs.declared.fault.OpenFault.{OpenFault}

@@ -1,6 +1,6 @@
 -- Where the consoles and the pages of a room's seats are (own).
 use Rattle.std.specs.Prelude.{◌≡◌, ℕ, ◌+◌, List, [], ◌∷◌, length, Option, None, Some}
-use Rattle.program_call.specs.declared.call.Operators.{Operators}
+use Rattle.program_arguments.specs.declared.call.Operators.{Operators}
 use Rattle.serving_http.specs.declared.origins.Origin.{Origin}
 use Rattle.serving_http.specs.Origins.{IsFurther}
 use Rattle.serving_http.specs.Sites.{SiteView}

@@ -5,7 +5,7 @@ ghost use Rattle.program_rooms.specs.Pages.{ArePages, IsAtLoopback, IsOpenFor, I
 use crate::HoldFault;
 use crate::fault::OpenFault;
 use bytes_descriptors::lengthen_queue;
-use program_call::Operators;
+use program_arguments::Operators;
 use serving_http::{Origin, Site, origin_after};
 use serving_room::{Listening, PagePort};
 use std::alloc::Global;

@@ -6,7 +6,7 @@ ghost use Rattle.program_rooms.specs.Named.{IsTaken, name_at};
 use crate::durability_of;
 use crate::fault::{OpenFault, not_kept};
 use crate::succession::Journals;
-use program_call::{NewJournal, Resuming};
+use program_arguments::{NewJournal, Resuming};
 use room_1401::Keeper;
 use room_files::{
     JournalFile, JournalFileFault, KeepFault, MadeJournal, MadeName, TextKeeper, begin_journal,

@@ -9,7 +9,7 @@ use bytes_streams::{FromReader, Sink, Source, ToWriter};
 use console_1401::put_features;
 use core_1401::CoreFault;
 use machine_tables::Features;
-use program_call::{NewJournal, Opening, Resuming, Session, Showing};
+use program_arguments::{NewJournal, Opening, Resuming, Session, Showing};
 use room_alone::{Room, console, session};
 use room_files::{
     Durability, JournalFault, KeepFault, MadeJournal, ShowFault, TakenUp, View, carry_chosen,

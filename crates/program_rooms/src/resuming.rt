@@ -2,7 +2,7 @@
 ghost use Rattle.std.specs.Prelude.{◌≡◌, ℕ, false, Some, Err, All, IfOk, OnOk};
 ghost use Rattle.room_alone.specs.Journal.{state_of};
 ghost use Rattle.room_files.specs.JournalText.{journal_text};
-ghost use Rattle.serving_seats.specs.Giving.{IsSeated, foreign_in};
+ghost use Rattle.serving_room.specs.Giving.{IsSeated, foreign_in};
 ghost use Rattle.program_rooms.specs.Choosing.{HasChosen};
 ghost use Rattle.program_rooms.specs.Beginning.{FitsAlone};
 
@@ -14,7 +14,7 @@ use crate::seating::serve_new;
 use crate::succession::{Rooms, Turn, serve_others, serve_rooms};
 use crate::{HoldFault, durability_of, read_chosen, tell_cut};
 use bytes_streams::Sink;
-use program_call::Resuming;
+use program_arguments::Resuming;
 use room_1401::{Entry, Room};
 use room_files::{JournalFile, TakenUp, find_journal, verify_journal};
 use serving_room::{Watch, foreign_seat};

@@ -20,7 +20,7 @@ use core_1401::Core;
 use devices_1401::Card;
 use machine_image::{LentImage, lend_image};
 use machine_tables::Features;
-use program_call::{NewJournal, Opening, Operators, Resuming};
+use program_arguments::{NewJournal, Opening, Operators, Resuming};
 use room_1401::{Keeper, Opened, RoomId, Seat, SharedRoom};
 use room_alone::SessionFault;
 use room_files::MadeName;

@@ -7,7 +7,7 @@ use crate::ending::tell_end;
 use crate::entrances::listener_at;
 use crate::fault::OpenFault;
 use console_1401::{ServeFault, Served, serve};
-use program_call::PlainService;
+use program_arguments::PlainService;
 use room_1401::{Opened, RoomId, SharedRoom, StartFault};
 use serving_room::TakingTurns;
 use std::alloc::Global;

@@ -3,8 +3,8 @@ use Rattle.std.proofs.Common.{◌≡◌, ℕ, true, false, List, [], ◌++◌, O
 use Rattle.std.proofs.lemmas.Bool.{and_parts}
 use Rattle.std.proofs.lemmas.List.{append-nil}
 use Rattle.std.specs.Prelude.{unwrap_or}
-use Rattle.program_call.specs.declared.call.Start.{Start}
-use Rattle.program_call.specs.Sizes.{size_for}
+use Rattle.program_arguments.specs.declared.call.Start.{Start}
+use Rattle.program_arguments.specs.SourceSize.{size_for}
 use Rattle.cpu_1401.specs.State.{State, power_on}
 use Rattle.devices_1401.specs.declared.card.Card.{Card}
 use Rattle.job_runner.specs.DeckText.{deck_of}

@@ -1,6 +1,6 @@
 -- Names of reels that lead to one file with another.
 use Rattle.std.proofs.Common.{ℕ, List, ◌∷◌, inl, inr, string_bytes}
-use Rattle.program_call.specs.declared.call.MountedReel.{MountedReel}
+use Rattle.program_arguments.specs.declared.call.MountedReel.{MountedReel}
 use Rattle.program_run.specs.OneFile.{IsAnyReel, IsClashOf, IsClashWithReel, IsReelFile, IsReelsClash}
 use Rattle.program_run.specs.RunFile.{InputNames, IsName, WrittenNames}
 use Rattle.program_run.specs.RunReels.{IsReadReel, IsWrittenReel}

@@ -9,8 +9,8 @@ use Rattle.machine_tables.specs.declared.stop.Stop.{Stop}
 use Rattle.machine_tables.specs.declared.stop.Stop.TheVariants as stop
 use Rattle.machine_tapes.specs.Tapes.{Tapes, no_tapes}
 use Rattle.machine_tapes.specs.declared.taped_machine.TapedMachine.{TapedMachine}
-use Rattle.program_call.specs.declared.call.Job.{Job}
-use Rattle.program_call.specs.declared.call.Start.{Start}
+use Rattle.program_arguments.specs.declared.call.Job.{Job}
+use Rattle.program_arguments.specs.declared.call.Start.{Start}
 use Rattle.program_run.specs.Run.{job_outcome, outcome_after}
 use Rattle.program_run.specs.ReelPlaces.{places_of}
 use Rattle.program_run.specs.WhyStopped.{IsWhyStopped}

@@ -3,11 +3,11 @@ use Rattle.std.proofs.Common.{◌≡◌, ◌<◌, ℕ, List, [], ◌∷◌, Opti
 use Rattle.std.proofs.Common.{Err}
 use Rattle.std.specs.Prelude.{◌⊎◌, Some, String, option_map}
 use Rattle.std.specs.Global.{Global}
-use Rattle.program_call.specs.declared.call.Job.{Job}
-use Rattle.program_call.specs.declared.call.MountedReel.{MountedReel}
-use Rattle.program_call.specs.declared.call.ReelSource.{ReelSource}
-use Rattle.program_call.specs.declared.call.ReelSource.TheVariants as source
-use Rattle.program_call.specs.declared.call.Start.TheVariants as start
+use Rattle.program_arguments.specs.declared.call.Job.{Job}
+use Rattle.program_arguments.specs.declared.call.MountedReel.{MountedReel}
+use Rattle.program_arguments.specs.declared.call.ReelSource.{ReelSource}
+use Rattle.program_arguments.specs.declared.call.ReelSource.TheVariants as source
+use Rattle.program_arguments.specs.declared.call.Start.TheVariants as start
 use Rattle.program_run.specs.OneFile.{IsClashOf}
 use Rattle.program_run.specs.RunEnd.{IfStopped, IsNoStopOf, Ran}
 use Rattle.program_run.specs.RunFile.{IsUnloaded, IsUnread, IsUnwrittenFile, IsWrittenName, inputs_of, written_of}

@@ -4,7 +4,7 @@ use Rattle.std.proofs.Common.{◌∙◌, OnOk, Result, Ok, Err}
 use Rattle.std.proofs.lemmas.Bool.{false≢true}
 use Rattle.std.specs.Prelude.{⊤, IsOk, IfSome, option_map}
 use Rattle.machine_tapes.specs.Tapes.{Tapes}
-use Rattle.program_call.specs.declared.call.MountedReel.{MountedReel}
+use Rattle.program_arguments.specs.declared.call.MountedReel.{MountedReel}
 use Rattle.program_run.specs.WrittenReels.{AreHandedOver, HandsOver, IsHandedOver, ReelFile, file_of, files_of}
 use Rattle.program_run.specs.WrittenReels.{text_on}
 use Rattle.program_run.specs.declared.fault.RunFault.{RunFault}

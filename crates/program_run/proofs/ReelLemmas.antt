@@ -1,8 +1,8 @@
 -- Faults of reels among those of a run.
 use Rattle.std.proofs.Common.{ℕ, List, [], ◌∷◌, inl, inr, refl, string_bytes, subst, sym}
-use Rattle.program_call.specs.declared.call.MountedReel.{MountedReel}
-use Rattle.program_call.specs.declared.call.ReelSource.{ReelSource}
-use Rattle.program_call.specs.declared.call.ReelSource.TheVariants as source
+use Rattle.program_arguments.specs.declared.call.MountedReel.{MountedReel}
+use Rattle.program_arguments.specs.declared.call.ReelSource.{ReelSource}
+use Rattle.program_arguments.specs.declared.call.ReelSource.TheVariants as source
 use Rattle.program_run.specs.RunFile.{IsOfRun, IsUnreadFile, WrittenNames}
 use Rattle.program_run.specs.RunReels.{IsNewFile, IsNewReel, IsNotPut, IsOfReelFile, IsReplaced, IsRingedFile, IsRingedReel, IsThere}
 use Rattle.program_run.specs.RunReels.{IsUnmounted, IsUnwrittenOf, IsUnwrittenReel, IsWrittenReel, IsWrittenTo}

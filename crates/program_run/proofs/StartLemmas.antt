@@ -13,8 +13,8 @@ use Rattle.machine_tapes.specs.TapedStep.{TapedStepped}
 use Rattle.machine_tapes.specs.Tapes.{Tapes}
 use Rattle.machine_tapes.specs.declared.taped_machine.TapedMachine.{TapedMachine}
 use Rattle.job_runner.specs.Unattended.{IsLeftOff, Job, ended, taped_load, taped_with_deck, unattended}
-use Rattle.program_call.specs.declared.call.Start.{Start}
-use Rattle.program_call.specs.declared.call.Start.TheVariants as start
+use Rattle.program_arguments.specs.declared.call.Start.{Start}
+use Rattle.program_arguments.specs.declared.call.Start.TheVariants as start
 use Rattle.program_run.specs.RunDeck.{BrokeOff, IsAtEndOf, pressed_job, report_of, started_job}
 use Rattle.program_run.specs.RunStart.{GoesOnAs, StopsAs}
 use Rattle.program_run.specs.RunTrace.{pressed_trace, started_trace}

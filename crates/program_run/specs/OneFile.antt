@@ -1,7 +1,7 @@
 -- Names of one run that lead to one file (own). Nothing is said of when they do.
 use Rattle.std.specs.Prelude.{◌≡◌, ◌⊎◌, ℕ, ⊤, List, Option, Some, string_bytes}
-use Rattle.program_call.specs.declared.call.MountedReel.{MountedReel}
-use Rattle.program_call.specs.declared.call.ReelSource.{ReelSource}
+use Rattle.program_arguments.specs.declared.call.MountedReel.{MountedReel}
+use Rattle.program_arguments.specs.declared.call.ReelSource.{ReelSource}
 use Rattle.program_run.specs.RunFile.{InputNames, IsInput, IsName, IsWrittenName, WrittenNames}
 use Rattle.program_run.specs.RunReels.{IsReadFrom, IsReadReel, IsWrittenReel, IsWrittenTo}
 use Rattle.program_run.specs.declared.one_file.Clash.{Clash}

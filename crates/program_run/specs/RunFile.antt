@@ -3,11 +3,11 @@
 use Rattle.std.specs.Prelude.{◌≡◌, ◌≢◌, ◌⊎◌, ℕ, ⊤, true, List, Option, Some, option_map, string_bytes}
 use Rattle.machine_tables.specs.declared.stop.Stop.TheVariants as stop
 use Rattle.autocoder_deck.specs.declared.entry.LoadFault.{LoadFault}
-use Rattle.program_call.specs.declared.call.Job.{Job}
-use Rattle.program_call.specs.declared.call.Start.{Start}
-use Rattle.program_call.specs.declared.call.Start.TheVariants as start
-use Rattle.program_call.specs.declared.call.MountedReel.{MountedReel}
-use Rattle.program_call.specs.Sizes.{is_refused}
+use Rattle.program_arguments.specs.declared.call.Job.{Job}
+use Rattle.program_arguments.specs.declared.call.Start.{Start}
+use Rattle.program_arguments.specs.declared.call.Start.TheVariants as start
+use Rattle.program_arguments.specs.declared.call.MountedReel.{MountedReel}
+use Rattle.program_arguments.specs.SourceSize.{is_refused}
 use Rattle.program_run.specs.RunReels.{IsNewReel, IsNotPut, IsReadReel, IsRingedReel, IsUnmounted, IsWrittenReel}
 use Rattle.program_run.specs.declared.fault.RunFault.{RunFault}
 use Rattle.program_run.specs.declared.fault.RunFault.TheVariants as fault

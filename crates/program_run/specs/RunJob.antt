@@ -4,10 +4,10 @@ use Rattle.std.specs.Prelude.{◌≡◌, ℕ, ◌+◌, ⊤, true, false, Bool, L
 use Rattle.std.specs.Prelude.{option_map, string_bytes, unwrap_or}
 use Rattle.autocoder_1401.specs.Assembly.{assembly_in}
 use Rattle.autocoder_1401.specs.declared.assembly.Assembly.{Assembly}
-use Rattle.program_call.specs.declared.call.Job.{Job}
-use Rattle.program_call.specs.declared.call.Start.{Start}
-use Rattle.program_call.specs.declared.call.Start.TheVariants as start
-use Rattle.program_call.specs.Sizes.{size_for}
+use Rattle.program_arguments.specs.declared.call.Job.{Job}
+use Rattle.program_arguments.specs.declared.call.Start.{Start}
+use Rattle.program_arguments.specs.declared.call.Start.TheVariants as start
+use Rattle.program_arguments.specs.SourceSize.{size_for}
 use Rattle.machine_tables.specs.declared.features.Features.{Features}
 use Rattle.cpu_1401.specs.State.{State, fitted_with, power_on, with_switch}
 use Rattle.autocoder_deck.specs.Entry.{loaded_deck}

@@ -10,10 +10,10 @@ use Rattle.machine_tapes.specs.declared.fault.TapFault.{TapFault}
 use Rattle.machine_tapes.specs.Drive.{mounted_on}
 use Rattle.machine_tapes.specs.Tapes.{Tapes, with_unit}
 use Rattle.machine_tapes.specs.declared.drive.Drive.{Drive}
-use Rattle.program_call.specs.Mounted.{has_ring}
-use Rattle.program_call.specs.declared.call.MountedReel.{MountedReel}
-use Rattle.program_call.specs.declared.call.ReelSource.{ReelSource}
-use Rattle.program_call.specs.declared.call.ReelSource.TheVariants as source
+use Rattle.program_arguments.specs.Mounted.{has_ring}
+use Rattle.program_arguments.specs.declared.call.MountedReel.{MountedReel}
+use Rattle.program_arguments.specs.declared.call.ReelSource.{ReelSource}
+use Rattle.program_arguments.specs.declared.call.ReelSource.TheVariants as source
 use Rattle.program_run.specs.GivenReels.{GivenReel, IsGiven}
 use Rattle.program_run.specs.declared.fault.RunFault.{RunFault}
 use Rattle.program_run.specs.declared.fault.RunFault.TheVariants as fault

@@ -3,7 +3,7 @@ use Rattle.std.specs.Prelude.{◌≡◌, ℕ, []}
 use Rattle.machine_tables.specs.declared.stop.Stop.{Stop}
 use Rattle.machine_tapes.specs.declared.taped_machine.TapedMachine.{TapedMachine}
 use Rattle.job_runner.specs.Unattended.{ended, unattended}
-use Rattle.program_call.specs.declared.call.Start.{Start}
+use Rattle.program_arguments.specs.declared.call.Start.{Start}
 use Rattle.program_run.specs.RunDeck.{started_job}
 use Rattle.program_run.specs.RunTrace.{started_trace}
 use Rattle.program_run.specs.TraceText.{trace_text}

@@ -8,8 +8,8 @@ use Rattle.machine_tapes.specs.TapeLoading.{loaded_from}
 use Rattle.machine_tapes.specs.TapedStep.{TapedStepped}
 use Rattle.machine_tapes.specs.declared.taped_machine.TapedMachine.{TapedMachine}
 use Rattle.job_runner.specs.Unattended.{taped_load}
-use Rattle.program_call.specs.declared.call.Start.{Start}
-use Rattle.program_call.specs.declared.call.Start.TheVariants as start
+use Rattle.program_arguments.specs.declared.call.Start.{Start}
+use Rattle.program_arguments.specs.declared.call.Start.TheVariants as start
 use Rattle.program_run.specs.declared.deck_running.Broken.{Broken}
 use Rattle.program_run.specs.declared.deck_running.Broken.TheVariants as broken
 use Rattle.job_steps.specs.declared.work.Work.{Work}

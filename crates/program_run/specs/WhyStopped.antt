@@ -8,8 +8,8 @@ use Rattle.machine_tapes.specs.declared.taped_machine.TapedMachine.{TapedMachine
 use Rattle.job_steps.specs.TapeReason.{IsTapeSo, IsTapedSo}
 use Rattle.job_steps.specs.Told.{IsTold}
 use Rattle.job_steps.specs.declared.reason.Reason.{Reason}
-use Rattle.program_call.specs.declared.call.Start.{Start}
-use Rattle.program_call.specs.declared.call.Start.TheVariants as start
+use Rattle.program_arguments.specs.declared.call.Start.{Start}
+use Rattle.program_arguments.specs.declared.call.Start.TheVariants as start
 
 -- what is said of the next step
 abbrev pub IsToldOfStep : TapedMachine → Stop → Option Reason → Type 0

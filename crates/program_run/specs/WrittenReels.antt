@@ -6,9 +6,9 @@ use Rattle.machine_tables.specs.TapeUnit.{tape_units}
 use Rattle.machine_tapes.specs.Reel.{records_of}
 use Rattle.machine_tapes.specs.TapText.{tap_text}
 use Rattle.machine_tapes.specs.Tapes.{Tapes, unit_of}
-use Rattle.program_call.specs.declared.call.MountedReel.{MountedReel}
-use Rattle.program_call.specs.declared.call.ReelSource.{ReelSource}
-use Rattle.program_call.specs.declared.call.ReelSource.TheVariants as source
+use Rattle.program_arguments.specs.declared.call.MountedReel.{MountedReel}
+use Rattle.program_arguments.specs.declared.call.ReelSource.{ReelSource}
+use Rattle.program_arguments.specs.declared.call.ReelSource.TheVariants as source
 use Rattle.program_run.specs.GivenReels.{GivenReel}
 
 -- what is handed over for a file: its name, whether it is to be a new one, and its text; no text if memory for it is

@@ -27,7 +27,7 @@ use job_runner::{
 };
 use job_steps::{TapeMark, Work};
 use machine_tapes::{TapeInstruction, TapedMachine, Tapes, tape_instruction, taped_step_law};
-use program_call::Start;
+use program_arguments::Start;
 use std::alloc::Global;
 
 /// Why a run broke off.

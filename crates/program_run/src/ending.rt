@@ -11,7 +11,7 @@ use core_1401::Core;
 use cpu_1401::Stop;
 use job_steps::{Reason, halt_address, load_reason_told, taped_reason_told};
 use machine_tapes::{Drive, TapeRecords, TapedMachine, Tapes};
-use program_call::Start;
+use program_arguments::Start;
 use std::alloc::Global;
 use std::fmt;
 

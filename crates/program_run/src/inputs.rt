@@ -5,8 +5,8 @@ ghost use Rattle.cpu_1401.specs.State.{power_on};
 ghost use Rattle.bcd_1401.specs.Graphics.{chain_of, ours_of};
 ghost use Rattle.job_runner.specs.DeckText.{deck_of};
 ghost use Rattle.program_run.specs.Program.{IsNoImage, IsNoProgram, is_meant_as_image};
-ghost use Rattle.program_call.specs.declared.call.Start.TheVariants.{Entry};
-ghost use Rattle.program_call.specs.Sizes.{is_refused};
+ghost use Rattle.program_arguments.specs.declared.call.Start.TheVariants.{Entry};
+ghost use Rattle.program_arguments.specs.SourceSize.{is_refused};
 ghost use Rattle.program_run.specs.RunFile.{IsOfFile, IsUnread, IsUnreadFile, inputs_of};
 ghost use Rattle.program_run.specs.RunJob.{HasFile, HasProgram, IsBegun, IsDeckText};
 
@@ -20,7 +20,7 @@ use bcd_1401::{Graphics, Suggestion, in_ours, suggest, suggest_for_source};
 use bytes_descriptors::{FileFault, read_whole};
 use cpu_1401::Machine;
 use job_runner::{CardList, Deck, DeckTextFault, read_deck};
-use program_call::{DEFAULT_SIZE, Job, Start};
+use program_arguments::{DEFAULT_SIZE, Job, Start};
 use std::alloc::Global;
 use std::rt::Files;
 

@@ -40,7 +40,7 @@ pub use fault::{RunFault, job_outcome};
 pub use inputs::{read_cards, read_program_text, report_source, tell_small_letters};
 pub use job_report::JobReport;
 pub use outputs::Outputs;
-pub use program_call::{is_refused, size_for};
+pub use program_arguments::{is_refused, size_for};
 pub use programs::{image_machine, is_image, loaded_machine, program_of};
 pub use punch_file::PunchFile;
 pub use reel_files::{NamedFiles, ReelFiles};

@@ -1,6 +1,6 @@
 //! The image of what a deck has loaded when its program begins.
 ghost use Rattle.std.specs.Prelude.{◌≡◌, false, IfOk, IfErr};
-ghost use Rattle.program_call.specs.Sizes.{is_refused};
+ghost use Rattle.program_arguments.specs.SourceSize.{is_refused};
 ghost use Rattle.program_run.specs.RunEnd.{IsNoStopOf};
 ghost use Rattle.program_run.specs.RunFile.{IsUnloaded};
 ghost use Rattle.program_run.specs.RunJob.{IsLoadedText};
@@ -14,7 +14,7 @@ use autocoder_deck::{LOADING_STEPS, LoadFault, loaded_image};
 use bytes_descriptors::put_whole;
 use job_runner::CardList;
 use machine_image::write_image;
-use program_call::{DEFAULT_SIZE, Job, Start};
+use program_arguments::{DEFAULT_SIZE, Job, Start};
 use std::alloc::Global;
 use std::rt::Files;
 

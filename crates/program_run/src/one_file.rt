@@ -7,7 +7,7 @@ ghost use Rattle.program_run.specs.RunFile.{inputs_of, written_of};
 
 use crate::fault::RunFault;
 use bytes_descriptors::is_one_file;
-use program_call::{Job, MountedReel, ReelSource, Start};
+use program_arguments::{Job, MountedReel, ReelSource, Start};
 use std::alloc::Global;
 use std::rt::Files;
 

@@ -11,7 +11,7 @@ use crate::tracing::Trace;
 use bcd_1401::Graphics;
 use bytes_descriptors::{CreatedFile, WriteFault, check_create, check_new, check_whole, create};
 use bytes_streams::ToWriter;
-use program_call::{Job, ReelSource};
+use program_arguments::{Job, ReelSource};
 use std::alloc::Global;
 use std::io::Printer;
 use std::rt::Files;

@@ -6,7 +6,7 @@ ghost use Rattle.machine_image.specs.Image.{IsInCore};
 ghost use Rattle.machine_image.specs.Loading.{load_commands};
 ghost use Rattle.program_run.specs.Program.{IsAssembled, IsImageMachine, IsNoImage, after_commands, is_meant_as_image};
 ghost use Rattle.program_run.specs.Program.{with_image};
-ghost use Rattle.program_call.specs.Sizes.{is_refused, size_for};
+ghost use Rattle.program_arguments.specs.SourceSize.{is_refused, size_for};
 
 use crate::fault::RunFault;
 use autocoder_1401::{PackedImage, assemble_packed};
@@ -15,7 +15,7 @@ use core_1401::CoreFault;
 use cpu_1401::{Machine, carry_out};
 use machine_commands::Command;
 use machine_image::{LentImage, LoadCommands, Segment, lend_image};
-use program_call::size_for;
+use program_arguments::size_for;
 use std::alloc::Global;
 
 /// Whether a text is meant as that of an image.

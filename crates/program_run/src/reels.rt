@@ -4,7 +4,7 @@ ghost use Rattle.machine_tapes.specs.Reel.{mounted, records_of};
 ghost use Rattle.machine_tapes.specs.TapText.{tap_text};
 ghost use Rattle.machine_tapes.specs.Drive.{mounted_on};
 ghost use Rattle.machine_tapes.specs.Tapes.{no_tapes};
-ghost use Rattle.program_call.specs.Mounted.{has_ring};
+ghost use Rattle.program_arguments.specs.Mounted.{has_ring};
 ghost use Rattle.program_run.specs.RunReels.{AreMounted, IsMounted, IsOfReelFile, IsReelOf, IsReelText, IsThere};
 ghost use Rattle.program_run.specs.RunReels.{IsUnmounted, IsUnmountedOf, IsUnwrittenOf, IsUnwrittenReel, reel_room};
 ghost use Rattle.program_run.specs.RunReels.{with_drive};
@@ -16,7 +16,7 @@ use crate::reel_files::{ReelFiles, exists};
 use bytes_descriptors::is_there;
 use machine_tables::TAPE_UNITS;
 use machine_tapes::{Reel, TapFault, Tapes, read_tap, write_tap};
-use program_call::{MountedReel, ReelSource};
+use program_arguments::{MountedReel, ReelSource};
 use std::alloc::Global;
 use std::rt::Files;
 

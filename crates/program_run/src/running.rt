@@ -9,7 +9,7 @@ ghost use Rattle.program_run.specs.RunEnd.{EndsAs, HandsOverAfter, IfStopped, Is
 ghost use Rattle.program_run.specs.RunEnd.{IsReadFor, Ran};
 ghost use Rattle.program_run.specs.GivenReels.{GivenReel};
 ghost use Rattle.program_run.specs.WrittenReels.{known_files};
-ghost use Rattle.program_call.specs.Sizes.{is_refused};
+ghost use Rattle.program_arguments.specs.SourceSize.{is_refused};
 
 use crate::deck_running::{Broken, run_started};
 use crate::ending::Ending;
@@ -28,7 +28,7 @@ use cpu_1401::{Machine, Stop};
 use job_runner::CardList;
 use machine_tables::Features;
 use machine_tapes::TapedMachine;
-use program_call::{Job, is_refused};
+use program_arguments::{Job, is_refused};
 use std::cell::Cell;
 use std::io;
 use std::rt::{Clock, Files};

@@ -1,13 +1,13 @@
 //! What is wrong with the source of a program, on standard error.
 ghost use Rattle.std.specs.Prelude.{◌≡◌, false};
-ghost use Rattle.program_call.specs.Sizes.{is_refused};
+ghost use Rattle.program_arguments.specs.SourceSize.{is_refused};
 
 use autocoder_1401::{
     AsmKind, FaultPages, explained_faults, fault_lines, lost_warnings, warning_lines,
 };
 use autocoder_statements::Language;
 use autocoder_symbols::AsmFault;
-use program_call::size_for;
+use program_arguments::size_for;
 use std::alloc::AllocError;
 
 /// How many warnings are printed at a time.

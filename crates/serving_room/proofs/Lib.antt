@@ -1,1 +1,4 @@
+pub mod GivingLemmas
+pub mod InputLemmas
+pub mod PlacesLemmas
 mod HoldsExamples

@@ -1,6 +1,9 @@
 pub mod Accounted
 pub mod Errands
+pub mod Giving
 pub mod Holds
+pub mod Input
 pub mod Lasts
+pub mod Places
 pub mod Ports
 pub mod Renewing

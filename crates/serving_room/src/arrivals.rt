@@ -2,11 +2,11 @@
 //! sent; so a connection that sends nothing, as browsers open ahead, or that takes nothing, delays no other.
 
 use crate::crowd::{NAPS, Stage};
+use crate::fault::SeatsFault;
 use crate::room_pages::{Answered, PageOfRoom};
 use crossbeam_channel::{Sender, bounded};
 use room_1401::RoomId;
 use serving_page::{WholeRequest, has_begun, linger, read_request, send_answer};
-use serving_seats::SeatsFault;
 use std::alloc::AllocGlobal;
 use std::io::{Read, Write};
 use std::net::{Shutdown, TcpStream};

@@ -15,6 +15,24 @@ pub mod noting;
 pub mod until_renewed;
 pub mod watch;
 
+// what went wrong, and what the seats of a room do before its operators come
+pub mod fault;
+pub mod giving;
+
+// the input that closes the room, and what a console reads and writes until then
+mod input;
+mod until_closing;
+mod while_open;
+
+// the place of each seat, what the lock of a service keeps, and what its threads share
+mod desk;
+mod place;
+mod service;
+
+// the consoles that come to seats, and the door at which they take turns at the machine
+mod consoles;
+pub mod taking_turns;
+
 // who holds the machine, and what pages are answered of that and of a new room
 mod errand;
 mod hold;
@@ -36,10 +54,12 @@ mod visits;
 // the service
 pub mod serving;
 
+pub use fault::SeatsFault;
+pub use giving::{GiveFault, foreign_seat, give, give_entries};
 pub use noting::NotingKeeper;
 pub use paging::PagePort;
 pub use ports::Listening;
 pub use serving::{Listeners, SeatsServed, serve_seats};
-pub use serving_seats::{GiveFault, SeatsFault, TakingTurns, foreign_seat, give, give_entries};
+pub use taking_turns::TakingTurns;
 pub use until_renewed::UntilRenewed;
 pub use watch::Watch;

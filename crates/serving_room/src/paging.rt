@@ -3,6 +3,7 @@ ghost use Rattle.std.specs.Prelude.{◌≡◌, ◌<◌, ◌≤◌};
 
 use crate::arrivals::{Asked, accept_arrivals};
 use crate::crowd::{Crowd, MOST_INSIDE};
+use crate::fault::SeatsFault;
 use crate::ports::Listening;
 use crate::room_pages::{PageOfRoom, Serving};
 use crate::visits::Visits;
@@ -10,7 +11,6 @@ use crossbeam_channel::{Receiver, Sender, bounded};
 use room_1401::{Keeper, RoomId, Seat, SharedRoom};
 use serving_page::document::document;
 use serving_page::{RoomShown, SeatPage, Site, TakenPage, answer_each, answer_page};
-use serving_seats::SeatsFault;
 use std::alloc::AllocGlobal;
 use std::random::RandomSource;
 use std::sync::Wait;

@@ -2,16 +2,17 @@
 ghost use Rattle.std.specs.Prelude.{◌≡◌, IfSome};
 
 use crate::crowd::Crowd;
+use crate::fault::SeatsFault;
 use crate::hold::Hold;
 use crate::hold_text::hold_text;
 use crate::paging::PagePort;
 use crate::room_page::RoomPage;
 use crate::room_state::{RoomState, held_off};
+use crate::service::SeatService;
 use crate::watch::Watch;
 use room_1401::RoomId;
 use serving_http::answer_bytes;
 use serving_page::{Gate, RoomName, WholeRequest};
-use serving_seats::{SeatService, SeatsFault};
 use std::alloc::AllocGlobal;
 use std::random::RandomSource;
 use std::sync::{Mutex, Wait};

@@ -6,15 +6,17 @@ ghost use Rattle.room_1401.specs.Keeping.{kept_part};
 ghost use Rattle.console_1401.specs.Served.{AreAllSeats};
 ghost use Rattle.serving_room.specs.Accounted.{IsAccounted};
 
+use crate::consoles::accept_each;
+use crate::fault::SeatsFault;
 use crate::paging::{PagePort, start_pages};
 use crate::ports::Listening;
 use crate::room_pages::{RoomPages, Serving};
+use crate::service::SeatService;
 use crate::watch::Watch;
 use bytes_descriptors::shut_down;
 use bytes_streams::Source;
 use console_1401::Door;
 use room_1401::{Keeper, Room, RoomId, Seat, SharedRoom};
-use serving_seats::{SeatService, SeatsFault, accept_each};
 use std::alloc::AllocGlobal;
 use std::random::RandomSource;
 use std::sync::Wait;

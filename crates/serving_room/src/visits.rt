@@ -1,10 +1,10 @@
 //! The requests of a page, as they are answered at its seat, and how long it keeps the seat.
 
 use crate::arrivals::Asked;
+use crate::service::SeatService;
 use crossbeam_channel::{Receiver, RecvTimeoutError, Sender};
 use room_1401::RoomId;
 use serving_page::{Requests, WholeRequest, is_accepted};
-use serving_seats::SeatService;
 use std::sync::Wait;
 use std::sync::atomic::Ordering::SeqCst;
 use std::time::{Clock, Duration, Instant};

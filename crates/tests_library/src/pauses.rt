@@ -2,7 +2,7 @@
 
 use crate::trial::Trial;
 use console_1401::Door;
-use serving_seats::TakingTurns;
+use serving_room::TakingTurns;
 use std::sync::Wait;
 use std::sync::atomic::Ordering::SeqCst;
 use std::sync::atomic::{AtomicBool, AtomicU64};

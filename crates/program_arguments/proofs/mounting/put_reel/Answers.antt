@@ -1,7 +1,7 @@
 -- The reel that is added has the value for its text.
 use Rattle.std.proofs.Common.{◌≡◌, ◌∙◌, ◌∷◌, ◌++◌, [], Bool, List, if◌then◌else◌, arith, rules, subst, sym, Some}
 use Rattle.std.proofs.lemmas.Str.Pattern.{split_parts}
-use Rattle.program_call.specs.declared.call.MountedReel.{MountedReel}
+use Rattle.program_arguments.specs.declared.call.MountedReel.{MountedReel}
 use Rattle.program_arguments.specs.Mounting.{AreMounted}
 use Rattle.program_arguments.proofs.MountLemmas.{mounted_more, text_of_it}
 use Rattle.program_arguments.proofs.mounting.put_reel.Goals as goal

@@ -2,7 +2,7 @@
 use Rattle.std.proofs.Common.{◌≡◌, ◌∙◌, List, ℕ, Some, ap, refl, rules, string_bytes, subst, sym}
 use Rattle.clap.specs.Words.{found_of}
 use Rattle.machine_tables.specs.declared.features.Features.{Features}
-use Rattle.program_call.specs.declared.call.MountedReel.{MountedReel}
+use Rattle.program_arguments.specs.declared.call.MountedReel.{MountedReel}
 use Rattle.program_arguments.specs.Features.{features_in}
 use Rattle.program_arguments.specs.Mounting.{AreReelsIn, IsStartIn, fitted_for, program_name}
 use Rattle.program_arguments.proofs.MountLemmas.{loads}

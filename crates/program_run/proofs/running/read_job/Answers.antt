@@ -1,7 +1,7 @@
 -- What was read, and faults of a job.
 use Rattle.std.proofs.Common.{List, refl, subst}
 use Rattle.machine_tapes.specs.Tapes.{no_tapes}
-use Rattle.program_call.specs.declared.call.MountedReel.{MountedReel}
+use Rattle.program_arguments.specs.declared.call.MountedReel.{MountedReel}
 use Rattle.program_run.specs.RunReels.{AreMounted, IsUnmounted}
 use Rattle.program_run.proofs.EndLemmas.{read_for}
 use Rattle.program_run.proofs.FaultLemmas.{unmounted_of, unread_of}

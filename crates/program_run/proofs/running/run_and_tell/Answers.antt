@@ -1,7 +1,7 @@
 -- The job has come to its end, and a reel that isn't written is one of the job's.
 use Rattle.std.proofs.Common.{IfErr, List, OnOk, Option, subst, sym}
 use Rattle.job_runner.specs.Unattended.{taped_with_deck}
-use Rattle.program_call.specs.declared.call.MountedReel.{MountedReel}
+use Rattle.program_arguments.specs.declared.call.MountedReel.{MountedReel}
 use Rattle.program_run.specs.GivenReels.{GivenReel}
 use Rattle.program_run.specs.RunEnd.{IsBegunFor}
 use Rattle.program_run.specs.RunReels.{IsUnwrittenReel}

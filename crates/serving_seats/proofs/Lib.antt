@@ -1,3 +1,0 @@
-pub mod GivingLemmas
-pub mod InputLemmas
-pub mod PlacesLemmas

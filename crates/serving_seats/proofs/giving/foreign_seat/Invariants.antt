@@ -1,7 +1,0 @@
--- No entry before this one is of a foreign seat.
-use Rattle.std.proofs.Common.{◌≡◌, drop}
-use Rattle.serving_seats.specs.Giving.{foreign_in}
-use Rattle.serving_seats.proofs.giving.foreign_seat.Given as goal
-
-abbrev pub invariant-loop-entry : goal.invariant-loop-entry
-invariant-loop-entry l = foreign_in l.least l.most (drop l.entry-index l.entries) ≡ foreign_in l.least l.most l.entries

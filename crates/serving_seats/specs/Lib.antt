@@ -1,3 +1,0 @@
-pub mod Giving
-pub mod Input
-pub mod Places
