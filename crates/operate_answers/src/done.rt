@@ -12,7 +12,7 @@ use bytes_text::Text;
 use core_1401::Core;
 use cpu_1401::Machine;
 use machine_commands::Command;
-use operate_orders::Act;
+use operate_orders::{Act, Base, Place};
 use operate_program::Program;
 use operate_views::put_switches;
 use std::alloc::Global;
@@ -75,7 +75,19 @@ pub fn put_done(
             }
         }
         Act::Set { field, .. } => {
-            if let Err(fault) = put_named_field(alloc, text, program, machine, field) {
+            // An address may have an index register in it, which the act itself may have set. So the field is now named
+            // by the last place that got a cell.
+            let mut place = *field;
+            if place.adjustments[0].is_some() {
+                if let Some(Command::Deposit { address, cells }) = commands.last() {
+                    let above = cells.as_slice().len().saturating_sub(1) as u32;
+                    place = Place {
+                        base: Base::Number(u32::from(*address).saturating_add(above)),
+                        adjustments: [None; 3],
+                    };
+                }
+            }
+            if let Err(fault) = put_named_field(alloc, text, program, machine, &place) {
                 return Err(fault);
             }
             text.put_byte(b'\n');

@@ -1,21 +1,11 @@
 //! Sessions, and consoles at the seats of a shared room.
 ghost use Rattle.std.specs.Prelude.{◌≡◌};
 
-use crate::rooms::show_room;
 use crate::trial::Trial;
-use console_1401::{Door, FromReader, OpenDoor, Sink, Source, ToWriter, ahead_of, attend, session};
-use room_1401::{Room, RoomId, Seat, SharedRoom};
+use console_1401::{Door, FromReader, OpenDoor, Sink, Source, ToWriter, ahead_of, attend};
+use room_1401::{RoomId, Seat, SharedRoom};
 use std::io::{Read, Stdout};
 use std::sync::Wait;
-
-/// Holds a session, and shows how it ended, the journal and the machine.
-pub fn hold_session(trial: &mut Trial, room: &mut Room) {
-    let mut reader = FromReader::new(trial.input);
-    let mut writer = ToWriter::new(trial.output);
-    let end = session(trial.alloc, room, &mut reader, &mut writer);
-    trial.tell(format_args!("END {end:?} {}", end.number()));
-    show_room(trial, room);
-}
 
 /// A door that writes down each call.
 #[derive(Drop)]

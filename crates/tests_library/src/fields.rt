@@ -2,7 +2,7 @@
 
 ghost use Rattle.std.specs.Prelude.{◌<◌, length};
 
-use crate::storage::{Work, deposit, show_cells, work_in_core};
+use crate::storage::{deposit, show_cells};
 use crate::trial::Trial;
 use core_1401::Core;
 use fields_1401::{
@@ -41,7 +41,7 @@ pub type Row = (
 );
 
 /// Sums and stops, comparison and editing, moves and marks.
-const ROWS: &[Row] = &[
+pub const ROWS: &[Row] = &[
     (
         "five and minus seven are minus two",
         Operation::Add,
@@ -214,12 +214,4 @@ pub fn make_call(trial: &mut Trial, core: &mut Core, row: &Row, is_within: bool)
         trial.show(what, &given);
     }
     show_cells(trial, core, *from, *to);
-}
-
-/// Shows each row by both of its calls.
-pub fn show_fields(trial: &mut Trial) {
-    for row in ROWS {
-        work_in_core(trial, 4_000, &Work::Operate(row, false));
-        work_in_core(trial, 4_000, &Work::Operate(row, true));
-    }
 }

@@ -32,18 +32,8 @@ pub fn show_image(trial: &mut Trial, image: &Image)
     }
 }
 
-/// Shows the cells of an image's segments.
-pub fn show_segments(trial: &mut Trial, image: &Image) {
-    trial.show("size, start", &(image.size, image.start));
-    for segment in image.segments.as_slice() {
-        trial.print(format_args!("{} ", segment.address));
-        trial.cells(segment.cells.as_slice());
-        trial.tell("");
-    }
-}
-
 /// Shows the image of a text and the same of its segments, put together once more; or why there is none.
-fn read(trial: &mut Trial, text: &[u8]) {
+pub fn read(trial: &mut Trial, text: &[u8]) {
     match read_image(trial.alloc, text) {
         Ok(image) => {
             show_image(trial, &image);
@@ -61,13 +51,6 @@ fn read(trial: &mut Trial, text: &[u8]) {
         }
         Err(ImageFault::Memory) => trial.refuse("for an image"),
         Err(fault) => trial.tell(format_args!("{} {fault:?}", fault.number())),
-    }
-}
-
-/// Shows each of these texts as an image, a second time if memory was refused.
-pub fn read_all(trial: &mut Trial, texts: &[&[u8]]) {
-    for text in texts {
-        read(trial, text);
     }
 }
 

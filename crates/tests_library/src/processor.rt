@@ -2,7 +2,7 @@
 
 use crate::storage::show_no_core;
 use crate::trial::Trial;
-use bcd_1401::{Cell, Char};
+use bcd_1401::Char;
 use console_1401::{Line, parse_line, reply_text};
 use cpu_1401::{Feature, Features, Machine, instruction_cells, step_law};
 use room_1401::{Answer, carry_out};
@@ -12,15 +12,12 @@ pub fn show_machine(trial: &mut Trial, machine: &Machine) {
     trial.show("registers", &machine.regs());
     let core = machine.core();
     for at in 0..core.size() {
-        show_place(trial, at, core.get(at));
-    }
-}
-
-fn show_place(trial: &mut Trial, at: u16, cell: Cell) {
-    if cell.mark || cell.char != Char::BLANK {
-        trial.print(format_args!("{at} "));
-        trial.cells(&[cell]);
-        trial.tell("");
+        let cell = core.get(at);
+        if cell.mark || cell.char != Char::BLANK {
+            trial.print(format_args!("{at} "));
+            trial.cells(&[cell]);
+            trial.tell("");
+        }
     }
 }
 

@@ -3,13 +3,12 @@ ghost use Rattle.std.specs.Prelude.{◌≡◌, nat_lt, true};
 ghost use Rattle.std.specs.List.{list_all};
 ghost use Rattle.machine_image.specs.Image.{is_inside};
 
-use crate::attended::hold_session;
 use crate::processor::{COMMANDS, show_machine};
 use crate::sources::{SOURCE, image_of, show_fault};
 use crate::storage::show_no_core;
 use crate::trial::Trial;
 use autocoder_1401::{Image, lend_image, read_image};
-use console_1401::{Line, parse_line, put_image, put_lent_image};
+use console_1401::{FromReader, Line, ToWriter, parse_line, put_image, put_lent_image, session};
 use room_1401::{Answer, Command, Entry, Room, RoomFault};
 
 /// An image of nine segments: loading it grows the journal more than once.
@@ -22,13 +21,13 @@ const IMAGE: &[u8] =
 pub enum Work {
     /// It is shown.
     Show,
-    /// The commands are carried out five times over.
+    /// The commands are carried out five times over, each a second time if it was refused, and it is shown.
     Carry,
     /// The journal is filled, and room for its entries is asked for.
     Fill,
     /// An image is lent to it, which is loaded.
     Lend,
-    /// A session is held.
+    /// A session is held; how it ended, the journal and the machine are shown.
     Session,
 }
 
@@ -39,31 +38,29 @@ pub fn show_room(trial: &mut Trial, room: &Room) {
         trial.show("entries", &entries);
     } else {
         for entry in room.journal() {
-            show_entry(trial, entry);
+            let Entry {
+                seat,
+                command,
+                answer,
+            } = entry;
+            match (command, answer) {
+                (Command::Deposit { address, cells }, answer) => {
+                    trial.print(format_args!("Entry {seat} Deposit {address} "));
+                    trial.cells(cells.as_slice());
+                    trial.tell(format_args!(" {answer:?}"));
+                }
+                (command, Answer::Cells(cells)) => {
+                    trial.print(format_args!("Entry {seat} {command:?} "));
+                    trial.cells(cells.as_slice());
+                    trial.tell("");
+                }
+                (command, answer) => {
+                    trial.tell(format_args!("Entry {seat} {command:?} {answer:?}"));
+                }
+            }
         }
     }
     show_machine(trial, room.machine());
-}
-
-fn show_entry(trial: &mut Trial, entry: &Entry) {
-    let Entry {
-        seat,
-        command,
-        answer,
-    } = entry;
-    match (command, answer) {
-        (Command::Deposit { address, cells }, answer) => {
-            trial.print(format_args!("Entry {seat} Deposit {address} "));
-            trial.cells(cells.as_slice());
-            trial.tell(format_args!(" {answer:?}"));
-        }
-        (command, Answer::Cells(cells)) => {
-            trial.print(format_args!("Entry {seat} {command:?} "));
-            trial.cells(cells.as_slice());
-            trial.tell("");
-        }
-        (command, answer) => trial.tell(format_args!("Entry {seat} {command:?} {answer:?}")),
-    }
 }
 
 /// Does this work in a new room of this size.
@@ -77,10 +74,25 @@ pub fn work_in_room(trial: &mut Trial, size: u16, work: &Work) {
 fn do_work(trial: &mut Trial, room: &mut Room, work: &Work) {
     match work {
         Work::Show => show_room(trial, room),
-        Work::Carry => carry_all(trial, room),
+        Work::Carry => {
+            for _ in 0..5 {
+                for line in COMMANDS {
+                    if let Ok(Line::Command(command)) = parse_line(line.as_bytes()) {
+                        carry(trial, room, &command);
+                    }
+                }
+            }
+            show_room(trial, room);
+        }
         Work::Fill => fill(trial, room),
         Work::Lend => lend(trial, room),
-        Work::Session => hold_session(trial, room),
+        Work::Session => {
+            let mut reader = FromReader::new(trial.input);
+            let mut writer = ToWriter::new(trial.output);
+            let end = session(trial.alloc, room, &mut reader, &mut writer);
+            trial.tell(format_args!("END {end:?} {}", end.number()));
+            show_room(trial, room);
+        }
     }
 }
 
@@ -106,18 +118,7 @@ pub fn show_given(
     true
 }
 
-/// Has the commands carried out in a room, five times over and each a second time if it was refused, and shows the room.
-fn carry_all(trial: &mut Trial, room: &mut Room) {
-    for _ in 0..5 {
-        for line in COMMANDS {
-            if let Ok(Line::Command(command)) = parse_line(line.as_bytes()) {
-                carry(trial, room, &command);
-            }
-        }
-    }
-    show_room(trial, room);
-}
-
+/// Has a command carried out in a room, a second time if it was refused.
 fn carry(trial: &mut Trial, room: &mut Room, command: &Command) {
     for _ in 0..2 {
         let given = room.carry(0, *command);

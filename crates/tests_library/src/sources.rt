@@ -2,14 +2,13 @@
 ghost use Rattle.std.specs.Prelude.{IfOk};
 ghost use Rattle.machine_image.specs.Image.{IsInCore};
 
-use crate::images::{show_image, show_packed, show_segments};
+use crate::images::{show_image, show_packed};
 use crate::trial::Trial;
-use autocoder_1401::messages::warning_column;
 use autocoder_1401::{
-    AsmFault, AsmKind, Assembly, AssemblyProgram, AssemblyTables, Image, Language, Rows,
-    WarningKind, assemble, assemble_image, assemble_in, assemble_listing, assemble_packed,
-    assemble_program, assemble_with_tables, explained_faults, fault_lines, faults, warning_lines,
-    warnings, write_listing,
+    AsmFault, AsmKind, Assembly, AssemblyProgram, AssemblyTables, Image, Language, WarningKind,
+    assemble, assemble_image, assemble_in, assemble_listing, assemble_packed, assemble_program,
+    assemble_with_tables, explained_faults, fault_lines, faults, warning_lines, warnings,
+    write_listing,
 };
 use console_1401::{Line, ToWriter, parse_line};
 use cpu_1401::Features;
@@ -75,7 +74,13 @@ pub fn make(trial: &mut Trial, asked: &Asked, source: &[u8]) {
         },
         Asked::Program => show_program(trial, source),
         Asked::Tables => show_tables(trial, source),
-        Asked::Listing => show_listing(trial, source),
+        Asked::Listing => match assemble_listing(trial.alloc, Language::Plain, source, 4_000) {
+            Ok(ready) => {
+                let written = write_listing(ready, source, &mut ToWriter::new(trial.output));
+                trial.show("written", &written);
+            }
+            Err(fault) => show_fault(trial, fault),
+        },
         Asked::Faults => show_faults(trial, source),
         Asked::Warnings => show_warnings(trial, source),
     }
@@ -104,18 +109,6 @@ fn show_assembly(trial: &mut Trial, assembled: Result<Assembly, AsmFault>)
     }
 }
 
-/// Shows which line placed the instruction at 407.
-fn show_line(trial: &mut Trial, rows: &Rows) {
-    if let Ok(Line::Command(command)) = parse_line(b"DEPOSIT 0407 ~A423420") {
-        if let Command::Deposit { address, cells } = &command {
-            match rows.line_of(trial.alloc, *address, cells.as_slice()) {
-                Ok(number) => trial.show("the line that placed 407", &number),
-                Err(fault) => show_fault(trial, fault),
-            }
-        }
-    }
-}
-
 /// Shows the image, a row and the symbols of a source, and which line placed an instruction.
 fn show_program(trial: &mut Trial, source: &[u8]) {
     match assemble_program(trial.alloc, Language::Plain, source, 4_000) {
@@ -128,14 +121,21 @@ fn show_program(trial: &mut Trial, source: &[u8]) {
         ) => {
             trial.show("symbols and rows", &(symbols.len(), rows.as_slice().len()));
             trial.show("row 2", &rows.as_slice().get(1));
-            show_line(trial, &rows);
+            if let Ok(Line::Command(command)) = parse_line(b"DEPOSIT 0407 ~A423420") {
+                if let Command::Deposit { address, cells } = &command {
+                    match rows.line_of(trial.alloc, *address, cells.as_slice()) {
+                        Ok(number) => trial.show("the line that placed 407", &number),
+                        Err(fault) => show_fault(trial, fault),
+                    }
+                }
+            }
             show_packed(trial, image);
         }
         Err(fault) => show_fault(trial, fault),
     }
 }
 
-/// Shows both tables of a source, its listing, and its image.
+/// Shows both tables of a source, its listing, and the cells of its image.
 fn show_tables(trial: &mut Trial, source: &[u8]) {
     match assemble_with_tables(trial.alloc, Language::Plain, source, 4_000) {
         Ok(
@@ -150,18 +150,12 @@ fn show_tables(trial: &mut Trial, source: &[u8]) {
             trial.text(references.as_slice());
             let written = write_listing(listing, source, &mut ToWriter::new(trial.output));
             trial.show("written", &written);
-            show_segments(trial, &image);
-        }
-        Err(fault) => show_fault(trial, fault),
-    }
-}
-
-/// Writes the listing of a source.
-fn show_listing(trial: &mut Trial, source: &[u8]) {
-    match assemble_listing(trial.alloc, Language::Plain, source, 4_000) {
-        Ok(ready) => {
-            let written = write_listing(ready, source, &mut ToWriter::new(trial.output));
-            trial.show("written", &written);
+            trial.show("size, start", &(image.size, image.start));
+            for segment in image.segments.as_slice() {
+                trial.print(format_args!("{} ", segment.address));
+                trial.cells(segment.cells.as_slice());
+                trial.tell("");
+            }
         }
         Err(fault) => show_fault(trial, fault),
     }
@@ -200,7 +194,7 @@ fn show_warnings(trial: &mut Trial, source: &[u8]) {
 }
 
 /// Warnings, each at the column that it is about.
-const COLUMNS: [WarningKind; 7] = [
+pub const COLUMNS: [WarningKind; 7] = [
     WarningKind::NotFitted,
     WarningKind::UnusedLabel,
     WarningKind::UnsetIndicator,
@@ -209,13 +203,6 @@ const COLUMNS: [WarningKind; 7] = [
     WarningKind::StartsNothing,
     WarningKind::ReadOn(400),
 ];
-
-/// Shows the column of each kind of warning.
-pub fn show_columns(trial: &mut Trial) {
-    for kind in COLUMNS {
-        trial.tell(format_args!("{kind:?}: {}", warning_column(kind)));
-    }
-}
 
 /// The image of a source, in core storage of 4,000 places.
 pub fn image_of(trial: &Trial, source: &[u8]) -> Result<Image, AsmFault>

@@ -36,18 +36,14 @@ pub fn show_no_core(trial: &mut Trial, fault: CoreFault) {
 /// Does this work in new core storage of this size.
 pub fn work_in_core(trial: &mut Trial, size: u16, work: &Work) {
     match Core::power_on(trial.alloc, size) {
-        Ok(mut core) => do_work(trial, &mut core, work),
+        Ok(mut core) => match work {
+            Work::Size => trial.show("places", &core.size()),
+            Work::Measure(mark, places, pair) => measure(trial, &mut core, *mark, places, *pair),
+            Work::Walk(mark) => walk(trial, &mut core, *mark),
+            Work::Blocks => use_blocks(trial, &mut core),
+            Work::Operate(row, is_within) => make_call(trial, &mut core, row, *is_within),
+        },
         Err(fault) => show_no_core(trial, fault),
-    }
-}
-
-fn do_work(trial: &mut Trial, core: &mut Core, work: &Work) {
-    match work {
-        Work::Size => trial.show("places", &core.size()),
-        Work::Measure(mark, places, pair) => measure(trial, core, *mark, places, *pair),
-        Work::Walk(mark) => walk(trial, core, *mark),
-        Work::Blocks => use_blocks(trial, core),
-        Work::Operate(row, is_within) => make_call(trial, core, row, *is_within),
     }
 }
 

@@ -1,16 +1,15 @@
 //! The trials, and the words that name them.
 
-use crate::images::{IMAGES, OTHERS, read_all};
+use crate::images::{IMAGES, OTHERS, read};
 use crate::processor::{COMMANDS, show_processor, show_replies};
 use crate::shared::{Act, Does, End, share};
-use crate::sources::{
-    Asked, END, NO_END, OUTSIDE, SOURCE, UNDECLARED, UNKNOWN, make, show_columns,
-};
+use crate::sources::{Asked, COLUMNS, END, NO_END, OUTSIDE, SOURCE, UNDECLARED, UNKNOWN, make};
 use crate::storage::{Work, show_addresses, show_set, work_in_core};
 use crate::texts::{show_named, show_numbered};
 use crate::trial::Trial;
 use crate::{attended, characters, devices, fields, kept, pauses, rooms, served};
 use autocoder_1401::Language;
+use autocoder_1401::messages::warning_column;
 use std::net::{Net, TcpListener, TcpStream};
 use std::sync::Wait;
 use std::thread::Threads;
@@ -253,7 +252,7 @@ pub fn make_trials<
     }
 }
 
-/// Makes the trials of a word among these, or all of them without one: each a second time if it was refused memory.
+/// Makes the trials of a word among these, or all of them without one: each a second time if a call was refused memory.
 fn make_rows<R: Threads + Wait + Clock + Sync + Net<Listener = TcpListener, Stream = TcpStream>>(
     rt: &R,
     trial: &mut Trial,
@@ -264,7 +263,8 @@ fn make_rows<R: Threads + Wait + Clock + Sync + Net<Listener = TcpListener, Stre
         if word.is_empty() || *name == word {
             trial.tell(format_args!("== {name}"));
             make_trial(rt, trial, subject);
-            if trial.take_refusal() {
+            if trial.is_refused {
+                trial.is_refused = false;
                 trial.tell(format_args!("== {name} again"));
                 make_trial(rt, trial, subject);
             }
@@ -284,13 +284,26 @@ fn make_trial<R: Threads + Wait + Clock + Sync + Net<Listener = TcpListener, Str
             show_set(trial);
         }
         Subject::Core(size, work) => work_in_core(trial, *size, work),
-        Subject::Fields => fields::show_fields(trial),
+        Subject::Fields => {
+            for row in fields::ROWS {
+                work_in_core(trial, 4_000, &Work::Operate(row, false));
+                work_in_core(trial, 4_000, &Work::Operate(row, true));
+            }
+        }
         Subject::Devices => devices::show_devices(trial),
         Subject::Processor => show_processor(trial),
         Subject::Replies => show_replies(trial),
-        Subject::Read(texts) => read_all(trial, texts),
+        Subject::Read(texts) => {
+            for text in *texts {
+                read(trial, text);
+            }
+        }
         Subject::Source(asked, source) => make(trial, asked, source),
-        Subject::Columns => show_columns(trial),
+        Subject::Columns => {
+            for kind in COLUMNS {
+                trial.tell(format_args!("{kind:?}: {}", warning_column(kind)));
+            }
+        }
         Subject::Room(size, work) => rooms::work_in_room(trial, *size, work),
         Subject::PutImage => rooms::put(trial),
         Subject::Program => rooms::hold_program(trial),

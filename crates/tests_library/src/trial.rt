@@ -16,7 +16,8 @@ pub struct Trial {
     /// Where memory comes from.
     pub alloc: Global,
     written: io::Result<()>,
-    is_refused: bool,
+    /// Whether a call was refused memory.
+    pub is_refused: bool,
 }
 
 impl Trial {
@@ -83,12 +84,5 @@ impl Trial {
     pub fn refuse(&mut self, what: &str) {
         self.tell(format_args!("refused Memory {what}"));
         self.is_refused = true;
-    }
-
-    /// Whether something was refused since this was asked last.
-    pub fn take_refusal(&mut self) -> bool {
-        let is_refused = self.is_refused;
-        self.is_refused = false;
-        is_refused
     }
 }
