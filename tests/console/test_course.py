@@ -67,6 +67,40 @@ HALF_DONE = [
      "Record 6 of the new master isn't item 2020"),
 ]
 
+# What a pupil types into operate, by each page: a program, the lines, and what must be in the replies, in this order.
+LOOKS = [
+    ("01-three-fields", "program", ["step 8", "examine read", "step 2", "examine print", "step"],
+     ["reads ADAMS AND SON", "        ~                 ~", "00224-00229        -> BOSTON", "00200   ADAMS AND SON  ",
+      "   1/02 |ADAMS AND SON          BOSTON"]),
+    ("01-three-fields", "broken", ["until :11", *["step", "examine 221/30"] * 3],
+     ["line 11, MLC 18,218", "00200\n00250\n", " BOSTON\n00250", "00229-00244 N ", " BOSTOBOSTON      1931\n00250"]),
+    ("02-last-card", "program", ["watch COUNT", *["continue"] * 4, "step"],
+     ["COUNT: ~000 -> ~001", "COUNT: ~003 -> ~004", "BLC  DONE                goes to 0444 DONE"]),
+    ("02-last-card", "broken", ["watch TOTAL", *["continue"] * 4], ["-> ~00013745", "line 12, B NEXT", "HALT"]),
+    ("03-edited-amounts", "program",
+     ["until :9", "examine 219/15", "step", "examine 219/15", "print 24", *["until :9"] * 3, "print 24"],
+     [" ,  0.  &CR\n", "00223 loses its word mark", " 4,250.00\n", "425000  = 425000", "00125N  = -1255"]),
+    ("03-edited-amounts", "broken", ["until DONE", "print TOTAL WORD"], ["0133390?  = 1333900", " ,  0.  &CR\n"]),
+    ("04-price-table", "program", ["watch paper", *["continue", "print X1", "print CODE+X1 PRICE+X1"] * 2],
+     ["000  = 0", "10  = 10", "0125  = 125", "006  = 6", "20  = 20", "0250  = 250"]),
+    ("04-price-table", "broken", ["watch paper", *["continue", "print X1"] * 3, "continue 20", "print X1", "continue"],
+     ["006  = 6", "024  = 24", "030  = 30", "048  = 48", "ADDRESS"]),
+    ("05-subroutine", "program", ["break PRINT", *["continue", "registers", "step"] * 3, "list EXIT"],
+     ["B  0427", "00509-00511 000 -> 427", "B  0460", "27 -> 60", "B  0460", "list EXIT\n 00508 B460 "]),
+    ("05-subroutine", "broken", ["until TOTAL", "registers", "step 3", "back 3", "registers", "step", "registers"],
+     ["B  0485", "000 -> 199", "next is 0497 ", "B  0485", "00497 TOTAL", "B  0299"]),
+    ("06-headings", "program", ["watch paper @1055@", "continue", "registers"], ["   1/60 |1055", "line 63 of form 1"]),
+    ("06-headings", "broken", ["break HEADER", "continue", "registers", "continue", "registers"],
+     ["line 4 of form 1", "line 63 of form 1"]),
+    ("07-sorting", "program", ["break PASS", "continue", "examine CARD-23/144", *["continue"] * 4],
+     ["YTH             000495BAKER", *["break 1 after"] * 3, "   1/06 |SMYTH", "HALT"]),
+    ("07-sorting", "broken", ["until PASS", "print X1 LAST", "break OTHER if X1 = 120", "continue"],
+     ["120  = 120", "12?  = 120", "break 1, X1 = 120, after"]),
+    ("08-payroll", "program", ["until :12", "print GROSS", "step", "step", "print GROSS-1"],
+     ["40000000", "-> 0010000?", "0010000  = 10000"]),
+    ("08-payroll", "broken", ["watch SUMNET", *["continue"] * 5, "source"], ["-> ~0000000~6", ">  26 "]),
+]
+
 
 def elsewhere(source):
     """The same program 300 places further on, with an instruction before it and other labels."""
@@ -156,6 +190,22 @@ class Lessons(CourseTest):
             shutil.copy(COURSE / f"answers/{name}.source", place / "broken.source")
             ran = run(["bash", "-c", second], cwd=place)
             self.expect(f"{name}: the solution", ran, 0, papers["wanted"], "ibm1401: HALT at ...")
+
+    def test_what_a_pupil_sees_in_operate(self):
+        """Each page names the lines, and each reply has what the page says of it."""
+        for name, source, lines, wanted in LOOKS:
+            place, page = self.desk / name, (COURSE / name / "lesson.md").read_text()
+            if not place.exists():
+                self.begin(name)
+            self.same(f"{name}: lines that aren't on its page", [each for each in lines if f"`{each}`" not in page], [])
+            call = re.findall(r"^    (\./ibm1401 run .*)$", page, re.MULTILINE)[-1 if source == "broken" else 0]
+            call = re.sub(r"run \w+\.source", f"operate --echo {source}.source", call)
+            typed = "".join(f"{line}\n" for line in lines)
+            shown, at = run(["bash", "-c", call], typed.encode(), cwd=place).stdout.decode(), 0
+            for part in wanted:
+                at = shown.find(part, at)
+                self.check(f"{name}, {source}: {part!r}", "" if at >= 0 else shown)
+                at += len(part)
 
     def test_each_source_assembles_without_a_warning(self):
         for source in COURSE.rglob("*.source"):
