@@ -207,6 +207,13 @@ class Lessons(CourseTest):
                 self.check(f"{name}, {source}: {part!r}", "" if at >= 0 else shown)
                 at += len(part)
 
+    def test_the_texts_that_a_page_cites(self):
+        """Each is in a source or on a card of its lesson, blank for blank."""
+        for lesson in LESSONS:
+            cited = re.findall(r"@[^@`]+@", (lesson / "lesson.md").read_text())
+            there = "".join(each.read_text() for each in [*lesson.glob("*.source"), lesson / "program.cards"])
+            self.same(f"{lesson.name}: others", [text for text in cited if text.strip("@") not in there], [])
+
     def test_each_source_assembles_without_a_warning(self):
         for source in COURSE.rglob("*.source"):
             ran = program("assemble", "--all", "--language", "ibm", "--fit", "all", source)
