@@ -94,4 +94,4 @@ def lesson_page(top):
     ran = subprocess.run([top / "examples/course/lesson", "--help"], stdin=subprocess.DEVNULL, stdout=subprocess.PIPE,
                          check=True)
     page = read_page("lesson", ran.stdout.decode())
-    return Script(**{**vars(page), "usage": page.usage.removeprefix("lesson ")})
+    return Script(**{**vars(page), "usage": page.usage.rpartition("lesson ")[2]})

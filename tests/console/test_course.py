@@ -67,6 +67,40 @@ HALF_DONE = [
      "Record 6 of the new master isn't item 2020"),
 ]
 
+# What a pupil types into operate, by each page: a program, the lines, and what must be in the replies, in this order.
+LOOKS = [
+    ("01-three-fields", "program", ["step 8", "examine read", "step 2", "examine print", "step"],
+     ["reads ADAMS AND SON", "        ~                 ~", "00224-00229        -> BOSTON", "00200   ADAMS AND SON  ",
+      "   1/02 |ADAMS AND SON          BOSTON"]),
+    ("01-three-fields", "broken", ["until :11", *["step", "examine 221/30"] * 3],
+     ["line 11, MLC 18,218", "00200\n00250\n", " BOSTON\n00250", "00229-00244 N ", " BOSTOBOSTON      1931\n00250"]),
+    ("02-last-card", "program", ["watch COUNT", *["continue"] * 4, "step"],
+     ["COUNT: ~000 -> ~001", "COUNT: ~003 -> ~004", "BLC  DONE                goes to 0444 DONE"]),
+    ("02-last-card", "broken", ["watch TOTAL", *["continue"] * 4], ["-> ~00013745", "line 12, B NEXT", "HALT"]),
+    ("03-edited-amounts", "program",
+     ["until :9", "examine 219/15", "step", "examine 219/15", "print 24", *["until :9"] * 3, "print 24"],
+     [" ,  0.  &CR\n", "00223 loses its word mark", " 4,250.00\n", "425000  = 425000", "00125N  = -1255"]),
+    ("03-edited-amounts", "broken", ["until DONE", "print TOTAL WORD"], ["0133390?  = 1333900", " ,  0.  &CR\n"]),
+    ("04-price-table", "program", ["watch paper", *["continue", "print X1", "print CODE+X1 PRICE+X1"] * 2],
+     ["000  = 0", "10  = 10", "0125  = 125", "006  = 6", "20  = 20", "0250  = 250"]),
+    ("04-price-table", "broken", ["watch paper", *["continue", "print X1"] * 3, "continue 20", "print X1", "continue"],
+     ["006  = 6", "024  = 24", "030  = 30", "048  = 48", "ADDRESS"]),
+    ("05-subroutine", "program", ["break PRINT", *["continue", "registers", "step"] * 3, "list EXIT"],
+     ["B  0427", "00509-00511 000 -> 427", "B  0460", "27 -> 60", "B  0460", "list EXIT\n 00508 B460 "]),
+    ("05-subroutine", "broken", ["until TOTAL", "registers", "step 3", "back 3", "registers", "step", "registers"],
+     ["B  0485", "000 -> 199", "next is 0497 ", "B  0485", "00497 TOTAL", "B  0299"]),
+    ("06-headings", "program", ["watch paper @1055@", "continue", "registers"], ["   1/60 |1055", "line 63 of form 1"]),
+    ("06-headings", "broken", ["break HEADER", "continue", "registers", "continue", "registers"],
+     ["line 4 of form 1", "line 63 of form 1"]),
+    ("07-sorting", "program", ["break PASS", "continue", "examine CARD-23/144", *["continue"] * 4],
+     ["YTH             000495BAKER", *["break 1 after"] * 3, "   1/06 |SMYTH", "HALT"]),
+    ("07-sorting", "broken", ["until PASS", "print X1 LAST", "break OTHER if X1 = 120", "continue"],
+     ["120  = 120", "12?  = 120", "break 1, X1 = 120, after"]),
+    ("08-payroll", "program", ["until :12", "print GROSS", "step", "step", "print GROSS-1"],
+     ["40000000", "-> 0010000?", "0010000  = 10000"]),
+    ("08-payroll", "broken", ["watch SUMNET", *["continue"] * 5, "source"], ["-> ~0000000~6", ">  26 "]),
+]
+
 
 def elsewhere(source):
     """The same program 300 places further on, with an instruction before it and other labels."""
@@ -157,6 +191,29 @@ class Lessons(CourseTest):
             ran = run(["bash", "-c", second], cwd=place)
             self.expect(f"{name}: the solution", ran, 0, papers["wanted"], "ibm1401: HALT at ...")
 
+    def test_what_a_pupil_sees_in_operate(self):
+        """Each page names the lines, and each reply has what the page says of it."""
+        for name, source, lines, wanted in LOOKS:
+            place, page = self.desk / name, (COURSE / name / "lesson.md").read_text()
+            if not place.exists():
+                self.begin(name)
+            self.same(f"{name}: lines that aren't on its page", [each for each in lines if f"`{each}`" not in page], [])
+            call = re.findall(r"^    (\./ibm1401 run .*)$", page, re.MULTILINE)[-1 if source == "broken" else 0]
+            call = re.sub(r"run \w+\.source", f"operate --echo {source}.source", call)
+            typed = "".join(f"{line}\n" for line in lines)
+            shown, at = run(["bash", "-c", call], typed.encode(), cwd=place).stdout.decode(), 0
+            for part in wanted:
+                at = shown.find(part, at)
+                self.check(f"{name}, {source}: {part!r}", "" if at >= 0 else shown)
+                at += len(part)
+
+    def test_the_texts_that_a_page_cites(self):
+        """Each is in a source or on a card of its lesson, blank for blank."""
+        for lesson in LESSONS:
+            cited = re.findall(r"@[^@`]+@", (lesson / "lesson.md").read_text())
+            there = "".join(each.read_text() for each in [*lesson.glob("*.source"), lesson / "program.cards"])
+            self.same(f"{lesson.name}: others", [text for text in cited if text.strip("@") not in there], [])
+
     def test_each_source_assembles_without_a_warning(self):
         for source in COURSE.rglob("*.source"):
             ran = program("assemble", "--all", "--language", "ibm", "--fit", "all", source)
@@ -193,13 +250,22 @@ class Lessons(CourseTest):
 class Script(CourseTest):
     """The script, by each of its ends."""
 
-    usage = "Usage: lesson [N] [--check]"
-
     def test_it_lists_the_lessons(self):
         titles = [(each / "lesson.md").read_text().splitlines()[0].removeprefix("# Lesson ") for each in LESSONS]
-        listed = "".join(f"{title}\n" for title in titles) + "lesson N copies one into a new folder, and ..."
-        self.expect("as a package has it", self.lesson(), 0, listed)
-        self.expect("by the launcher", run([LAUNCHER, "lesson"], cwd=self.desk), 0, listed)
+        listed = "".join(f"{title}\n" for title in titles)
+        for name, called, words, how in self.calls():
+            shown = f"{listed}{called} N copies one into a new folder, and {called} N --check says ..."
+            self.expect(name, run(words, **how), 0, shown)
+
+    def calls(self):
+        """How the script can be called, and the name that it then gives itself."""
+        by_name = {**os.environ, "PATH": f"{self.script.parent}:{os.environ['PATH']}"}
+        place = self.begin("02-last-card")
+        return [("a path", str(self.script), [self.script], {"cwd": self.desk}),
+                ("a name", "ibm1401-lesson", ["ibm1401-lesson"], {"cwd": self.desk, "env": by_name}),
+                ("in the folder of a lesson", "./lesson", ["./lesson"], {"cwd": place}),
+                ("the launcher here", "./ibm1401 lesson", ["./ibm1401", "lesson"], {"cwd": TOP}),
+                ("the launcher elsewhere", f"{LAUNCHER} lesson", [LAUNCHER, "lesson"], {"cwd": self.desk})]
 
     def test_it_copies_a_lesson(self):
         said = ("02-last-card has all that lesson 2 needs. Read lesson.md there, and begin with\n    cd 02-last-card\n"
@@ -219,33 +285,57 @@ class Script(CourseTest):
         (self.desk / "03-edited-amounts").mkdir()
         (self.desk / "04-price-table").symlink_to("nowhere")
         for number, name in ("3", "03-edited-amounts"), ("4", "04-price-table"):
-            self.expect(name, self.lesson(number), 1, "", f"lesson: {name}: already exists\n")
-        inside = self.lesson("5", cwd=self.begin("05-subroutine"))
-        self.expect("within its folder", inside, 1, "", "lesson: this is the folder of lesson 5\n")
+            self.expect(name, self.lesson(number), 1, "", self.is_there(name, f"{self.script} {number}"))
+        inside = run(["./lesson", "5"], cwd=self.begin("05-subroutine"))
+        self.expect("within its folder", inside, 1, "", self.is_there("../05-subroutine", "./lesson 5"))
         shutil.rmtree(self.desk / "05-subroutine")
         there = sorted(each.name for each in self.desk.rglob("*"))
         self.same("what is there", there, ["03-edited-amounts", "04-price-table"])
 
+    def is_there(self, folder, call):
+        """What is said of a folder that is there."""
+        return f"lesson: {folder} is there already; to begin afresh, rename it and say {call} again\n"
+
+    def test_from_the_folder_of_a_lesson(self):
+        """The next one comes next to it; and a folder has another name than its lesson's, if somebody renames it."""
+        place = self.begin("02-last-card")
+        self.expect("the next", run(["./lesson", "3"], cwd=place), 0, "../03-edited-amounts has all that ...")
+        self.expect("its check", run(["./lesson", "3", "--check"], cwd=place), 1, "lesson 3: not yet. The total of ...")
+        renamed = place.rename(self.desk / "old")
+        shutil.copy(COURSE / "answers/02-last-card.source", renamed / "broken.source")
+        self.expect("renamed", run(["./lesson", "2", "--check"], cwd=renamed), 0, "lesson 2: the mistake is mended...")
+        self.expect("afresh", run(["./lesson", "2"], cwd=renamed), 0, "../02-last-card has all that ...")
+        self.expect("that one", run(["./lesson", "2", "--check"], cwd=place), 1, "lesson 2: not yet. The total...")
+        there = sorted(each.name for each in self.desk.iterdir())
+        self.same("what is there", there, ["02-last-card", "03-edited-amounts", "old"])
+
     def test_numbers_that_no_lesson_has(self):
         for number in "0", "10", "03", "x", "", "1*", "../1":
-            said = f"lesson: there is no lesson {number}; lesson lists them\n"
+            said = f"lesson: there is no lesson '{number}'; {self.script} lists them\n"
             self.expect(f"{number!r}", self.lesson(number), 2, "", said)
             self.expect(f"{number!r}, to check", self.lesson(number, "--check"), 2, "", said)
 
     def test_other_words(self):
-        for words in ["1", "--chek"], ["--check", "1"], ["--check"], ["1", "--check", "2"], ["1", ""], ["-x"]:
-            ran = self.lesson(*words)
-            self.expect(" ".join(words), ran, 2, "", "error: ...")
-            self.check(f"{words}: the usage", "" if self.usage in ran.stderr.decode() else ran.stderr)
+        usage = f"Usage: {self.script} [N [--check]]\n\n"
+        order = f"--check follows the number of a lesson: {self.script} N --check"
+        for words, why in [(["1", "--chek"], "unexpected argument '--chek' found"), (["--check", "1"], order),
+                           (["--check"], order), (["1", "--check", "2"], "unexpected argument '2' found"),
+                           (["1", ""], "unexpected argument '' found"), (["-x"], "unexpected argument '-x' found"),
+                           (["-x", "--check"], "unexpected argument '-x' found")]:
+            self.expect(" ".join(words), self.lesson(*words), 2, "", f"error: {why}\n\n{usage}")
         for word in "-h", "--help":
-            ran = self.lesson(word)
-            self.expect(word, ran, 0, "Lists the lessons of the course...")
-            self.check(f"{word}: the usage", "" if self.usage in ran.stdout.decode() else ran.stdout)
+            said = f"Lists the lessons of the course, copies one, and checks it\n\n{usage}Arguments:..."
+            self.expect(word, self.lesson(word), 0, said)
         self.same("nothing is copied", list(self.desk.iterdir()), [])
 
-    def test_a_lesson_that_was_not_begun(self):
-        said = "lesson: 05-subroutine/broken.source: no such file; lesson 5 makes it\n"
-        self.expect("it", self.lesson("5", "--check"), 1, "", said)
+    def test_a_lesson_that_is_not_here(self):
+        said = f"lesson: there is no folder 05-subroutine; go to the folder in which you said {self.script} 5\n"
+        self.expect("not begun", self.lesson("5", "--check"), 1, "", said)
+        (self.begin("05-subroutine") / "broken.source").unlink()
+        missing = "lesson: broken.source is missing; to begin afresh, rename the folder and say"
+        self.expect("no program", self.lesson("5", "--check"), 1, "", f"{missing} {self.script} 5 again\n")
+        ran = run(["./lesson", "5", "--check"], cwd=self.desk / "05-subroutine")
+        self.expect("no program, within", ran, 1, "", f"{missing} ./lesson 5 again\n")
 
     def test_output_that_is_closed_or_full(self):
         place = self.begin("02-last-card")
@@ -282,9 +372,36 @@ class Script(CourseTest):
 
     def test_a_source_that_does_not_assemble(self):
         source = self.begin("02-last-card") / "broken.source"
+        said = "lesson 2: not yet. broken.source can't be assembled:\nbroken.source:10:21: UNDEFINED: DOEN isn't ..."
         source.write_text(source.read_text().replace("BLC  DONE", "BLC  DOEN"))
-        said = f"{source}:10:21: UNDEFINED: DOEN isn't the label of any line; did you mean DONE?\n..."
-        self.expect("it", self.lesson("2", "--check"), 1, "", said)
+        self.expect("a label", self.lesson("2", "--check"), 1, said)
+        source.unlink()
+        source.mkdir()
+        said = "lesson: broken.source is missing; ..."
+        self.expect("a folder", self.lesson("2", "--check"), 1, "", said)
+
+    def test_a_program_that_the_page_refuses(self):
+        """The check takes the options of the page: small letters, or an operation that isn't fitted, aren't mended."""
+        for name, old, new, fault in [("01-three-fields", "SW   31", "sw   31", "10:16: GRAPHIC"),
+                                      ("02-last-card", "A    24,TOTAL", "M    24,TOTAL", "10:16: OPERATION")]:
+            answer = (COURSE / f"answers/{name}.source").read_text()
+            self.same(f"{name}: it changes one place", answer.count(old), 1)
+            ran = self.checked(self.begin(name).name, "refused", answer.replace(old, new))
+            shown = run(["./ibm1401", "run", "broken.source", "--cards", "program.cards"], cwd=self.desk / name)
+            self.expect(f"{name}: the page", shown, 1, "", f"broken.source:{fault}: ...")
+            self.expect(f"{name}: the check", ran, 1, f"lesson {name[1]}: not yet. broken.source can't be assembled:\n"
+                        f"broken.source:{fault}: ...")
+
+    def test_what_is_wanted_and_found(self):
+        """What the check shows of a text, and of a number."""
+        self.begin("02-last-card")
+        shown = ("lesson 2: not yet. The total isn't the sum of all three cards, 7 + 999990 + 100010.\n"
+                 "wanted  @     1100007@\nfound   @      999997@ up to position 30\n")
+        self.expect("a text", self.lesson("2", "--check"), 1, shown)
+        source = (self.begin(TAPED) / "broken.source").read_text()
+        ran = self.checked(TAPED, "a number", source.replace("A    CHSTCK,STOCK", "S    CHSTCK,STOCK"))
+        self.expect("a number", ran, 1, "lesson 9: not yet. Item 2004 doesn't have the stock that its changes give "
+                    "it.\nwanted  20\nfound   -6 up to position 30\n...")
 
     def test_a_program_that_prints_all_and_does_not_halt(self):
         answer = (COURSE / "answers/02-last-card.source").read_text()
@@ -333,6 +450,7 @@ class Teaching(CourseTest):
                 command, shown = part.split("\n", 1)
                 call = command.replace("./ibm1401 lesson", str(self.script)) + " --echo" * (" operate " in command)
                 ran = run(["bash", "-c", call], typed_in(shown).encode(), cwd=folder)
+                shown = shown.replace("./ibm1401 lesson", str(self.script))
                 self.expect(command, ran, int("not yet" in shown), shown)
 
     def test_decks_for_a_page(self):
