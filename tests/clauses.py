@@ -2,9 +2,12 @@
 
     python3 -m tests.clauses [CRATE ..]              each public function of these crates, with its clauses
     python3 -m tests.clauses --since REV [CRATE ..]  those that are gone, new or changed since that commit
+    python3 -m tests.clauses --without [CRATE ..]    the public functions that ensure nothing, a line for each crate
+    python3 -m tests.clauses --renew                 writes these lines, of all crates, to tests/safety_alone.txt
 
-Without a crate it is the eight whose names end in _1401. A change of a lower crate shows here only where one of these
-says so itself: name the lower crate too. Layout and comments don't count."""
+Without a crate it is the eight whose names end in _1401, and with --without all but tests_library, which has tests
+alone. A change of a lower crate shows here only where one of these says so itself: name the lower crate too. Layout and
+comments don't count."""
 import difflib
 import re
 import subprocess
@@ -12,6 +15,7 @@ import sys
 from pathlib import Path
 
 TOP = Path(__file__).resolve().parent.parent
+SAFETY_ALONE = TOP / "tests/safety_alone.txt"
 FUNCTION = re.compile(r"^( *)pub (?:const |unsafe )*fn (\w+)")
 CLAUSE = re.compile(r"^\s*(?:ensures|requires)\b")
 OWNER = re.compile(r"^(?:impl|pub trait)\b(.*?)(?: \{| where|$)")
@@ -63,6 +67,23 @@ def contracts(crates, rev=None):
             for name, said in contracts_in(text).items()}
 
 
+def without_clauses(text):
+    """The public functions of a source that ensure nothing: proved safe, and no more is said of them."""
+    for name, said in contracts_in(text).items():
+        if " ensures" not in said:
+            while name != (plain := re.sub(r"<[^<>]*>", "", name)):
+                name = plain
+            yield name.strip()
+
+
+def safety_alone(crates=None):
+    """Those of each crate that has some, a line each."""
+    crates = crates or sorted(each.parent.name for each in (TOP / "crates").glob("*/src"))
+    found = {crate: [name for text in sources(crate).values() for name in without_clauses(text)]
+             for crate in crates if crate != "tests_library"}
+    return [f"{crate}: {', '.join(names)}" for crate, names in found.items() if names]
+
+
 def differences(before, now):
     """What is gone, new or changed, a line each."""
     lines = [f"gone  {name}" for name in sorted(before.keys() - now.keys())]
@@ -77,12 +98,18 @@ def differences(before, now):
 
 def main(given):
     """Prints what these words ask for."""
+    if given == ["--renew"]:
+        SAFETY_ALONE.write_text("".join(f"{line}\n" for line in safety_alone()))
+        return 0
     rev = given[1] if given[:1] == ["--since"] and len(given) > 1 else None
-    crates = given[2:] if rev else given
+    crates = given[2:] if rev else given[1:] if given[:1] == ["--without"] else given
     unknown = [each for each in crates if not (TOP / f"crates/{each}/src").is_dir()]
     if unknown or (given[:1] == ["--since"] and rev is None):
         print(f"there is no crate {unknown[0]}" if unknown else "usage: --since REV [CRATE ..]", file=sys.stderr)
         return 2
+    if given[:1] == ["--without"]:
+        print("\n".join(safety_alone(crates)))
+        return 0
     now = contracts(crates or doors())
     print("\n".join(differences(contracts(crates or doors(), rev), now) if rev else
                     [f"{name}\n    {said}" for name, said in now.items()]))

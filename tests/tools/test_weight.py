@@ -111,15 +111,23 @@ class Counts(unittest.TestCase):
             "Core::size": "pub fn size(&self) -> u16 ensures { result ≡ length self.now }",
             "Core::plain": "pub const fn plain() -> Core",
             "free": "pub fn free( at: u16, ) -> Option<u16> requires { at < 16 } ensures some { IfSome result IsSmall }",
+            "<'a, D: Into<Vec<u8>>> Desk<'a, D>::note": "pub fn note(&mut self) requires { self.old ≡ [] }",
         })
         weaker = {**found, "free": found["free"].partition(" ensures")[0], "added": "pub fn added()"}
         del weaker["Core::plain"]
         self.assertEqual(clauses.differences(found, weaker), [
             "gone  Core::plain", "new  added", "changed  free", "    - some { IfSome result IsSmall }"])
 
+    def test_what_promises_safety_alone_is_found(self):
+        self.assertEqual(list(clauses.without_clauses(CONTRACTS)), ["Core::plain", "Desk::note"])
+
+    def test_the_list_of_what_promises_safety_alone_is_that_of_the_code(self):
+        """python3 -m tests.clauses --renew writes it again."""
+        self.assertEqual(clauses.SAFETY_ALONE.read_text().splitlines(), clauses.safety_alone())
+
     def test_what_asks_for_contracts(self):
-        refused = ["--since"], ["no_crate"], ["--since", "HEAD", "no_crate"]
-        for words, status in [*((each, 2) for each in refused), (["bcd_1401"], 0)]:
+        refused = ["--since"], ["no_crate"], ["--since", "HEAD", "no_crate"], ["--without", "no_crate"]
+        for words, status in [*((each, 2) for each in refused), (["bcd_1401"], 0), (["--without"], 0)]:
             with self.subTest(words):
                 ran = run([sys.executable, "-m", "tests.clauses", *words], cwd=TOP)
                 self.assertEqual((ran.returncode, ran.stdout == b""), (status, status != 0))
@@ -149,6 +157,14 @@ pub fn free(
     ensures some { IfSome result IsSmall }
 {
     None
+}
+
+impl<'a, D: Into<Vec<u8>>> Desk<'a, D> {
+    // It ensures nothing.
+    pub fn note(&mut self)
+        requires { self.old ≡ [] }
+    {
+    }
 }
 """
 
