@@ -399,6 +399,9 @@ class Script(CourseTest):
                  "wanted  @     1100007@\nfound   @      999997@ up to position 30\n")
         self.expect("a text", self.lesson("2", "--check"), 1, shown)
         source = (self.begin(TAPED) / "broken.source").read_text()
+        shown = (f"lesson 9: not yet. {SYMPTOMS[TAPED]}, or one too many is written.\n"
+                 "wanted  @2015@\nfound   @2000@ up to position 4\n")
+        self.expect("a text of digits", self.lesson("9", "--check"), 1, shown)
         ran = self.checked(TAPED, "a number", source.replace("A    CHSTCK,STOCK", "S    CHSTCK,STOCK"))
         self.expect("a number", ran, 1, "lesson 9: not yet. Item 2004 doesn't have the stock that its changes give "
                     "it.\nwanted  20\nfound   -6 up to position 30\n...")
