@@ -1,5 +1,5 @@
 pub mod FollowLemmas
 mod OriginExamples
-pub mod OriginLemmas
+pub mod ResponseLemmas
 mod RouteExamples
 mod SiteExamples

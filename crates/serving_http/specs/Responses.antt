@@ -37,7 +37,10 @@ IsRefused status response = IsResponse status common_fields [] response
 abbrev pub IsText : List ℕ → Response → Type 0
 IsText text response = IsResponse 200 text_fields text response ⊎ IsResponse 507 text_fields [] response
 
+-- a request is refused, since a console sits at the seat
+abbrev pub IsTaken : Response → Type 0
+IsTaken response = IsResponse 503 text_fields (codes "a console sits at this seat\n") response
+
 -- while a console sits at the seat, each request is told so, and leaves all as it was
 abbrev pub TellsTaken : {S : Type 0} → S → Request (List ℕ) → Response → S → Type 0
-TellsTaken old request response new =
-    IsResponse 503 text_fields (codes "a console sits at this seat\n") response × (new ≡ old)
+TellsTaken old request response new = IsTaken response × (new ≡ old)

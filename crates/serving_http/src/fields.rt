@@ -44,21 +44,14 @@ pub fn is_for(request: &Request<Bytes>, host: &[u8]) -> bool
     has_field(request, "host", host)
 }
 
-/// How many of the seat's commands were carried out before the line, as its sender knows; `None` if it doesn't say.
-fn count_in(request: &Request<Bytes>) -> Option<u32>
-    ensures { result ≡ count_in (head_of request.now) }
-{
-    match request.headers().get("x-1401-line") {
-        Some(count) => number(count.as_bytes()),
-        None => None,
-    }
-}
-
-/// Whether a line goes on from this number of commands.
+/// Whether a line goes on from this number of commands, by how many of the seat's its sender knows of.
 pub fn is_next(request: &Request<Bytes>, made: u64) -> bool
     ensures { result ≡ is_next (count_in (head_of request.now)) made }
 {
-    match count_in(request) {
+    let Some(found) = request.headers().get("x-1401-line") else {
+        return false;
+    };
+    match number(found.as_bytes()) {
         Some(count) => u64::from(count) == made,
         None => false,
     }

@@ -1,10 +1,11 @@
 //! Origins: by which scheme, host and port a browser reaches a page.
-ghost use Rattle.std.specs.Prelude.{◌≡◌, ◌++◌, true, map, IfOk, OnOk};
+ghost use Rattle.std.specs.Prelude.{◌≡◌, [], true, map, IfOk, IsTrue};
 ghost use Rattle.std.specs.Char.{to_ascii_lowercase};
+ghost use Rattle.bytes_text.specs.Written.{Adds};
 ghost use Rattle.serving_http.specs.Origins.{host_at, is_text_of, origin_at, port_text, scheme_text, usual_port};
 ghost use Rattle.serving_http.specs.Origins.{IsFurtherIf};
 
-use machine_notation::put_digits;
+use bytes_text::Text;
 use std::alloc::{AllocError, Global};
 use std::fmt;
 use std::net::{Ipv4Addr, Ipv6Addr};
@@ -96,54 +97,42 @@ impl fmt::Display for Origin {
 }
 
 /// Adds a port, as it comes after a host.
-#[tactic(auto, using(crate::proofs::OriginLemmas::after_text))]
-fn put_port(text: &mut Vec<u8>, port: u16) -> Result<(), AllocError>
-    ensures { OnOk result (text.new.items ≡ text.old.items ++ port_text port) }
+fn put_port(text: &mut Text, port: u16)
+    ensures { Adds text.old text.new (port_text port) }
 {
-    text.push(b':')?;
-    put_digits(text, 1, u64::from(port))
+    text.put_byte(b':');
+    text.put_number(1, u64::from(port));
 }
 
-/// Adds the host of an origin, and its port if it isn't the usual one.
-#[tactic(auto, using(crate::proofs::OriginLemmas::after_text))]
-fn put_host(text: &mut Vec<u8>, origin: &Origin) -> Result<(), AllocError>
-    ensures { OnOk result (text.new.items ≡ text.old.items ++ host_at origin.now) }
+/// Adds the host of an origin, and its port if it isn't the usual one: the `Host` of a request to it.
+pub fn put_host(text: &mut Text, origin: &Origin)
+    ensures { Adds text.old text.new (host_at origin.now) }
 {
-    text.extend_from_slice(origin.host.as_bytes())?;
-    if origin.port == origin.scheme.usual_port() {
-        return Ok(());
+    text.put(origin.host.as_bytes());
+    if origin.port != origin.scheme.usual_port() {
+        put_port(text, origin.port);
     }
-    put_port(text, origin.port)
 }
 
-/// The `Host` of a request to an origin.
-pub fn host_at(alloc: Global, origin: &Origin) -> Result<Vec<u8>, AllocError>
-    ensures { IfOk result (λ text. text.items ≡ host_at origin.now) }
+/// Adds the `Origin` of a request of a page there.
+pub fn put_origin(text: &mut Text, origin: &Origin)
+    ensures { Adds text.old text.new (origin_at origin.now) }
 {
-    let mut text = Vec::new(alloc);
-    put_host(&mut text, origin)?;
-    Ok(text)
+    text.put(origin.scheme.text().as_bytes());
+    put_host(text, origin);
 }
 
-/// The `Origin` of a request of a page there.
-pub fn origin_at(alloc: Global, origin: &Origin) -> Result<Vec<u8>, AllocError>
-    ensures { IfOk result (λ text. text.items ≡ origin_at origin.now) }
+/// Whether a text is that of an origin, as browsers write it, or with its port. It is written into `written`.
+fn is_text_of(written: &mut Text, text: &[u8], origin: &Origin) -> bool
+    requires { written.old.items ≡ [] }
+    ensures { IsTrue written.new.is_whole → result ≡ is_text_of text.now origin.now }
 {
-    let mut text = Vec::from_slice(alloc, origin.scheme.text().as_bytes())?;
-    put_host(&mut text, origin)?;
-    Ok(text)
-}
-
-/// Whether a text is that of an origin, as browsers write it, or with its port.
-fn is_text_of(alloc: Global, text: &[u8], origin: &Origin) -> Result<bool, AllocError>
-    ensures { IfOk result (λ is. is ≡ is_text_of text.now origin.now) }
-{
-    let mut whole = origin_at(alloc, origin)?;
-    if text == whole.as_slice() || origin.port != origin.scheme.usual_port() {
-        return Ok(text == whole.as_slice());
+    put_origin(written, origin);
+    if text == written.as_slice() || origin.port != origin.scheme.usual_port() {
+        return text == written.as_slice();
     }
-    put_port(&mut whole, origin.port)?;
-    Ok(text == whole.as_slice())
+    put_port(written, origin.port);
+    text == written.as_slice()
 }
 
 /// The same origin at a port that is so many places further on; or none, if that is beyond 65535.
@@ -182,18 +171,31 @@ pub fn read_origin(alloc: Global, text: &str) -> Result<Origin, OriginFault>
     let origin = parts_of(alloc, text.as_str())?;
 
     // Only the port can be written in another way: with zeros or a sign before it.
-    if is_text_of(alloc, text.as_bytes(), &origin)? {
+    let mut written = Text::new(alloc);
+    let is_its_text = is_text_of(&mut written, text.as_bytes(), &origin);
+    if !written.is_whole() {
+        Err(OriginFault::Memory)
+    } else if is_its_text && origin.port > 0 {
         Ok(origin)
     } else {
         Err(OriginFault::Port)
     }
 }
 
-/// The scheme, the host and the port of an origin in small letters.
+/// The scheme, the host and the port of an origin in small letters. A port that is none is 0.
 fn parts_of(alloc: Global, text: &str) -> Result<Origin, OriginFault> {
-    let (scheme, rest) = scheme_of(text)?;
+    let (scheme, rest) = if let Some(rest) = text.strip_prefix("https://") {
+        (Scheme::Https, rest)
+    } else if let Some(rest) = text.strip_prefix("http://") {
+        (Scheme::Http, rest)
+    } else {
+        return Err(OriginFault::Scheme);
+    };
     let (host, digits) = host_and_digits(alloc, rest)?;
-    let port = port_of(scheme, digits)?;
+    let port = match digits {
+        Some(digits) => digits.parse::<u16>().unwrap_or(0),
+        None => scheme.usual_port(),
+    };
     let host = String::from_str(alloc, host)?;
     Ok(Origin { scheme, host, port })
 }
@@ -211,17 +213,6 @@ fn host_and_digits(alloc: Global, text: &str) -> Result<(&str, Option<&str>), Or
         bracketed_host(alloc, text)
     } else {
         named_host(text)
-    }
-}
-
-/// The scheme of an origin, and what comes after it.
-fn scheme_of(text: &str) -> Result<(Scheme, &str), OriginFault> {
-    if let Some(rest) = text.strip_prefix("https://") {
-        return Ok((Scheme::Https, rest));
-    }
-    match text.strip_prefix("http://") {
-        Some(rest) => Ok((Scheme::Http, rest)),
-        None => Err(OriginFault::Scheme),
     }
 }
 
@@ -253,17 +244,6 @@ fn bracketed_host(alloc: Global, text: &str) -> Result<(&str, Option<&str>), Ori
         Some(port) => Ok((host, Some(port))),
         None if after.is_empty() => Ok((host, None)),
         None => Err(OriginFault::Host),
-    }
-}
-
-/// A port in digits, or else the usual one of a scheme.
-fn port_of(scheme: Scheme, digits: Option<&str>) -> Result<u16, OriginFault> {
-    let Some(digits) = digits else {
-        return Ok(scheme.usual_port());
-    };
-    match digits.parse::<u16>() {
-        Ok(port) if port > 0 => Ok(port),
-        _ => Err(OriginFault::Port),
     }
 }
 

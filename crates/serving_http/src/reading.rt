@@ -1,7 +1,7 @@
 //! A request of a connection, read until it is whole, and its answer, sent until it is taken.
 ghost use Rattle.std.specs.Prelude.{◌≡◌};
 ghost use Rattle.http.specs.Request.{head_of};
-ghost use Rattle.serving_http.specs.Visiting.{is_accepted, is_own, is_visit, needs_seat};
+ghost use Rattle.serving_http.specs.Visiting.{is_accepted, is_visit};
 
 use crate::fields::has_field;
 use crate::listening::page_config;
@@ -9,6 +9,7 @@ use crate::route::{Route, route_of};
 use crate::sites::{Site, is_from_site};
 use bytes::Bytes;
 use bytes_descriptors::{Patient, linger};
+use bytes_text::Text;
 use http::Request;
 use http_server::{Connection, Response, Service};
 use std::alloc::{AllocError, AllocGlobal};
@@ -31,32 +32,17 @@ pub struct WholeRequest {
     pub is_visit: bool,
 }
 
-/// Whether a request comes from the page of a site: its Origin says so, or its browser.
-fn is_own(request: &Request<Bytes>, site: &Site) -> bool
-    ensures { result ≡ is_own (head_of request.now) site.now }
-{
-    is_from_site(request, site) || has_field(request, "sec-fetch-site", b"same-origin")
-}
-
-/// Whether a route needs the seat.
-fn needs_seat(route: Route) -> bool
-    ensures { result ≡ needs_seat route }
-{
-    match route {
-        Route::Picture => true,
-        Route::Line => true,
-        Route::Lines => true,
-        Route::Page => false,
-        Route::WrongMethod => false,
-        Route::Unknown => false,
-    }
-}
-
 /// Whether a request asks for a picture or brings lines, and comes from the page of this site.
 pub fn is_visit(request: &Request<Bytes>, site: &Site) -> bool
     ensures { result ≡ is_visit (head_of request.now) site.now }
 {
-    needs_seat(route_of(request.method().as_str(), request.uri().path())) && is_own(request, site)
+    match route_of(request.method().as_str(), request.uri().path()) {
+        // Its Origin says that it comes from the page, or its browser.
+        Route::Picture | Route::Line | Route::Lines => {
+            is_from_site(request, site) || has_field(request, "sec-fetch-site", b"same-origin")
+        }
+        Route::Page | Route::WrongMethod | Route::Unknown => false,
+    }
 }
 
 /// Whether an answer has a status from 200 to 299.
@@ -94,14 +80,16 @@ impl Service for Notice<'_> {
 #[derive(Drop)]
 struct Recorder<'a, R: Clock> {
     stream: Patient<'a, R>,
-    bytes: Vec<u8>,
+    bytes: Text,
 }
 
 impl<R: Clock> Read for Recorder<'_, R> {
     fn read(&mut self, buf: &mut [u8]) -> io::Result<usize> {
-        let count = self.stream.read(buf)?;
-        self.bytes.extend_from_slice(&buf[..count])?;
-        Ok(count)
+        let read = self.stream.read(buf);
+        if let Ok(count) = read {
+            self.bytes.put(&buf[..count]);
+        }
+        read
     }
 }
 
@@ -125,34 +113,23 @@ pub fn read_request<R: AllocGlobal + RandomSource + Clock>(
     };
     let mut reader = Recorder {
         stream: Patient::new(rt, stream),
-        bytes: Vec::new(rt.alloc()),
+        bytes: Text::new(rt.alloc()),
     };
-    read_whole(rt, keys, stream, &mut notice, &mut reader)?;
+    let read = take_turns(
+        &mut Connection::new(rt.alloc(), keys, page_config()),
+        &mut notice,
+        &mut reader,
+        &mut Patient::new(rt, stream),
+    );
+    read?;
     if !notice.is_whole {
         linger(rt, stream);
         return Ok(None);
     }
     Ok(Some(WholeRequest {
-        bytes: reader.bytes,
+        bytes: reader.bytes.into_bytes()?,
         is_visit: notice.is_visit,
     }))
-}
-
-/// Reads until the request is whole, or refused and answered.
-fn read_whole<R: AllocGlobal + Clock>(
-    rt: &R,
-    keys: RandomState,
-    stream: &TcpStream,
-    notice: &mut Notice<'_>,
-    reader: &mut Recorder<'_, R>,
-) -> io::Result<()> {
-    let mut connection = Connection::new(rt.alloc(), keys, page_config());
-    take_turns(
-        &mut connection,
-        notice,
-        reader,
-        &mut Patient::new(rt, stream),
-    )
 }
 
 /// Reads and writes in turn, until the request is whole, or refused and answered.
@@ -168,23 +145,17 @@ fn take_turns<R: Clock>(
         if notice.is_whole || connection.is_done() {
             return Ok(());
         }
-        take_turn(connection, reader, writer)?;
+        let done = if !connection.wants_write() {
+            connection.read_from(reader)
+        } else {
+            match connection.write_to(writer) {
+                Ok(0) => Err(ErrorKind::WriteZero.into()),
+                done => done,
+            }
+        };
+        done?;
     }
     Err(ErrorKind::TimedOut.into())
-}
-
-/// Reads or writes what the connection wants next.
-fn take_turn<R: Clock>(
-    connection: &mut Connection,
-    reader: &mut Recorder<'_, R>,
-    writer: &mut Patient<'_, R>,
-) -> io::Result<()> {
-    if !connection.wants_write() {
-        connection.read_from(reader)?;
-    } else if connection.write_to(writer)? == 0 {
-        return Err(ErrorKind::WriteZero.into());
-    }
-    Ok(())
 }
 
 /// Sends the bytes of an answer.

@@ -46,10 +46,10 @@ fn put_common_fields(response: &mut Response) -> Result<(), AllocError>
     ensures status { response.new.status ≡ response.old.status }
     ensures body { response.new.body ≡ response.old.body }
 {
-    put_field(response, "cache-control", "no-store")?;
-    put_field(response, "x-content-type-options", "nosniff")?;
-    put_field(response, "referrer-policy", "no-referrer")?;
-    put_field(response, "connection", "close")
+    put_field(response, "cache-control", "no-store")
+        .and(put_field(response, "x-content-type-options", "nosniff"))
+        .and(put_field(response, "referrer-policy", "no-referrer"))
+        .and(put_field(response, "connection", "close"))
 }
 
 /// Refuses a request by a status.
@@ -57,9 +57,8 @@ pub fn refuse(response: &mut Response, status: StatusCode) -> Result<(), AllocEr
     requires { IsBlank response.old }
     ensures { OnOk result (IsRefused status response.new) }
 {
-    put_common_fields(response)?;
     response.status = status;
-    Ok(())
+    put_common_fields(response)
 }
 
 /// Fills in the page and what its browser may do with it.
@@ -69,11 +68,11 @@ pub fn put_page(response: &mut Response, document: &Document) -> Result<(), Allo
     ensures { OnOk result (IsResponse 200 (page_fields document.now.policy.now)
         (document.now.first.now ++ document.now.rest.now) response.new) }
 {
-    put_field(response, "content-type", "text/html; charset=utf-8")?;
-    put_field(response, "content-security-policy", document.policy)?;
-    put_common_fields(response)?;
-    response.body.push(Bytes::from_static(document.first))?;
-    response.body.push(Bytes::from_static(document.rest))
+    put_field(response, "content-type", "text/html; charset=utf-8")
+        .and(put_field(response, "content-security-policy", document.policy))
+        .and(put_common_fields(response))
+        .and(response.body.push(Bytes::from_static(document.first)))
+        .and(response.body.push(Bytes::from_static(document.rest)))
 }
 
 /// Adds the fields of a text, before it is known.
@@ -81,8 +80,9 @@ pub fn begin_text(response: &mut Response) -> Result<(), AllocError>
     requires { IsBlank response.old }
     ensures { OnOk result (IsResponse 200 text_fields [] response.new) }
 {
-    put_field(response, "content-type", "text/plain; charset=utf-8")?;
-    put_common_fields(response)
+    put_field(response, "content-type", "text/plain; charset=utf-8").and(put_common_fields(
+        response,
+    ))
 }
 
 /// Ends a response without a text.
@@ -102,18 +102,4 @@ pub fn end_with(response: &mut Response, text: &[u8])
         response.body.clear();
         response.status = StatusCode::INSUFFICIENT_STORAGE;
     }
-}
-
-/// Fills in a status, and a text that is always the same.
-pub(crate) fn put_notice(
-    response: &mut Response,
-    status: StatusCode,
-    text: &'static [u8],
-) -> Result<(), AllocError>
-    requires { IsBlank response.old }
-    ensures { OnOk result (IsResponse status text_fields text.now response.new) }
-{
-    begin_text(response)?;
-    response.status = status;
-    response.body.push(Bytes::from_static(text))
 }

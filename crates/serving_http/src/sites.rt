@@ -1,14 +1,13 @@
 //! Where a page is, and which requests are for it and from it.
-ghost use Rattle.std.specs.Prelude.{◌≡◌, ◌++◌, option_copied, IfOk};
+ghost use Rattle.std.specs.Prelude.{◌≡◌, option_copied, IfOk};
 ghost use Rattle.http.specs.Request.{head_of};
-ghost use Rattle.machine_notation.specs.Digits.{digits_in};
 ghost use Rattle.serving_http.specs.Sites.{is_for_site, is_from_site, is_within};
 
 use crate::fields::{has_field, is_for};
-use crate::origins::{Origin, host_at, origin_at};
+use crate::origins::{Origin, put_host, put_origin};
 use bytes::Bytes;
+use bytes_text::Text;
 use http::Request;
-use machine_notation::put_digits;
 use std::alloc::{AllocError, Global};
 use std::marker::Model;
 
@@ -16,8 +15,8 @@ use std::marker::Model;
 #[derive(Drop)]
 struct Outside {
     from: Origin,
-    host: Vec<u8>,
-    origin: Vec<u8>,
+    host: Text,
+    origin: Text,
 }
 
 impl Model for Outside {
@@ -37,8 +36,8 @@ impl Model for Outside {
 #[derive(Drop)]
 pub struct Site {
     port: u16,
-    host: Vec<u8>,
-    origin: Vec<u8>,
+    host: Text,
+    origin: Text,
     outside: Option<Outside>,
 }
 
@@ -54,31 +53,18 @@ impl Model for Site {
     ghost invariant = { λ s. (s.host.items ≡ host_of s.port) × (s.origin.items ≡ origin_of s.port) };
 }
 
-/// A text that ends in a port.
-fn text_to(alloc: Global, front: &[u8], port: u16) -> Result<Vec<u8>, AllocError>
-    ensures { IfOk result (λ text. text.items ≡ front.now ++ digits_in 1 port) }
-{
-    let mut text = Vec::from_slice(alloc, front)?;
-    put_digits(&mut text, 1, u64::from(port))?;
-    Ok(text)
-}
-
 /// An outside origin with its names.
 fn outside_of(alloc: Global, from: Origin) -> Result<Outside, AllocError>
     ensures { IfOk result (λ outside. outside ≡ from) }
 {
-    let host = host_at(alloc, &from)?;
-    let origin = origin_at(alloc, &from)?;
-    Ok(Outside { from, host, origin })
-}
-
-/// The same, if there is one.
-fn outside_if(alloc: Global, outside: Option<Origin>) -> Result<Option<Outside>, AllocError>
-    ensures { IfOk result (λ made. made ≡ outside) }
-{
-    match outside {
-        Some(from) => Ok(Some(outside_of(alloc, from)?)),
-        None => Ok(None),
+    let mut host = Text::new(alloc);
+    put_host(&mut host, &from);
+    let mut origin = Text::new(alloc);
+    put_origin(&mut origin, &from);
+    if host.is_whole() && origin.is_whole() {
+        Ok(Outside { from, host, origin })
+    } else {
+        Err(AllocError)
     }
 }
 
@@ -99,15 +85,26 @@ impl Site {
     pub fn new(alloc: Global, port: u16, outside: Option<Origin>) -> Result<Site, AllocError>
         ensures { IfOk result (λ site. site ≡ record { port = port; outside = outside }) }
     {
-        let host = text_to(alloc, b"127.0.0.1:", port)?;
-        let origin = text_to(alloc, b"http://127.0.0.1:", port)?;
-        let outside = outside_if(alloc, outside)?;
-        Ok(Site {
-            port,
-            host,
-            origin,
-            outside,
-        })
+        let outside = match outside {
+            Some(from) => Some(outside_of(alloc, from)?),
+            None => None,
+        };
+        let mut host = Text::new(alloc);
+        host.put(b"127.0.0.1:");
+        host.put_number(1, u64::from(port));
+        let mut origin = Text::new(alloc);
+        origin.put(b"http://127.0.0.1:");
+        origin.put_number(1, u64::from(port));
+        if host.is_whole() && origin.is_whole() {
+            Ok(Site {
+                port,
+                host,
+                origin,
+                outside,
+            })
+        } else {
+            Err(AllocError)
+        }
     }
 
     /// The port on 127.0.0.1.

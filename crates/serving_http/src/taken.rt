@@ -1,28 +1,22 @@
 //! What a page answers while a console sits at its seat.
+ghost use Rattle.std.specs.Prelude.{OnOk};
+ghost use Rattle.http_server.specs.Response.{IsBlank};
+ghost use Rattle.serving_http.specs.Responses.{IsTaken};
 
-use crate::responses::put_notice;
+use crate::responses::begin_text;
 use bytes::Bytes;
-use http::{Request, StatusCode};
-use http_server::{Response, Service};
+use http::StatusCode;
+use http_server::Response;
 use std::alloc::AllocError;
 
-/// What is told while a console sits at the seat.
-const TAKEN: &[u8] = b"a console sits at this seat\n";
-
-/// The page of a seat at which a console sits: each request is refused by 503.
-#[derive(Drop)]
-pub struct TakenSeat;
-
-impl Service for TakenSeat {
-    ghost use Rattle.serving_http.specs.Responses.{TellsTaken};
-
-    ghost answers = { TellsTaken };
-
-    fn call(
-        &mut self,
-        _request: &Request<Bytes>,
-        response: &mut Response,
-    ) -> Result<(), AllocError> {
-        put_notice(response, StatusCode::SERVICE_UNAVAILABLE, TAKEN)
-    }
+/// Refuses a request by 503, since a console sits at the seat.
+pub fn refuse_taken(response: &mut Response) -> Result<(), AllocError>
+    requires { IsBlank response.old }
+    ensures { OnOk result (IsTaken response.new) }
+{
+    begin_text(response)?;
+    response.status = StatusCode::SERVICE_UNAVAILABLE;
+    response
+        .body
+        .push(Bytes::from_static(b"a console sits at this seat\n"))
 }

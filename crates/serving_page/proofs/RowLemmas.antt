@@ -1,4 +1,4 @@
--- Lines of text added one after another.
+-- Rows of text, one after another.
 use Rattle.std.proofs.Common.{◌≡◌, ℕ, ◌+◌, List, [], ◌∷◌, ◌++◌, ap, sym, ◌∙◌, arith}
 use Rattle.std.specs.List.{flat_map, range_with_len}
 use Rattle.std.proofs.lemmas.List.{flat_map_more, map-id}
@@ -11,11 +11,7 @@ range_more n =
     ∙ ap (λ xs. xs ++ n ∷ []) (map-id (range_with_len 0 n))
 
 -- the texts of the numbers below n, and that of n, are those of the numbers below n + 1
-pub rows_more : (first so_far more : List ℕ) (row : ℕ → List ℕ) (n : ℕ)
-    → so_far ≡ first ++ flat_map row (range_with_len 0 n) → more ≡ so_far ++ row n
-    → more ≡ first ++ flat_map row (range_with_len 0 (n + 1))
-rows_more first so_far more row n was is =
-    is
-    ∙ ap (λ text. text ++ row n) was
-    ∙ flat_map_more row first (range_with_len 0 n) n
-    ∙ ap (λ xs. first ++ flat_map row xs) (sym (range_more n))
+pub row_more : (row : ℕ → List ℕ) (n : ℕ)
+    → flat_map row (range_with_len 0 n) ++ row n ≡ flat_map row (range_with_len 0 (n + 1))
+row_more row n =
+    flat_map_more row [] (range_with_len 0 n) n ∙ ap (λ (xs : List ℕ). flat_map row xs) (sym (range_more n))

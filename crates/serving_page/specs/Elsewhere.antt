@@ -11,13 +11,13 @@ use Rattle.machine_notation.specs.Digits.{digits_in}
 -- the origin outside, if there is one
 abbrev pub outside_part : Option Origin → List ℕ
 outside_part None = []
-outside_part (Some outside) = codes " or " ++ origin_at outside ++ codes "/"
+outside_part (Some outside) = codes " or " ++ (origin_at outside ++ codes "/")
 
 -- where the page is
 abbrev pub address_text : SiteView → List ℕ
 address_text site =
-    codes "this page is at http://127.0.0.1:" ++ digits_in 1 site.port ++ codes "/" ++ outside_part site.outside
-    ++ codes "\n"
+    codes "this page is at http://127.0.0.1:"
+    ++ (digits_in 1 site.port ++ (codes "/" ++ (outside_part site.outside ++ codes "\n")))
 
 -- the request is refused, and hears where the page is
 abbrev pub TellsAddress : SiteView → Response → Type 0

@@ -21,17 +21,17 @@ line_feed = codes "\n"
 
 -- the name of the room
 unfoldable pub room_line : List ℕ → List ℕ
-room_line name = codes "ROOM " ++ name ++ line_feed
+room_line name = codes "ROOM " ++ (name ++ line_feed)
 
--- the number of the seat, how many seats there are, and how many commands this one made
-unfoldable pub seat_line : ℕ → ℕ → ℕ → List ℕ
-seat_line number seats made =
-    codes "SEAT " ++ digits_in 1 number ++ codes " OF " ++ digits_in 1 seats ++ codes " MADE " ++ digits_in 1 made
-    ++ line_feed
-
--- after how many commands of the room the picture is
-unfoldable pub count_line : ℕ → List ℕ
-count_line after = codes "AFTER " ++ digits_in 1 after ++ line_feed
+-- the number of the seat, how many seats there are, and how many commands this one made; and after how many commands of
+-- the room the picture is
+unfoldable pub seat_lines : ℕ → ℕ → ℕ → ℕ → List ℕ
+seat_lines number seats made after =
+    codes "SEAT "
+    ++ (digits_in 1 number
+    ++ (codes " OF "
+    ++ (digits_in 1 seats
+    ++ (codes " MADE " ++ (digits_in 1 made ++ (line_feed ++ (codes "AFTER " ++ (digits_in 1 after ++ line_feed))))))))
 
 -- an answer, as the console replies it
 unfoldable pub answer_line : Answer → List ℕ
@@ -40,16 +40,16 @@ answer_line answer = answer_text answer ++ line_feed
 -- the instruction at the I register, as Autocoder writes it; the word alone if none begins there
 unfoldable pub next_line : Option (List Cell) → List ℕ
 next_line None = codes "NEXT" ++ line_feed
-next_line (Some cells) = codes "NEXT " ++ instruction_text cells ++ line_feed
+next_line (Some cells) = codes "NEXT " ++ (instruction_text cells ++ line_feed)
 
 -- a card after a word, by its characters without the blanks at their end; the word alone if there is no card
 unfoldable pub card_line : List ℕ → Option Card → List ℕ
 card_line word None = word ++ line_feed
-card_line word (Some card) = word ++ codes " " ++ graphics_of (trimmed card.0) ++ line_feed
+card_line word (Some card) = word ++ (codes " " ++ (graphics_of (trimmed card.0) ++ line_feed))
 
 -- the first place that is shown, and the size of core
 unfoldable pub core_line : ℕ → ℕ → List ℕ
-core_line core size = codes "CORE " ++ digits_in 5 core ++ codes " OF " ++ digits_in 5 size ++ line_feed
+core_line core size = codes "CORE " ++ (digits_in 5 core ++ (codes " OF " ++ (digits_in 5 size ++ line_feed)))
 
 -- how many lines of cells a window has
 abbrev pub rows : ℕ
@@ -65,24 +65,25 @@ rows_text cells = flat_map (row_text cells) (range_with_len 0 rows)
 
 -- the index of the first printed line that is asked for
 unfoldable pub paper_line : ℕ → List ℕ
-paper_line paper = codes "PAPER " ++ digits_in 1 paper ++ line_feed
+paper_line paper = codes "PAPER " ++ (digits_in 1 paper ++ line_feed)
 
 -- printed lines, each as LINE shows it
 unfoldable pub lines_text : List PrintLine → List ℕ
 lines_text lines = flat_map (λ line. answer_line (answer.Line line)) lines
 
--- the seat; after how many commands; the registers; the next instruction; the card in the read area, the next of the
--- hopper, the last of the stacker; the window of core, and its cells; the window of the paper, and its lines
+-- the seat, and after how many commands; the registers; the next instruction; the card in the read area, the next of
+-- the hopper, the last of the stacker
+unfoldable pub state_text : ℕ → ℕ → ℕ → Picture → List ℕ
+state_text number seats made picture =
+    seat_lines number seats made picture.after
+    ++ (answer_line (answer.Regs picture.regs)
+    ++ (next_line picture.next
+    ++ (card_line (codes "READ") (Some picture.read)
+    ++ (card_line (codes "HOPPER") picture.hopper ++ card_line (codes "PUNCHED") picture.punched))))
+
+-- these; the window of core, and its cells; the window of the paper, and its lines
 unfoldable pub picture_text : ℕ → ℕ → ℕ → Picture → List ℕ
 picture_text number seats made picture =
-    seat_line number seats made
-    ++ count_line picture.after
-    ++ answer_line (answer.Regs picture.regs)
-    ++ next_line picture.next
-    ++ card_line (codes "READ") (Some picture.read)
-    ++ card_line (codes "HOPPER") picture.hopper
-    ++ card_line (codes "PUNCHED") picture.punched
-    ++ core_line picture.core picture.size
-    ++ rows_text picture.cells
-    ++ paper_line picture.paper
-    ++ lines_text picture.lines
+    state_text number seats made picture
+    ++ (core_line picture.core picture.size
+    ++ (rows_text picture.cells ++ (paper_line picture.paper ++ lines_text picture.lines)))

@@ -1,8 +1,8 @@
 //! Which picture a query asks for.
 ghost use Rattle.std.specs.Prelude.{◌≡◌, option_copied};
-ghost use Rattle.serving_page.specs.Asked.{asked_after, asked_at, asked_by, asked_in, fields_of, number_beyond};
+ghost use Rattle.serving_page.specs.Asked.{asked_by, asked_in, fields_of, number_beyond};
 ghost use Rattle.serving_page.specs.Asked.{room_in};
-ghost use Rattle.serving_page.specs.Asked.{text_beyond, window_by, window_of};
+ghost use Rattle.serving_page.specs.Asked.{text_beyond, window_by};
 
 use crate::pieces::cut_piece;
 use core_1401::ADDRESSES;
@@ -31,12 +31,12 @@ fn number_beyond(name: &[u8], field: &[u8]) -> Option<u32>
     if front == name { number(value) } else { None }
 }
 
-/// The window at an address of core and a line of the paper.
-fn window_of(core: Option<u32>, paper: Option<u32>) -> Option<Window>
-    ensures { result ≡ window_of core paper }
+/// The window that the first two fields of a query say.
+fn window_by(core: &[u8], paper: &[u8]) -> Option<Window>
+    ensures { result ≡ window_by core.now paper.now }
 {
-    let core = core?;
-    let paper = paper?;
+    let core = number_beyond(b"core=", core)?;
+    let paper = number_beyond(b"paper=", paper)?;
     if core < u32::from(ADDRESSES) && paper <= MOST_HELD as u32 {
         Some(Window {
             core: core as u16,
@@ -45,36 +45,6 @@ fn window_of(core: Option<u32>, paper: Option<u32>) -> Option<Window>
     } else {
         None
     }
-}
-
-/// The window that the first two fields of a query say.
-fn window_by(core: &[u8], paper: &[u8]) -> Option<Window>
-    ensures { result ≡ window_by core.now paper.now }
-{
-    window_of(
-        number_beyond(b"core=", core),
-        number_beyond(b"paper=", paper),
-    )
-}
-
-/// A picture of the window, whatever the page has.
-fn asked_at(window: Option<Window>) -> Option<Asked>
-    ensures { result ≡ asked_at window }
-{
-    Some(Asked {
-        window: window?,
-        after: None,
-    })
-}
-
-/// A picture of the window, if it is after another number of commands than the one that the page has.
-fn asked_after(window: Option<Window>, after: Option<u32>) -> Option<Asked>
-    ensures { result ≡ asked_after window after }
-{
-    Some(Asked {
-        window: window?,
-        after: Some(after?),
-    })
 }
 
 /// The picture that a query asks for: `core=` and an address, `paper=` and the index of a printed line, then perhaps
@@ -87,10 +57,16 @@ pub fn asked_by(query: &[u8]) -> Option<Asked>
     let (paper, rest) = cut_piece(b'&', rest?);
     let window = window_by(core, paper);
     let Some(rest) = rest else {
-        return asked_at(window);
+        return Some(Asked {
+            window: window?,
+            after: None,
+        });
     };
     match cut_piece(b'&', rest) {
-        (after, None) => asked_after(window, number_beyond(b"after=", after)),
+        (after, None) => Some(Asked {
+            window: window?,
+            after: Some(number_beyond(b"after=", after)?),
+        }),
         (_, Some(_)) => None,
     }
 }

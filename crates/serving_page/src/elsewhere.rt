@@ -1,42 +1,25 @@
 //! What a request is answered that is for another host than the page's.
-ghost use Rattle.std.specs.Prelude.{◌≡◌, ◌++◌, option_copied, IfOk, OnOk};
+ghost use Rattle.std.specs.Prelude.{option_copied, OnOk};
+ghost use Rattle.bytes_text.specs.Written.{Adds};
 ghost use Rattle.http_server.specs.Response.{IsBlank};
-ghost use Rattle.serving_page.specs.Elsewhere.{address_text, outside_part, TellsAddress};
+ghost use Rattle.serving_page.specs.Elsewhere.{outside_part, TellsAddress};
 
 use bytes::BufMut;
+use bytes_text::{Piece, Text};
 use http::StatusCode;
 use http_server::Response;
-use machine_notation::put_digits;
-use serving_http::{Origin, Site, begin_text, origin_at};
+use serving_http::{Origin, Site, begin_text, put_origin};
 use std::alloc::{AllocError, Global};
 
 /// Adds the origin outside, if there is one.
-fn put_outside(
-    alloc: Global,
-    text: &mut Vec<u8>,
-    outside: Option<&Origin>,
-) -> Result<(), AllocError>
-    ensures { OnOk result (text.new.items ≡ text.old.items ++ outside_part (option_copied outside.entry)) }
+fn put_outside(text: &mut Text, outside: Option<&Origin>)
+    ensures { Adds text.old text.new (outside_part (option_copied outside.entry)) }
 {
-    let Some(outside) = outside else {
-        return Ok(());
-    };
-    let origin = origin_at(alloc, outside)?;
-    text.extend_from_slice(b" or ")?;
-    text.extend_from_slice(origin.as_slice())?;
-    text.extend_from_slice(b"/")
-}
-
-/// Where the page of a site is, in words.
-fn address_text(alloc: Global, site: &Site) -> Result<Vec<u8>, AllocError>
-    ensures { IfOk result (λ text. text.items ≡ address_text site.now) }
-{
-    let mut text = Vec::from_slice(alloc, b"this page is at http://127.0.0.1:")?;
-    put_digits(&mut text, 1, u64::from(site.port()))?;
-    text.extend_from_slice(b"/")?;
-    put_outside(alloc, &mut text, site.outside())?;
-    text.extend_from_slice(b"\n")?;
-    Ok(text)
+    if let Some(outside) = outside {
+        text.put(b" or ");
+        put_origin(text, outside);
+        text.put_byte(b'/');
+    }
 }
 
 /// Refuses a request that is for another host, as `localhost` is, and says where the page is.
@@ -48,7 +31,15 @@ pub fn tell_address(alloc: Global, site: &Site, response: &mut Response) -> Resu
     requires { IsBlank response.old }
     ensures { OnOk result (TellsAddress site.now response.new) }
 {
-    let text = address_text(alloc, site)?;
+    let mut text = Text::new(alloc);
+    text.put_pieces(&[
+        Piece::Text(b"this page is at http://127.0.0.1:"),
+        Piece::Number(1, site.port()),
+        Piece::Byte(b'/'),
+    ]);
+    put_outside(&mut text, site.outside());
+    text.put_byte(b'\n');
+    let text = text.into_bytes()?;
     begin_text(response)?;
     response.status = StatusCode::FORBIDDEN;
     response.body.put_slice(text.as_slice())

@@ -33,11 +33,10 @@ pub use asked::{Asked, asked_by};
 pub use elsewhere::tell_address;
 pub use gate::Gate;
 pub use listening::answer_page;
-pub use picture_lines::picture_text;
+pub use picture_lines::put_picture;
 pub use seat_page::{RoomShown, SeatPage};
 pub use serving_http::{
-    Document, Origin, Requests, RoomName, Route, Site, TakenSeat, WholeRequest, answer,
-    answer_bytes, answer_each, has_begun, is_accepted, linger, page_config, read_request, route_of,
-    send_answer,
+    Document, Origin, Requests, RoomName, Route, Site, WholeRequest, answer, answer_bytes,
+    answer_each, has_begun, is_accepted, linger, page_config, read_request, route_of, send_answer,
 };
 pub use taken_page::TakenPage;

@@ -1,5 +1,6 @@
 //! A picture of the machine, as a request asks for one.
 ghost use Rattle.std.specs.Prelude.{◌≡◌, ◌++◌, [], IfOk, OnOk, OnErr, option_copied};
+ghost use Rattle.bytes_text.specs.Written.{Adds};
 ghost use Rattle.http_server.specs.Response.{IsBlank, IsResponse};
 ghost use Rattle.serving_http.specs.Responses.{text_fields};
 ghost use Rattle.serving_page.specs.Asked.{ampersand};
@@ -9,7 +10,8 @@ ghost use Rattle.serving_page.specs.Showing.{IsSightTold, Sees, ShowsAsked, Show
 ghost use Rattle.serving_page.specs.Showing.{has_seen, heading};
 
 use crate::asked::{Asked, asked_in};
-use crate::picture_lines::{picture_text, put_room};
+use crate::picture_lines::put_picture;
+use bytes_text::{Piece, Text};
 use http::StatusCode;
 use http_server::Response;
 use room_1401::{GlanceFault, Picture, RoomId, Seat};
@@ -61,12 +63,15 @@ fn asked_here(room: Option<&[u8]>, name: &[u8], asked: Asked) -> Asked
 }
 
 /// Adds the name of the room, if the page has named one.
-fn put_heading(text: &mut Vec<u8>, room: Option<&[u8]>, name: &[u8]) -> Result<(), AllocError>
-    ensures { OnOk result (text.new.items ≡ text.old.items ++ heading (option_copied room.entry) name.now) }
+#[tactic(auto, unfolding(crate::specs::PictureLines::room_line))]
+fn put_heading(text: &mut Text, room: Option<&[u8]>, name: &[u8])
+    ensures { Adds text.old text.new (heading (option_copied room.entry) name.now) }
 {
     match room {
-        Some(_) => put_room(text, name),
-        None => Ok(()),
+        Some(_) => {
+            text.put_pieces(&[Piece::Text(b"ROOM "), Piece::Text(name), Piece::Byte(b'\n')]);
+        }
+        None => {}
     }
 }
 
@@ -83,11 +88,10 @@ fn text_of(
     ensures { IfOk result (λ text.
         text.items ≡ heading (option_copied room.entry) name.now ++ picture_text number seats made picture.now) }
 {
-    let shown = picture_text(alloc, number, seats, made, picture)?;
-    let mut text = Vec::new(alloc);
-    put_heading(&mut text, room, name)?;
-    text.extend_from_slice(shown.as_slice())?;
-    Ok(text)
+    let mut text = Text::new(alloc);
+    put_heading(&mut text, room, name);
+    put_picture(alloc, &mut text, number, seats, made, picture);
+    text.into_bytes()
 }
 
 /// Takes a picture at a seat, with the name of the room, if the page has named one.

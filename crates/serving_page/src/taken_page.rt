@@ -1,16 +1,14 @@
 //! The page of a seat at which a console sits.
-ghost use Rattle.std.specs.Prelude.{◌≡◌, ◌++◌, IsTrue, OnOk, codes};
+ghost use Rattle.std.specs.Prelude.{◌≡◌, ◌++◌, IsTrue};
 ghost use Rattle.http.specs.Request.{head_of};
 ghost use Rattle.http_header.specs.FieldValue.{is_visible_text};
-ghost use Rattle.http_server.specs.Response.{IsBlank, IsResponse};
-ghost use Rattle.serving_http.specs.Responses.{text_fields};
 ghost use Rattle.serving_page.specs.TakenPage.{asks_for_page, is_page};
 
 use bytes::Bytes;
 use http::Request;
 use http_server::{Response, Service};
 use serving_http::{
-    Document, Route, Site, TakenSeat, is_ambiguous, is_for_site, put_page, route_of,
+    Document, Route, Site, is_ambiguous, is_for_site, put_page, refuse_taken, route_of,
 };
 use std::alloc::AllocError;
 use std::marker::Model;
@@ -80,16 +78,6 @@ fn asks_for_page(request: &Request<Bytes>, site: &Site) -> bool
         && is_page(route_of(request.method().as_str(), request.uri().path()))
 }
 
-/// Refuses a request, since a console sits at the seat.
-fn refuse_taken(request: &Request<Bytes>, response: &mut Response) -> Result<(), AllocError>
-    requires { IsBlank response.old }
-    ensures { OnOk result (IsResponse 503 text_fields (codes "a console sits at this seat\n") response.new) }
-{
-    let mut taken = TakenSeat;
-    taken.call(request, response)?;
-    Ok(())
-}
-
 impl Service for TakenPage<'_> {
     ghost use Rattle.serving_page.specs.TakenPage.{AnswersTaken};
 
@@ -103,6 +91,6 @@ impl Service for TakenPage<'_> {
         if asks_for_page(request, self.site) {
             return put_page(response, &self.document);
         }
-        refuse_taken(request, response)
+        refuse_taken(response)
     }
 }
