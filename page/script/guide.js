@@ -22,6 +22,11 @@ const PATIENT_STEPS = ['feed', 'wait', 'lessonFeed', 'lessonLook', 'lessonNoSwit
 /* The steps at which a visitor sends lines, and needs the console in sight. */
 const CONSOLE_STEPS = ['lessonSend', 'lessonMend', 'lessonAgain'];
 
+/* Gives a key the focus, and scrolls no further than it takes to see it. */
+function focusNear(key) {
+  key.focus({preventScroll: true});
+  key.scrollIntoView({block: 'nearest'});
+}
 const isHello = text => text !== null && text.startsWith(HELLO.slice(0, NAME_COLUMN));
 /* Whether the line of a card is on the paper. The lines that were there before the card was punched don't count. */
 function isPrinted(card, from) {
@@ -145,7 +150,7 @@ const guide = {
     if (before) before.classList.remove('lit');
     if (!lit) return;
     byId(lit).classList.add('lit');
-    if (before && before === document.activeElement) setTimeout(() => byId(focus || lit).focus());
+    if (before && before === document.activeElement) setTimeout(() => focusNear(byId(focus || lit)));
   },
   words(name) {
     if (name === null) return TEXTS.guide[this.state === 'on' ? 'off' : this.preparedWords()];

@@ -1503,11 +1503,11 @@ fed:'Dr\xfccken Sie LOAD, dann RUN. Stanzen Sie dann eine Karte mit einem Namen,
 calculation:{name:'Rechnung',about:'Eine Tafel der Zweierpotenzen, jede zu sich selbst addiert.',
 fed:'Dr\xfccken Sie LOAD, dann RUN. Bei 100 Schritten je Sekunde sehen Sie zu.'},
 payroll:{name:'Lohnliste',about:'Liest f\xfcr jeden Arbeiter eine Karte mit Stunden und Stundenlohn in Cent, '
-+ 'multipliziert durch Addieren, bereitet die Betr\xe4ge auf und druckt die Summe.',"##;
++ 'multipliziert durch Addieren, bereitet die Betr\xe4ge auf und druckt die Summe.',
+fed:'Dr\xfccken Sie LOAD, dann RUN.'},"##;
 
 /// The rest of the page.
 pub const REST: &[u8] = br##"
-fed:'Dr\xfccken Sie LOAD, dann RUN.'},
 game:{name:'Gr\xf6\xdfer oder kleiner',about:'Die letzte Karte des Stapels hat eine geheime Zahl von 01 bis 99. '
 + 'Stanzen '
 + 'Sie Ihren Tipp, zwei Ziffern, dann RELEASE und RUN: die Maschine druckt, ob die Zahl gr\xf6\xdfer oder kleiner ist.',
@@ -3483,6 +3483,10 @@ other:{key:'afresh-key',shown:-1},paper:{key:'tear-key',shown:-1},wait:{key:'tur
 };
 const PATIENT_STEPS=['feed','wait','lessonFeed','lessonLook','lessonNoSwitch','lessonOther','lessonMend'];
 const CONSOLE_STEPS=['lessonSend','lessonMend','lessonAgain'];
+function focusNear(key){
+key.focus({preventScroll:true});
+key.scrollIntoView({block:'nearest'});
+}
 const isHello=text=>text !==null&&text.startsWith(HELLO.slice(0,NAME_COLUMN));
 function isPrinted(card,from){
 return[...torn,...view.paper].slice(from).some(line=>line.text===card.slice(NAME_COLUMN));
@@ -3592,7 +3596,7 @@ this.lit=lit;
 if(before)before.classList.remove('lit');
 if(!lit)return;
 byId(lit).classList.add('lit');
-if(before&&before===document.activeElement)setTimeout(()=>byId(focus||lit).focus());
+if(before&&before===document.activeElement)setTimeout(()=>focusNear(byId(focus||lit)));
 },
 words(name){
 if(name===null)return TEXTS.guide[this.state==='on'?'off':this.preparedWords()];
@@ -4562,7 +4566,7 @@ begin();
 /// The `content-security-policy` of the page: its own script and style by their SHA-256, exchanges with its own server,
 /// and nothing else.
 pub const POLICY: &str = "default-src 'none'; \
-    script-src 'sha256-OP66dByHILjnMqUoJAP6LsJ7YMQl5uomJxlH1xfh4jc='; \
+    script-src 'sha256-pnmzfsOuQtmxT00BTHrjZD1BKmoGAR91TtuyjSL/zrM='; \
     style-src 'sha256-TiXmg+JbKG1wJQFzDzdflEIfNcuy/enN2RSBKSge8RQ='; \
     img-src data:; \
     connect-src 'self'; \
