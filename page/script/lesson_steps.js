@@ -35,8 +35,10 @@ function lessonWords(stop) {
   const chosen = lessonChosen(), words = TEXTS.lessonSaid;
   if (!chosen || !lesson.hasFed || guide.state !== 'on') return '';
   if (isWithoutSwitch(stop)) return words.noSwitch;
-  if (stop.name !== 'HALT') return '';
-  const name = lesson.hasEnded ? 'again' : lesson.isMended ? 'mended' : 'halt';
+  const isLoaded = stop.name === 'LIMIT' && stop.next === LESSON_BEGINS && lesson.hasRun && !lesson.isMended;
+  if (stop.name !== 'HALT' && !isLoaded) return '';
+  const ended = lesson.hasEnded ? ['again', 'againMended'] : ['halt', 'mended'];
+  const name = isLoaded ? 'loaded' : ended[Number(lesson.isMended)];
   return filled(words[name], {n: chosen.number});
 }
 /* The cards of a lesson are all in the hopper, and a program that is in core storage would read them as data. */

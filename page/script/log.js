@@ -13,15 +13,15 @@ function stopOf(reply) {
 const EXPLAINED = ['NOMARK', 'OPCODE', 'NOTFITTED', 'LENGTH', 'DCHAR', 'ADDRESS', 'OVERLAP'];
 function markWords({name, next: at}) {
   const {from, cells} = view.picture, {before, isLost} = markBefore(at);
-  const isLong = place => instructionLength(cells, place - from) === 8 && !cells[place - from + 8]?.mark;
+  const isLong = place => instructionLength(cells, place - from) === 8 && cells[place - from + 8]?.mark === false;
   if (!EXPLAINED.includes(name) || !cells[at - from]) return '';
   if (name !== 'NOMARK') return isLong(at) ? filled(TEXTS.tooLong, {at: pad(at, 3)}) : '';
   const values = {at: pad(at, 3), before: pad(before, 3)};
   const why = isLost ? TEXTS.lostMark : before === at - 8 && isLong(before) ? TEXTS.longBefore : '';
   return why && filled(`${TEXTS.noMarkAt} ${why}`, values);
 }
-/* The place before this one at which an instruction should begin: one of the lesson's that has lost its mark, or else
-   the last one that has a mark. */
+/* The place before this one at which an instruction should begin: the last of the lesson's that has lost its
+   mark, or else the last with a mark. */
 function markBefore(at) {
   const {from, cells} = view.picture, lesson = lessonChosen();
   const has = place => cells[place - from] && cells[place - from].mark;

@@ -242,6 +242,8 @@ LANGUAGES.en = {
     halt: 'The program has ended. Lesson {n} goes on with step 2, below core storage.',
     mended: 'The program has ended. Step 5 of lesson {n} says what is on the paper if it is mended.',
     again: 'The program had already ended; nothing new was printed. Press "Start afresh", and go back to step 3.',
+    againMended: 'The program had already ended; nothing new was printed.',
+    loaded: 'The program is loaded, and has not begun. Lesson {n} goes on with step 4, below core storage.',
     noSwitch: 'No cards are left and sense switch A is off, so the program didn\'t notice the last card. Press "Start '
       + 'afresh", and begin again with A on.',
     loadFirst: 'The cards of this lesson are in the hopper: press LOAD first. RUN would read them as data.',

@@ -253,6 +253,9 @@ LANGUAGES.de = {
     mended: 'Das Programm ist zu Ende. Schritt 5 von Lektion {n} sagt, was auf dem Papier steht, wenn es richtig ist.',
     again: 'Das Programm war schon zu Ende; nichts Neues wurde gedruckt. Drücken Sie "Von vorn", und zurück zu '
       + 'Schritt 3.',
+    againMended: 'Das Programm war schon zu Ende; nichts Neues wurde gedruckt.',
+    loaded: 'Das Programm ist geladen und hat noch nicht begonnen. Lektion {n} geht mit Schritt 4 weiter, unter dem '
+      + 'Kernspeicher.',
     noSwitch: 'Es sind keine Karten mehr da, und Schalter A ist aus, darum bemerkte das Programm die letzte Karte '
       + 'nicht. Drücken Sie "Von vorn", und beginnen Sie noch einmal, mit A an.',
     loadFirst: 'Die Karten dieser Lektion sind im Magazin: drücken Sie erst LOAD. RUN läse sie als Daten.',

@@ -366,6 +366,7 @@ class Lessons(Browser):
         self.at("lessonSend", "send-key", press=False)
         self.send("RUN 203")
         self.at("lessonMend", "send-key", press=False)
+        self.shows("step 4 is named", "byId('said-words').textContent === filled(TEXTS.lessonSaid.loaded, {n: 1})")
         self.send("DEPOSIT 0031 ~1")
         self.shows("the console is in sight", "getComputedStyle(document.querySelector('.below')).position", "sticky")
         self.at("lessonAgain", "run-key")
@@ -415,7 +416,7 @@ class Lessons(Browser):
             self.page.value("startAfresh()")
 
     def test_run_after_the_end(self):
-        """Who presses RUN before the program is mended is sent back to step 3, and the console says what it filled."""
+        """RUN before the program is mended leads back to step 3, and the console says what a DEPOSIT has filled."""
         self.choose(1)
         self.page.value("say('SWITCH A ON').then(() => rested()).then(pressLoad)")
         self.runs("the lesson goes on", "filled(TEXTS.lessonSaid.halt, {n: 1})", True)

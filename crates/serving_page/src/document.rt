@@ -996,6 +996,8 @@ lessonSaid:{
 halt:'The program has ended. Lesson {n} goes on with step 2, below core storage.',
 mended:'The program has ended. Step 5 of lesson {n} says what is on the paper if it is mended.',
 again:'The program had already ended; nothing new was printed. Press "Start afresh", and go back to step 3.',
+againMended:'The program had already ended; nothing new was printed.',
+loaded:'The program is loaded, and has not begun. Lesson {n} goes on with step 4, below core storage.',
 noSwitch:'No cards are left and sense switch A is off, so the program didn\'t notice the last card. Press "Start '
 + 'afresh", and begin again with A on.',
 loadFirst:'The cards of this lesson are in the hopper: press LOAD first. RUN would read them as data.',
@@ -1390,6 +1392,9 @@ halt:'Das Programm ist zu Ende. Lektion {n} geht mit Schritt 2 weiter, unter dem
 mended:'Das Programm ist zu Ende. Schritt 5 von Lektion {n} sagt, was auf dem Papier steht, wenn es richtig ist.',
 again:'Das Programm war schon zu Ende; nichts Neues wurde gedruckt. Dr\xfccken Sie "Von vorn", und zur\xfcck zu '
 + 'Schritt 3.',
+againMended:'Das Programm war schon zu Ende; nichts Neues wurde gedruckt.',
+loaded:'Das Programm ist geladen und hat noch nicht begonnen. Lektion {n} geht mit Schritt 4 weiter, unter dem '
++ 'Kernspeicher.',
 noSwitch:'Es sind keine Karten mehr da, und Schalter A ist aus, darum bemerkte das Programm die letzte Karte '
 + 'nicht. Dr\xfccken Sie "Von vorn", und beginnen Sie noch einmal, mit A an.',
 loadFirst:'Die Karten dieser Lektion sind im Magazin: dr\xfccken Sie erst LOAD. RUN l\xe4se sie als Daten.',
@@ -1502,12 +1507,12 @@ banner:{name:'Banner',about:'Liest Karten und druckt die Buchstaben der Spalten 
 fed:'Dr\xfccken Sie LOAD, dann RUN. Stanzen Sie dann eine Karte mit einem Namen, und RUN.'},
 calculation:{name:'Rechnung',about:'Eine Tafel der Zweierpotenzen, jede zu sich selbst addiert.',
 fed:'Dr\xfccken Sie LOAD, dann RUN. Bei 100 Schritten je Sekunde sehen Sie zu.'},
-payroll:{name:'Lohnliste',about:'Liest f\xfcr jeden Arbeiter eine Karte mit Stunden und Stundenlohn in Cent, '
-+ 'multipliziert durch Addieren, bereitet die Betr\xe4ge auf und druckt die Summe.',
-fed:'Dr\xfccken Sie LOAD, dann RUN.'},"##;
+payroll:{name:'Lohnliste',about:'Liest f\xfcr jeden Arbeiter eine Karte mit Stunden und Stundenlohn in Cent, '"##;
 
 /// The rest of the page.
 pub const REST: &[u8] = br##"
++ 'multipliziert durch Addieren, bereitet die Betr\xe4ge auf und druckt die Summe.',
+fed:'Dr\xfccken Sie LOAD, dann RUN.'},
 game:{name:'Gr\xf6\xdfer oder kleiner',about:'Die letzte Karte des Stapels hat eine geheime Zahl von 01 bis 99. '
 + 'Stanzen '
 + 'Sie Ihren Tipp, zwei Ziffern, dann RELEASE und RUN: die Maschine druckt, ob die Zahl gr\xf6\xdfer oder kleiner ist.',
@@ -2117,7 +2122,7 @@ return parts&&{name:parts[1],steps:Number(parts[2]),next:Number(parts[3])};
 const EXPLAINED=['NOMARK','OPCODE','NOTFITTED','LENGTH','DCHAR','ADDRESS','OVERLAP'];
 function markWords({name,next:at}){
 const{from,cells}=view.picture,{before,isLost}=markBefore(at);
-const isLong=place=>instructionLength(cells,place - from)===8&&!cells[place - from + 8]?.mark;
+const isLong=place=>instructionLength(cells,place - from)===8&&cells[place - from + 8]?.mark===false;
 if(!EXPLAINED.includes(name)||!cells[at - from])return '';
 if(name !=='NOMARK')return isLong(at)?filled(TEXTS.tooLong,{at:pad(at,3)}):'';
 const values={at:pad(at,3),before:pad(before,3)};
@@ -3434,8 +3439,10 @@ function lessonWords(stop){
 const chosen=lessonChosen(),words=TEXTS.lessonSaid;
 if(!chosen||!lesson.hasFed||guide.state !=='on')return '';
 if(isWithoutSwitch(stop))return words.noSwitch;
-if(stop.name !=='HALT')return '';
-const name=lesson.hasEnded?'again':lesson.isMended?'mended':'halt';
+const isLoaded=stop.name==='LIMIT'&&stop.next===LESSON_BEGINS&&lesson.hasRun&&!lesson.isMended;
+if(stop.name !=='HALT'&&!isLoaded)return '';
+const ended=lesson.hasEnded?['again','againMended']:['halt','mended'];
+const name=isLoaded?'loaded':ended[Number(lesson.isMended)];
 return filled(words[name],{n:chosen.number});
 }
 function warnsOfLesson(){
@@ -4566,7 +4573,7 @@ begin();
 /// The `content-security-policy` of the page: its own script and style by their SHA-256, exchanges with its own server,
 /// and nothing else.
 pub const POLICY: &str = "default-src 'none'; \
-    script-src 'sha256-pnmzfsOuQtmxT00BTHrjZD1BKmoGAR91TtuyjSL/zrM='; \
+    script-src 'sha256-guJhLAF4CApEnKRRkUhPWmLrr2m6bZIOTtrRkAmyizo='; \
     style-src 'sha256-TiXmg+JbKG1wJQFzDzdflEIfNcuy/enN2RSBKSge8RQ='; \
     img-src data:; \
     connect-src 'self'; \
