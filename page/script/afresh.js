@@ -47,15 +47,16 @@ async function startAfresh(clear = clearMachine) {
   torn.length = taken.length = 0;
   drawTaken();
   forgetWords();
-  followsPaper = true;
+  followsPaper = byId('follow').checked = true;
   view.ended = null;
   byId('name').value = byId('keyed').value = '';
   drawKeyed();
   tell(words);
   note('words', words);
 }
-/* What the page has said of cards is over. */
+/* What the page has said of cards is over, and no card is in the read station. */
 function forgetWords() {
+  byId('moving-card').classList.add('none');
   fedAt = null;
   tellDeck('');
   tellTaken('');

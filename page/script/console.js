@@ -23,7 +23,9 @@ async function sendLine(event) {
   const stop = stopOf(outcome.reply);
   if (stop) tellOutcome(outcome, counted(TEXTS.said.limit, stop.steps));
   if (stop) noteStop(stop);
-  if (outcome.reply === 'OK' && /^ *DEPOSIT /.test(line)) happened('deposit');
+  if (outcome.reply !== 'OK' || !/^ *DEPOSIT /.test(line)) return;
+  noteDeposit(line);
+  happened('deposit');
 }
 function recallLine(event) {
   const by = {ArrowUp: -1, ArrowDown: 1}[event.key];

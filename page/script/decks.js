@@ -131,4 +131,5 @@ function drawProgram() {
   setText(byId('source-title'), filled(TEXTS.sourceTitle, {name: words.name}));
   setText(byId('source-about'), words.about);
   setText(byId('source'), program.source);
+  byId('source').classList.toggle('whole', program.loads !== undefined);
 }

@@ -11,14 +11,22 @@ const GUIDE_STEPS = {
   loadName: {key: 'load-key', shown: 4}, runName: {key: 'run-key', shown: 4}, done: {key: '', shown: 5},
   lessonFeed: {key: 'feed-key', shown: -1}, lessonSwitch: {key: 'switch-A', shown: -1},
   lessonLoad: {key: 'load-key', shown: -1}, lessonRun: {key: 'run-key', shown: -1},
-  lessonLook: {key: 'afresh-key', shown: -1}, lessonSend: {key: 'send-key', shown: -1, focus: 'line'},
+  lessonLook: {key: 'afresh-key', shown: -1}, lessonNoSwitch: {key: 'afresh-key', shown: -1},
+  lessonOther: {key: 'afresh-key', shown: -1}, lessonSend: {key: 'send-key', shown: -1, focus: 'line'},
   lessonMend: {key: 'send-key', shown: -1, focus: 'line'}, lessonAgain: {key: 'run-key', shown: -1},
   lessonDone: {key: '', shown: -1},
   other: {key: 'afresh-key', shown: -1}, paper: {key: 'tear-key', shown: -1}, wait: {key: 'turn-key', shown: -1},
 };
 /* The steps at which it waits for as long as it takes. */
-const PATIENT_STEPS = ['feed', 'wait', 'lessonFeed', 'lessonLook', 'lessonMend'];
+const PATIENT_STEPS = ['feed', 'wait', 'lessonFeed', 'lessonLook', 'lessonNoSwitch', 'lessonOther', 'lessonMend'];
+/* The steps at which a visitor sends lines, and needs the console in sight. */
+const CONSOLE_STEPS = ['lessonSend', 'lessonMend', 'lessonAgain'];
 
+/* Gives a key the focus, and scrolls no further than it takes to see it. */
+function focusNear(key) {
+  key.focus({preventScroll: true});
+  key.scrollIntoView({block: 'nearest'});
+}
 const isHello = text => text !== null && text.startsWith(HELLO.slice(0, NAME_COLUMN));
 /* Whether the line of a card is on the paper. The lines that were there before the card was punched don't count. */
 function isPrinted(card, from) {
@@ -110,7 +118,10 @@ const guide = {
   draw() {
     const name = this.step(), step = name && GUIDE_STEPS[name], shown = step ? step.shown : -1;
     this.light(this.keyFor(name), step && !tour.isOn && step.focus);
-    byId('guide-steps').hidden = lessonChosen() !== null;
+    const chosen = lessonChosen();
+    byId('guide-steps').hidden = chosen !== null;
+    document.documentElement.classList.toggle('sends', CONSOLE_STEPS.includes(name));
+    setText(byId('guide-title'), chosen ? filled(TEXTS.lessonTitle, {n: chosen.number}) : TEXTS.guideTitle);
     if (isExhibit) setText(byId('feed-key'), TEXTS.childKeys[wantsClearing() ? 'clear' : 'feed']);
     [...byId('guide-steps').children].forEach((element, at) => {
       element.classList.toggle('done', at < shown);
@@ -139,14 +150,15 @@ const guide = {
     if (before) before.classList.remove('lit');
     if (!lit) return;
     byId(lit).classList.add('lit');
-    if (before && before === document.activeElement) setTimeout(() => byId(focus || lit).focus());
+    if (before && before === document.activeElement) setTimeout(() => focusNear(byId(focus || lit)));
   },
   words(name) {
     if (name === null) return TEXTS.guide[this.state === 'on' ? 'off' : this.preparedWords()];
     if (name === 'wait') return turnWords();
     const words = isExhibit ? TEXTS.childWords : TEXTS.guideWords;
-    const there = name === 'other' ? programThere(view.picture) : null, {loads} = chosenProgram();
-    return there ? filled(words.program, {name: TEXTS.programs[there].name}) : filled(words[name], {loads});
+    const there = name === 'other' ? programThere(view.picture) : null, {loads, number} = chosenProgram();
+    if (there) return filled(words.program, {name: TEXTS.programs[there].name});
+    return filled(words[name], {loads, n: number});
   },
   preparedWords() {
     return this.state === 'prepared' && renewal.mode === 'ON' ? 'preparedAgain' : this.state;

@@ -73,6 +73,7 @@ function drawHold() {
   const isOne = !view.picture || view.picture.seats === 1;
   byId('hold-key').hidden = isOne;
   setText(byId('hold-key'), isHolder() ? TEXTS.releaseHold : TEXTS.holdKey);
+  setAttribute(byId('hold-key'), 'title', isHolder() ? TEXTS.releaseTitle : TEXTS.holdTitle);
   setOff(byId('hold-key'), view.link !== 'fine' || isKeptOff());
   drawNotice();
   drawKeys();

@@ -9,10 +9,31 @@ function stopOf(reply) {
   const parts = /^STOP \d\d ([A-Z]+) STEPS (\d+) I (\d{5})$/.exec(reply || '');
   return parts && {name: parts[1], steps: Number(parts[2]), next: Number(parts[3])};
 }
+/* What a lost word mark leads to: an instruction that is too long, or none at its place. */
+const EXPLAINED = ['NOMARK', 'OPCODE', 'NOTFITTED', 'LENGTH', 'DCHAR', 'ADDRESS', 'OVERLAP'];
+function markWords({name, next: at}) {
+  const {from, cells} = view.picture, {before, isLost} = markBefore(at);
+  const isLong = place => instructionLength(cells, place - from) === 8 && cells[place - from + 8]?.mark === false;
+  if (!EXPLAINED.includes(name) || !cells[at - from]) return '';
+  if (name !== 'NOMARK') return isLong(at) ? filled(TEXTS.tooLong, {at: pad(at, 3)}) : '';
+  const values = {at: pad(at, 3), before: pad(before, 3)};
+  const why = isLost ? TEXTS.lostMark : before === at - 8 && isLong(before) ? TEXTS.longBefore : '';
+  return why && filled(`${TEXTS.noMarkAt} ${why}`, values);
+}
+/* The place before this one at which an instruction should begin: the last of the lesson's that has lost its
+   mark, or else the last with a mark. */
+function markBefore(at) {
+  const {from, cells} = view.picture, lesson = lessonChosen();
+  const has = place => cells[place - from] && cells[place - from].mark;
+  let marked = at - 1;
+  while (marked > from && !has(marked)) marked--;
+  const lost = lesson ? placesOf(lesson.source).filter(place => place > marked && place < at) : [];
+  return lost.length ? {before: lost[lost.length - 1], isLost: true} : {before: marked, isLost: false};
+}
 /* A reply in a visitor's words, if there are any. */
 function wordsOf(reply) {
   const stop = stopOf(reply);
-  if (stop) return TEXTS.stops[stop.name] || '';
+  if (stop) return lessonWords(stop) || markWords(stop) || TEXTS.stops[stop.name] || '';
   const known = /^(BYE$|(REFUSED|ERROR|FAULT|GLANCE FAULT) \d(?= [A-Z]))/.exec(reply);
   return known ? TEXTS.replies[known[0]] || '' : '';
 }

@@ -15,6 +15,7 @@ const view = {
   others: {count: 0, at: -Infinity, began: -Infinity, gap: 0, last: null},
   changed: 0,       // when the count of commands was last seen to change
   ended: null,      // the I register after a halt, until this page gives another command
+  stop: null,       // the last stop that this page was answered
 };
 const OTHERS_MS = 8000;
 /* A request that isn't answered within this time has failed. */

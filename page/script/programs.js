@@ -32,6 +32,8 @@ function assembled(name) {
   const {source, cards} = PROGRAM_FILES[name];
   return {source: widened(source), cards: cards.map(widened)};
 }
+/* Where the lines of a listing put characters, in its order. */
+const placesOf = listing => [...listing.matchAll(/^0*(\d+) \S/gm)].map(([, place]) => Number(place));
 const PROGRAMS = [
   {name: 'hello', cards: [HELLO], source: HELLO_SOURCE, alone: true},
   {name: 'banner', ...assembled('banner')},

@@ -24,6 +24,7 @@ function warnsOfNothing() {
 }
 function noteStop(stop) {
   view.ended = stop && stop.name === 'HALT' ? stop.next : null;
+  view.stop = stop;
   if (view.ended !== null) happened('halt');
   if (stop && stop.name !== 'LIMIT') happened('stop');
 }
@@ -60,7 +61,7 @@ async function loadCard() {
   happened('load');
 }
 async function pressStep() {
-  if (run || !mayCommand() || warnsOfEnd() || warnsOfNothing()) return;
+  if (run || !mayCommand() || warnsOfEnd() || warnsOfNothing() || warnsOfLesson()) return;
   const before = view.picture, outcome = await say('RUN 1'), stop = stopOf(outcome.reply);
   tellOutcome(outcome, TEXTS.said.step);
   noteStop(stop);
@@ -85,7 +86,7 @@ function stopRun() {
 
 /* RUN in parts, ten a second at first, so STOP ends it and the others get their turn. */
 async function pressRun() {
-  if (run || !mayCommand() || warnsOfEnd() || warnsOfNothing()) return;
+  if (run || !mayCommand() || warnsOfEnd() || warnsOfNothing() || warnsOfLesson()) return;
   run = {stop: false, slices: 0, steps: 0, waits: '', began: performance.now(), grown: 1, wake: () => {}};
   view.ended = null;
   tell('');
@@ -93,6 +94,7 @@ async function pressRun() {
   happened('run');
   const outcome = await runParts();
   const ended = run, stop = stopOf(outcome.reply);
+  await showStop(stop);
   run = null;
   drawKeys();
   noteOutcome(outcome);
@@ -100,6 +102,12 @@ async function pressRun() {
   noteStop(stop);
   await inTurn(look);
   drawPanel();
+}
+/* A stop at a mistake shows the place where it is. */
+async function showStop(stop) {
+  if (!stop || !EXPLAINED.includes(stop.name) || stop.next >= view.picture.size) return;
+  view.core = windowWith(stop.next);
+  await inTurn(look);
 }
 function tellRun(ended, outcome, stop) {
   const counts = {steps: withCommas(ended.steps)};

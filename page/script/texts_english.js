@@ -112,6 +112,8 @@ LANGUAGES.en = {
   seatRunning: 'seat {seat} runs a program', seatLast: '; the last command is of seat {seat}: {line}',
   holdKey: 'Hold the machine', releaseHold: 'Let others go on',
   holdTitle: 'for a minute no other page gives the machine lines; consoles still do',
+  releaseTitle: 'this page holds the machine, as its guide does while you work: the keys of other pages are off; this '
+    + 'key ends that',
   holder: 'You hold the machine: the keys of the other pages are off.',
   keptOff: 'Seat {seat} holds the machine, so the keys are off here.', secondsLeft: '({n} s)',
   fedInLog: {one: '(1 card fed)', many: '({n} cards fed)'}, tornInLog: {one: '(1 line taken)',
@@ -174,7 +176,8 @@ LANGUAGES.en = {
     newRoom: 'The staff has started another machine. What you did before isn\'t in it.',
     resumed: 'The room was opened again; its machine is as you see it.',
     renewing: 'A new machine is asked for ..',
-    clearing: 'The machine is being cleared ..', clear: 'The machine is clear: no card, no paper, nothing in core.',
+    clearing: 'The machine is being cleared ..', clear: 'The machine is clear: no card, no paper, nothing in core. '
+      + 'The lamps and the A and B registers have no key that clears them.',
     prepared: 'A new machine is here, with what the staff has prepared.',
     nothing: 'The machine is empty: feed a program first.',
     loadFirst: 'Nothing is in core storage yet: press LOAD first.',
@@ -196,6 +199,11 @@ LANGUAGES.en = {
     DCHAR: 'The last character of the instruction at I asks for nothing that it can do.',
     TAPE: 'The tape unit that the instruction at I names has no reel.',
   },
+  tooLong: 'The instruction at {at} is too long: is the word mark missing that should begin the next one? In DEPOSIT, '
+    + '~ sets it.',
+  noMarkAt: 'No instruction begins at {at}: there is no word mark at that place.',
+  lostMark: 'Perhaps the instruction before it, at {before}, has lost its own.',
+  longBefore: 'The instruction before it, at {before}, is too long: is a word mark missing in it?',
   replies: {
     'REFUSED 1': 'That place isn\'t in core.',
     'REFUSED 2': 'The hopper holds 500 cards, and is full.',
@@ -204,7 +212,7 @@ LANGUAGES.en = {
     'REFUSED 5': 'RUN takes 1 to 1,000,000 instructions.',
     'REFUSED 6': 'EXAMINE shows 1 to 40 places.',
     'ERROR 1': 'A word isn\'t known. HELP shows the lines.',
-    'ERROR 2': 'A number or an address is missing, or isn\'t one.',
+    'ERROR 2': 'A number or an address is missing, or isn\'t one. Is a blank missing after it?',
     'ERROR 3': 'A character that no card and no place has, or a ~ with none after it.',
     'ERROR 4': 'The text is empty or too long.',
     'ERROR 5': 'Something follows the end of the line\'s command.',
@@ -230,6 +238,18 @@ LANGUAGES.en = {
     ['GLANCE 0500', 'shows a place without a command'],
     ['HELP', 'shows this list; it isn\'t sent'],
   ],
+  lessonSaid: {
+    halt: 'The program has ended. Lesson {n} goes on with step 2, below core storage.',
+    mended: 'The program has ended. Step 5 of lesson {n} says what is on the paper if it is mended.',
+    again: 'The program had already ended; nothing new was printed. Press "Start afresh", and go back to step 3.',
+    againMended: 'The program had already ended; nothing new was printed.',
+    loaded: 'The program is loaded, and has not begun. Lesson {n} goes on with step 4, below core storage.',
+    noSwitch: 'No cards are left and sense switch A is off, so the program didn\'t notice the last card. Press "Start '
+      + 'afresh", and begin again with A on.',
+    loadFirst: 'The cards of this lesson are in the hopper: press LOAD first. RUN would read them as data.',
+    deposited: 'Filled: {from} to {to}. Word marks there: {marks}.', none: 'none',
+  },
+  lessonTitle: 'Lesson {n}', lessonsHint: 'Lessons 1 to 8 are in this list; their steps are below core storage.',
   guideTitle: 'Your first program', guideOn: 'Begin the guide', guideOff: 'Without the guide',
   guideSteps: ['Feed', 'LOAD', 'STEP', 'RUN', 'Your name'], stepDone: 'step {n}, {name}: done',
     stepOpen: 'step {n}, {name}',
@@ -247,13 +267,18 @@ LANGUAGES.en = {
     program: 'The program {name} is in the machine. Go on with it; or press "Start afresh", and the guide begins.',
     paper: 'The printer is full: it holds 500 lines. Press "Tear off" to go on.',
     lessonFeed: 'Press "Feed this program": the cards of this lesson go into the hopper.',
-    lessonSwitch: 'Turn sense switch A on.',
+    lessonSwitch: 'Lesson {n} is in the hopper. Turn sense switch A on, then press LOAD and RUN. The steps are below '
+      + 'core storage.',
     lessonLoad: 'Press LOAD: the machine reads the first card.',
-    lessonRun: 'Press RUN, and read the paper. Something on it is wrong.',
-    lessonLook: 'What is wrong? Step 2, above the source, helps. When you know it, press "Start afresh".',
+    lessonRun: 'Press RUN, and read the paper. Something on it is wrong, or the machine stops with a message.',
+    lessonLook: 'What is wrong? Step 2, below core storage, helps. When you know it, go on with step 3: press "Start '
+      + 'afresh".',
+    lessonNoSwitch: 'Sense switch A was off, so the program didn\'t notice the last card. Press "Start afresh", and '
+      + 'turn A on this time.',
+    lessonOther: 'Something else is in the machine. Press "Start afresh", and lesson {n} begins.',
     lessonSend: 'At the console send {loads}: it loads the program, and stops before its first instruction.',
-    lessonMend: 'At the console send the DEPOSIT that mends the program. Step 4, above the source, helps.',
-    lessonAgain: 'Press RUN, and read the paper.',
+    lessonMend: 'At the console send the DEPOSIT that mends the program. Step 4, below core storage, helps.',
+    lessonAgain: 'When all of step 4 is sent, press RUN, and read the paper.',
     lessonDone: 'Step 5 says what is on the paper now. If it isn\'t, press "Start afresh" and try again.',
   },
   guide: {
@@ -311,8 +336,8 @@ LANGUAGES.en = {
   nameWrong: 'No card has {letter}. Choose a name in A to Z.', nameSpelt: 'On the card: {name}',
   nameKeys: 'keys for your name', alphabet: 'ABCDEFGHIJKLMNOPQRSTUVWXYZ', wipe: 'wipe',
   afreshKey: 'Start afresh', afreshTitle: 'clears the machine: cards, paper, switches and core storage',
-  afreshAsk: 'This clears the machine for everybody: cards, paper, switches and core storage. What this page has torn '
-    + 'off and taken goes too. Start afresh?',
+  afreshAsk: 'This clears the simulated machine that the seats at the top share: cards, paper, switches and core '
+    + 'storage. What this page has torn off and taken goes too. Start afresh?',
   afreshOthers: 'Another seat is at work at this moment, and would lose its cards, paper and program. Start '
     + 'afresh all the same?',
   programs: {
@@ -336,7 +361,8 @@ LANGUAGES.en = {
   },
   aboutFirst: 'This is a simulated IBM 1401, a computer of 1959, with its card reader, its punch and its printer. '
     + 'All that you '
-    + 'see is one machine, which everybody in this room shares.',
+    + 'see is one machine, which everybody in this room shares. Lessons 1 to 8 in the list of programs have a '
+    + 'mistake to find.',
   aboutDrawing: 'Cards go from the reader to the processing unit, and results from there to the printer and the punch.',
   aboutParts: {reader: ['Card reader', 'and punch'], unit: ['Processing unit', 'with core storage'],
     printer: ['Printer', '132 columns'],

@@ -119,6 +119,8 @@ LANGUAGES.de = {
   seatRunning: 'Platz {seat} lässt ein Programm laufen', seatLast: '; die letzte Eingabe ist von Platz {seat}: {line}',
   holdKey: 'Maschine halten', releaseHold: 'Andere weitermachen lassen',
   holdTitle: 'eine Minute lang gibt keine andere Seite der Maschine Zeilen; Konsolen schon',
+  releaseTitle: 'diese Seite hält die Maschine, wie es ihre Führung tut, solange Sie arbeiten: die Tasten der anderen '
+    + 'Seiten sind aus; diese Taste beendet das',
   holder: 'Sie halten die Maschine: die Tasten der anderen Seiten sind aus.',
   keptOff: 'Platz {seat} hält die Maschine, darum sind die Tasten hier aus.', secondsLeft: '({n} s)',
   fedInLog: {one: '(1 Karte eingelegt)', many: '({n} Karten eingelegt)'},
@@ -186,7 +188,7 @@ LANGUAGES.de = {
     resumed: 'Der Raum wurde neu geöffnet; seine Maschine ist, wie Sie sie sehen.',
     renewing: 'Eine neue Maschine wird verlangt ..',
     clearing: 'Die Maschine wird geleert ..', clear: 'Die Maschine ist leer: keine Karte, kein Papier, nichts im '
-      + 'Speicher.',
+      + 'Speicher. Die Lampen, A- und B-Register haben keine Taste, die sie löscht.',
     prepared: 'Eine neue Maschine ist da, mit dem, was das Museum vorbereitet hat.',
     nothing: 'Die Maschine ist leer: legen Sie erst ein Programm ein.',
     loadFirst: 'Im Kernspeicher ist noch nichts: drücken Sie erst LOAD.', yourTurn: 'Sie sind an der Reihe.',
@@ -207,6 +209,11 @@ LANGUAGES.de = {
     DCHAR: 'Das letzte Zeichen des Befehls bei I verlangt nichts, was er kann.',
     TAPE: 'Die Bandeinheit, die der Befehl bei I nennt, hat kein Band.',
   },
+  tooLong: 'Der Befehl bei {at} ist zu lang: fehlt die Wortmarke, mit der der nächste beginnen sollte? In DEPOSIT '
+    + 'setzt ~ sie.',
+  noMarkAt: 'Bei {at} beginnt kein Befehl: dort ist keine Wortmarke.',
+  lostMark: 'Vielleicht hat der Befehl davor, bei {before}, seine verloren.',
+  longBefore: 'Der Befehl davor, bei {before}, ist zu lang: fehlt eine Wortmarke darin?',
   replies: {
     'REFUSED 1': 'Diese Stelle gibt es nicht.',
     'REFUSED 2': 'Das Magazin fasst 500 Karten und ist voll.',
@@ -215,7 +222,7 @@ LANGUAGES.de = {
     'REFUSED 5': 'RUN nimmt 1 bis 1.000.000 Befehle.',
     'REFUSED 6': 'EXAMINE zeigt 1 bis 40 Stellen.',
     'ERROR 1': 'Ein Wort ist nicht bekannt. HELP zeigt die Zeilen.',
-    'ERROR 2': 'Eine Zahl oder Adresse fehlt oder ist keine.',
+    'ERROR 2': 'Eine Zahl oder Adresse fehlt oder ist keine. Fehlt danach ein Leerzeichen?',
     'ERROR 3': 'Ein Zeichen, das keine Karte und keine Stelle hat, oder ein ~ ohne Zeichen danach.',
     'ERROR 4': 'Der Text ist leer oder zu lang.',
     'ERROR 5': 'Nach dem Ende der Eingabe kommt noch etwas.',
@@ -241,6 +248,21 @@ LANGUAGES.de = {
     ['GLANCE 0500', 'zeigt eine Stelle, ohne dass es als Eingabe zählt'],
     ['HELP', 'zeigt diese Liste; es wird nicht gesendet'],
   ],
+  lessonSaid: {
+    halt: 'Das Programm ist zu Ende. Lektion {n} geht mit Schritt 2 weiter, unter dem Kernspeicher.',
+    mended: 'Das Programm ist zu Ende. Schritt 5 von Lektion {n} sagt, was auf dem Papier steht, wenn es richtig ist.',
+    again: 'Das Programm war schon zu Ende; nichts Neues wurde gedruckt. Drücken Sie "Von vorn", und zurück zu '
+      + 'Schritt 3.',
+    againMended: 'Das Programm war schon zu Ende; nichts Neues wurde gedruckt.',
+    loaded: 'Das Programm ist geladen und hat noch nicht begonnen. Lektion {n} geht mit Schritt 4 weiter, unter dem '
+      + 'Kernspeicher.',
+    noSwitch: 'Es sind keine Karten mehr da, und Schalter A ist aus, darum bemerkte das Programm die letzte Karte '
+      + 'nicht. Drücken Sie "Von vorn", und beginnen Sie noch einmal, mit A an.',
+    loadFirst: 'Die Karten dieser Lektion sind im Magazin: drücken Sie erst LOAD. RUN läse sie als Daten.',
+    deposited: 'Gefüllt: {from} bis {to}. Wortmarken dort: {marks}.', none: 'keine',
+  },
+  lessonTitle: 'Lektion {n}',
+  lessonsHint: 'Die Lektionen 1 bis 8 sind in dieser Liste; ihre Schritte sind unter dem Kernspeicher.',
   guideTitle: 'Ihr erstes Programm', guideOn: 'Führung beginnen', guideOff: 'Ohne Führung',
   guideSteps: ['Einlegen', 'LOAD', 'STEP', 'RUN', 'Ihr Name'], stepDone: 'Schritt {n}, {name}: erledigt',
   stepOpen: 'Schritt {n}, {name}',
@@ -261,13 +283,20 @@ LANGUAGES.de = {
       + 'beginnt die Führung.',
     paper: 'Der Drucker ist voll: er fasst 500 Zeilen. Drücken Sie "Abreißen".',
     lessonFeed: 'Drücken Sie "Programm einlegen": die Karten dieser Lektion kommen ins Magazin.',
-    lessonSwitch: 'Schalten Sie Schalter A ein.',
+    lessonSwitch: 'Lektion {n} ist im Magazin. Schalter A an, dann LOAD und RUN. Die Schritte sind unter dem '
+      + 'Kernspeicher.',
     lessonLoad: 'Drücken Sie LOAD: die Maschine liest die erste Karte.',
-    lessonRun: 'Drücken Sie RUN, und lesen Sie das Papier. Etwas darauf ist falsch.',
-    lessonLook: 'Was ist falsch? Schritt 2, über der Quelle, hilft. Wenn Sie es wissen, drücken Sie "Von vorn".',
+    lessonRun: 'Drücken Sie RUN, und lesen Sie das Papier. Etwas darauf ist falsch, oder die Maschine hält mit einer '
+      + 'Meldung.',
+    lessonLook: 'Was ist falsch? Schritt 2, unter dem Kernspeicher, hilft. Wenn Sie es wissen, weiter mit Schritt 3: '
+      + '"Von vorn".',
+    lessonNoSwitch: 'Schalter A war aus, darum bemerkte das Programm die letzte Karte nicht. Drücken Sie "Von vorn", '
+      + 'und diesmal A an.',
+    lessonOther: 'Etwas anderes ist in der Maschine. Drücken Sie "Von vorn", dann beginnt Lektion {n}.',
     lessonSend: 'Schicken Sie an der Konsole {loads}: das lädt das Programm und hält vor seinem ersten Befehl an.',
-    lessonMend: 'Schicken Sie an der Konsole das DEPOSIT, das den Fehler behebt. Schritt 4, über der Quelle, hilft.',
-    lessonAgain: 'Drücken Sie RUN, und lesen Sie das Papier.',
+    lessonMend: 'Schicken Sie an der Konsole das DEPOSIT, das den Fehler behebt. Schritt 4, unter dem Kernspeicher, '
+      + 'hilft.',
+    lessonAgain: 'Wenn Schritt 4 ganz gesendet ist, drücken Sie RUN, und lesen Sie das Papier.',
     lessonDone: 'Schritt 5 sagt, was jetzt auf dem Papier steht. Wenn nicht: "Von vorn", und noch einmal.',
   },
   guide: {
@@ -327,8 +356,8 @@ LANGUAGES.de = {
   nameWrong: 'Keine Karte hat {letter}. Wählen Sie einen Namen mit A bis Z.', nameSpelt: 'Auf der Karte: {name}',
   nameKeys: 'Tasten für Ihren Namen', alphabet: 'ABCDEFGHIJKLMNOPQRSTUVWXYZÄÖÜß', wipe: 'löschen',
   afreshKey: 'Von vorn', afreshTitle: 'leert die Maschine: Karten, Papier, Schalter und Kernspeicher',
-  afreshAsk: 'Das leert die Maschine für alle: Karten, Papier, Schalter und Kernspeicher. Was diese Seite abgerissen '
-    + 'und genommen hat, ist auch fort. Von vorn beginnen?',
+  afreshAsk: 'Das leert die simulierte Maschine, die sich die Plätze von oben teilen: Karten, Papier, Schalter und '
+    + 'Kernspeicher. Was diese Seite abgerissen und genommen hat, ist auch fort. Von vorn beginnen?',
   afreshOthers: 'Ein anderer Platz arbeitet gerade und verlöre Karten, Papier und Programm. Trotzdem von vorn '
     + 'beginnen?',
   programs: {
@@ -352,7 +381,8 @@ LANGUAGES.de = {
   },
   aboutFirst: 'Das ist eine simulierte IBM 1401, ein Rechner von 1959, mit Kartenleser, Stanzer und Drucker. '
     + 'Alles, was '
-    + 'Sie sehen, ist eine Maschine, die sich alle in diesem Raum teilen.',
+    + 'Sie sehen, ist eine Maschine, die sich alle in diesem Raum teilen. Die Lektionen 1 bis 8 in der Liste der '
+    + 'Programme haben einen Fehler, den Sie finden sollen.',
   aboutDrawing: 'Karten gehen vom Leser zur Recheneinheit, Ergebnisse von dort zum Drucker und zum Stanzer.',
   aboutParts: {reader: ['Kartenleser', 'und Stanzer'], unit: ['Recheneinheit', 'mit Kernspeicher'],
     printer: ['Drucker', '132 Spalten'],

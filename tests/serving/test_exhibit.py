@@ -49,7 +49,9 @@ class Visitors(Browser):
         self.press("afresh-key")
         self.shows("the page asks", "byId('ask').open")
         self.by("ask-yes")
-        self.reads("The machine is clear: no card, no paper, nothing in core.")
+        self.reads("The machine is clear: no card, no paper, nothing in core. The lamps and the A and B registers have no "
+                   "key that clears them.")
+        self.shows("no card is in the read station", "byId('moving-card').className", "none")
         self.shows("no card and no line is left", "view.paper.length + view.picture.registers.HOPPER", 0)
 
     def follow_the_guide(self, name):
@@ -364,12 +366,72 @@ class Lessons(Browser):
         self.at("lessonSend", "send-key", press=False)
         self.send("RUN 203")
         self.at("lessonMend", "send-key", press=False)
+        self.shows("step 4 is named", "byId('said-words').textContent === filled(TEXTS.lessonSaid.loaded, {n: 1})")
         self.send("DEPOSIT 0031 ~1")
+        self.shows("the console is in sight", "getComputedStyle(document.querySelector('.below')).position", "sticky")
         self.at("lessonAgain", "run-key")
         self.at("lessonDone", "")
+        self.shows("step 5 is named", "byId('said-words').textContent === filled(TEXTS.lessonSaid.mended, {n: 1})")
         self.shows("the paper is right", printed, wanted)
         self.page.value("byId('program').value = 'hello', byId('program').dispatchEvent(new Event('change'))")
         self.shows("another program ends it", f"guide.step() + ' ' + ({LIT})", "other afresh-key")
+
+    def choose(self, lesson):
+        """Chooses a lesson, which is fed without the guide's leave."""
+        self.page.value(f"byId('program').value = 'lesson{lesson}', "
+                        "byId('program').dispatchEvent(new Event('change')), rested().then(feedChosen)")
+
+    def runs(self, name, words, wanted):
+        """RUN is pressed, and these words come below the keys."""
+        self.page.value("rested().then(pressRun)")
+        self.shows(name, "byId('said-words').textContent === " + words if wanted is True else
+                   "byId('said-words').textContent", wanted)
+
+    def test_a_lesson_without_switch_a(self):
+        self.choose(2)
+        self.shows("the guide says where the lesson is", "byId('guide-now').textContent.startsWith('Lesson 2 is in')")
+        self.page.value("pressLoad()")
+        self.runs("the switch is named", "TEXTS.lessonSaid.noSwitch", True)
+        self.at("lessonNoSwitch", "afresh-key", press=False)
+        self.page.value("rested().then(feedChosen)")
+        count = self.served.after()
+        self.runs("a lesson that is fed again isn't read as data", "TEXTS.lessonSaid.loadFirst", True)
+        self.unchanged("nothing is sent", self.served, count)
+        self.page.click("afresh-key")
+        self.page.click("ask-yes")
+        self.at("lessonFeed", "feed-key", press=False)
+
+    def test_a_lost_word_mark(self):
+        for lesson, line, wanted in [
+                (3, "DEPOSIT 0463 L612233", "The instruction at 456 is too long: is the word mark missing that should "
+                    "begin the next one? In DEPOSIT, ~ sets it."),
+                (4, "DEPOSIT 0500 B600", "No instruction begins at 503: there is no word mark at that place. Perhaps "
+                    "the instruction before it, at 500, has lost its own.")]:
+            self.choose(lesson)
+            self.page.value("say('SWITCH A ON').then(() => rested()).then(pressLoad)")
+            self.page.value("say(chosenProgram().loads)")
+            self.send(line)
+            self.shows("its place has no mark", "byId('log').textContent.includes('Word marks there: none.')")
+            self.runs(f"lesson {lesson}", "", wanted)
+            self.page.value("startAfresh()")
+
+    def test_run_after_the_end(self):
+        """RUN before the program is mended leads back to step 3, and the console says what a DEPOSIT has filled."""
+        self.choose(1)
+        self.page.value("say('SWITCH A ON').then(() => rested()).then(pressLoad)")
+        self.runs("the lesson goes on", "filled(TEXTS.lessonSaid.halt, {n: 1})", True)
+        self.send("DEPOSIT 0031 ~X")
+        self.shows("what is filled", "byId('log').textContent.includes('Filled: 031 to 031. Word marks there: 031.')")
+        self.runs("nothing new is printed", "TEXTS.lessonSaid.again", True)
+        self.page.value("byId('program').value = 'lesson2', byId('program').dispatchEvent(new Event('change'))")
+        self.at("lessonOther", "afresh-key", press=False)
+
+    def test_the_source_of_a_lesson(self):
+        """It is shown whole, and each line that fills places has their address."""
+        self.page.value("byId('program').value = 'lesson3', byId('program').dispatchEvent(new Event('change'))")
+        self.shows("all lines", "byId('source').scrollHeight <= byId('source').clientHeight")
+        self.shows("a line", "byId('source').textContent.includes('00463 L500233                 LCA  WORD,233')")
+        self.shows("its number is in the title", "byId('guide-title').textContent", "Lesson 3")
 
     def test_without_a_mended_program(self):
         """A run that ends as before leads to the question again."""

@@ -5,7 +5,7 @@ import re
 import sys
 import unittest
 
-from tests.support import PAGE, TOP, ProgramTest, program
+from tests.support import EXAMPLES, PAGE, TOP, ProgramTest, program
 
 PARTS = TOP / "page"
 # page/embed is loaded as a module, and leaves no file.
@@ -102,6 +102,13 @@ class Programs(ProgramTest):
             deck = self.folder / f"{source.stem}.deck"
             self.expect(f"{source.stem} is assembled", program("assemble", source, "--deck", deck))
             self.same(f"the deck of {source.stem}", deck.read_bytes(), source.with_suffix(".deck").read_bytes())
+
+    def test_each_lesson_has_its_listing(self):
+        sources = sorted(deck.with_suffix(".source") for deck in (EXAMPLES / "course").glob("*/broken.deck"))
+        self.same("how many", len(sources), len(list((PARTS / "programs").glob("*.listing"))))
+        for number, source in enumerate(sources, 1):
+            listed = program("assemble", "--language", "ibm", "--list", source).stdout
+            self.same(source.parent.name, (PARTS / f"programs/lesson{number}.listing").read_bytes(), listed)
 
 
 if __name__ == "__main__":
