@@ -1,7 +1,8 @@
 //! All cards of a deck.
-ghost use Rattle.std.specs.Prelude.{◌≡◌, ◌<◌, ◌≤◌, ◌+◌, ◌++◌, None, true, length, drop, codes, IfOk, IfErr, OnOk};
+ghost use Rattle.std.specs.Prelude.{◌≡◌, ◌<◌, ◌≤◌, ◌+◌, ◌++◌, None, true, length, drop, codes, IfOk, IfErr};
 ghost use Rattle.core_1401.specs.Address.{addresses};
 ghost use Rattle.core_1401.specs.Storage.{is_core_size};
+ghost use Rattle.bytes_text.specs.Written.{Adds};
 ghost use Rattle.machine_image.specs.Image.{IsInCore};
 ghost use Rattle.autocoder_deck.specs.Card.{HaveChars};
 ghost use Rattle.autocoder_deck.specs.Contents.{card_places, first_taken, storage_of};
@@ -14,32 +15,31 @@ use crate::cards::{put_address, put_cards};
 use crate::contents::{CARD_PLACES, first_taken, storage_of};
 use crate::fault::DeckFault;
 use bcd_1401::Cell;
+use bytes_text::Text;
 use cpu_1401::fitting_law;
 use machine_image::Image;
 use std::alloc::{AllocError, Global};
 
 /// Adds the card that clears storage of this size from its end down to place 100, and reads the next card.
 #[tactic(auto, unfolding(crate::specs::Deck::clear_card))]
-fn put_clear_card(text: &mut Vec<u8>, size: u16) -> Result<(), AllocError>
+fn put_clear_card(text: &mut Text, size: u16)
     requires { size ≤ addresses }
-    ensures { OnOk result (text.new.items ≡ text.old.items ++ clear_card size) }
+    ensures { Adds text.old text.new (clear_card size) }
 {
-    text.extend_from_slice(b",008015,022029,036040,044051,056060/".as_slice())?;
-    put_address(text, size.saturating_sub(1))?;
-    text.extend_from_slice(b"H039C039062B036/1001099\n".as_slice())?;
-    Ok(())
+    text.put(b",008015,022029,036040,044051,056060/");
+    put_address(text, size.saturating_sub(1));
+    text.put(b"H039C039062B036/1001099\n");
 }
 
 /// Adds the card that begins the program.
 #[tactic(auto, unfolding(crate::specs::Deck::start_card))]
-fn put_start_card(text: &mut Vec<u8>, start: u16) -> Result<(), AllocError>
+fn put_start_card(text: &mut Text, start: u16)
     requires { start < addresses }
-    ensures { OnOk result (text.new.items ≡ text.old.items ++ start_card start) }
+    ensures { Adds text.old text.new (start_card start) }
 {
-    text.extend_from_slice(b"                                       /".as_slice())?;
-    put_address(text, start)?;
-    text.extend_from_slice(b"080\n".as_slice())?;
-    Ok(())
+    text.put(b"                                       /");
+    put_address(text, start);
+    text.put(b"080\n");
 }
 
 /// The deck for core storage of this size with these cells from 081 on, and this entry.
@@ -49,16 +49,14 @@ fn cards_of(alloc: Global, size: u16, cells: &[Cell], start: u16) -> Result<Vec<
     requires cells { card_places + length cells.now ≤ addresses }
     requires start { start < addresses }
     ensures text { IfOk result (λ text. text.items ≡ cards_of size cells.now start) }
-    ensures chars { OnOk result (HaveChars cells.now) }
+    ensures chars { HaveChars cells.now }
 {
-    let mut text = Vec::new(alloc);
-    put_clear_card(&mut text, size)?;
-    text.extend_from_slice(
-        b",047055,059063,067071,075079)044056,181L199099)060)081)181/039,0011040\n".as_slice(),
-    )?;
-    put_cards(&mut text, CARD_PLACES as u16, cells)?;
-    put_start_card(&mut text, start)?;
-    Ok(text)
+    let mut text = Text::new(alloc);
+    put_clear_card(&mut text, size);
+    text.put(b",047055,059063,067071,075079)044056,181L199099)060)081)181/039,0011040\n");
+    put_cards(&mut text, CARD_PLACES as u16, cells);
+    put_start_card(&mut text, start);
+    text.into_bytes()
 }
 
 /// The deck for core storage with these cells, and this entry, if the places under its cards are blank.
