@@ -1,12 +1,12 @@
 //! All cards of a deck.
-ghost use Rattle.std.specs.Prelude.{◌≡◌, ◌<◌, ◌≤◌, ◌+◌, ◌++◌, None, true, length, drop, codes, IfOk, IfErr, OnOk};
+ghost use Rattle.std.specs.Prelude.{◌≡◌, ◌<◌, ◌≤◌, ◌+◌, ◌++◌, None, true, length, drop, codes, IfOk, IfErr};
 ghost use Rattle.core_1401.specs.Address.{addresses};
 ghost use Rattle.core_1401.specs.Storage.{is_core_size};
+ghost use Rattle.bytes_text.specs.Written.{Adds};
 ghost use Rattle.machine_image.specs.Image.{IsInCore};
-ghost use Rattle.autocoder_deck.specs.Card.{HaveChars};
+ghost use Rattle.autocoder_deck.specs.Card.{HaveChars, address_text};
 ghost use Rattle.autocoder_deck.specs.Contents.{card_places, first_taken, storage_of};
-ghost use Rattle.autocoder_deck.specs.Deck.{AreBrought, IsWhyNoDeck, cards_of, clear_card, deck_text, loader_card};
-ghost use Rattle.autocoder_deck.specs.Deck.{start_card};
+ghost use Rattle.autocoder_deck.specs.Deck.{AreBrought, IsWhyNoDeck, cards_of, deck_text};
 ghost use Rattle.autocoder_deck.specs.Deck.{storage_deck};
 ghost use Rattle.autocoder_deck.specs.Loading.{LoadsItself};
 
@@ -14,51 +14,45 @@ use crate::cards::{put_address, put_cards};
 use crate::contents::{CARD_PLACES, first_taken, storage_of};
 use crate::fault::DeckFault;
 use bcd_1401::Cell;
+use bytes_text::Text;
 use cpu_1401::fitting_law;
 use machine_image::Image;
 use std::alloc::{AllocError, Global};
 
-/// Adds the card that clears storage of this size from its end down to place 100, and reads the next card.
-#[tactic(auto, unfolding(crate::specs::Deck::clear_card))]
-fn put_clear_card(text: &mut Vec<u8>, size: u16) -> Result<(), AllocError>
-    requires { size ≤ addresses }
-    ensures { OnOk result (text.new.items ≡ text.old.items ++ clear_card size) }
-{
-    text.extend_from_slice(b",008015,022029,036040,044051,056060/".as_slice())?;
-    put_address(text, size.saturating_sub(1))?;
-    text.extend_from_slice(b"H039C039062B036/1001099\n".as_slice())?;
-    Ok(())
-}
+/// The card that clears storage down to place 100, and reads the next card, up to the address at which it begins.
+const CLEARS_FROM: &[u8] = b",008015,022029,036040,044051,056060/";
 
-/// Adds the card that begins the program.
-#[tactic(auto, unfolding(crate::specs::Deck::start_card))]
-fn put_start_card(text: &mut Vec<u8>, start: u16) -> Result<(), AllocError>
-    requires { start < addresses }
-    ensures { OnOk result (text.new.items ≡ text.old.items ++ start_card start) }
+/// What follows that address.
+const CLEARS_ON: &[u8] = b"H039C039062B036/1001099\n";
+
+/// The card that begins the program, up to the entry.
+const BEGINS_AT: &[u8] = b"                                       /";
+
+/// Adds words, an address by its three graphics, and words.
+fn put_around(text: &mut Text, before: &[u8], address: u16, after: &[u8])
+    requires { address < addresses }
+    ensures { Adds text.old text.new (before.now ++ address_text address ++ after.now) }
 {
-    text.extend_from_slice(b"                                       /".as_slice())?;
-    put_address(text, start)?;
-    text.extend_from_slice(b"080\n".as_slice())?;
-    Ok(())
+    text.put(before);
+    put_address(text, address);
+    text.put(after);
 }
 
 /// The deck for core storage of this size with these cells from 081 on, and this entry.
-#[tactic(auto, unfolding(crate::specs::Deck::cards_of, crate::specs::Deck::loader_card))]
+#[tactic(auto, unfolding(crate::specs::Deck::cards_of, crate::specs::Deck::clear_card, crate::specs::Deck::loader_card, crate::specs::Deck::start_card))]
 fn cards_of(alloc: Global, size: u16, cells: &[Cell], start: u16) -> Result<Vec<u8>, AllocError>
     requires size { size ≤ addresses }
     requires cells { card_places + length cells.now ≤ addresses }
     requires start { start < addresses }
     ensures text { IfOk result (λ text. text.items ≡ cards_of size cells.now start) }
-    ensures chars { OnOk result (HaveChars cells.now) }
+    ensures chars { HaveChars cells.now }
 {
-    let mut text = Vec::new(alloc);
-    put_clear_card(&mut text, size)?;
-    text.extend_from_slice(
-        b",047055,059063,067071,075079)044056,181L199099)060)081)181/039,0011040\n".as_slice(),
-    )?;
-    put_cards(&mut text, CARD_PLACES as u16, cells)?;
-    put_start_card(&mut text, start)?;
-    Ok(text)
+    let mut text = Text::new(alloc);
+    put_around(&mut text, CLEARS_FROM, size.saturating_sub(1), CLEARS_ON);
+    text.put(b",047055,059063,067071,075079)044056,181L199099)060)081)181/039,0011040\n");
+    put_cards(&mut text, CARD_PLACES as u16, cells);
+    put_around(&mut text, BEGINS_AT, start, b"080\n");
+    text.into_bytes()
 }
 
 /// The deck for core storage with these cells, and this entry, if the places under its cards are blank.
