@@ -54,9 +54,21 @@ is_carried carried at = get_or carried at false
 abbrev pub marked_line : List Bool → Segment → List ℕ
 marked_line carried stretch = stretch_line (is_carried carried stretch.address) stretch
 
+-- the entry in decimal, which ends its line
+unfoldable pub start_text : ℕ → List ℕ
+start_text start = digits_in 3 start ++ codes "\n"
+
+-- the operation and the entry
+unfoldable pub entry_text : ℕ → List ℕ
+entry_text start = codes " END  " ++ start_text start
+
+-- what follows the address of the last line
+unfoldable pub end_text : ℕ → List ℕ
+end_text start = codes "         " ++ entry_text start
+
 -- the last line: where the program begins
-unfoldable pub start_line : ℕ → List ℕ
-start_line start = digits_in 5 start ++ codes "          END  " ++ digits_in 3 start ++ codes "\n"
+abbrev pub start_line : ℕ → List ℕ
+start_line start = digits_in 5 start ++ end_text start
 
 -- the listing of an image, a line a stretch, with the signs of the addresses at which instructions were carried out
 unfoldable pub marked_text : List Bool → Image → List ℕ

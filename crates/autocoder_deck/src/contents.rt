@@ -4,6 +4,7 @@ ghost use Rattle.std.specs.List.{list_all};
 ghost use Rattle.core_1401.specs.Address.{addresses};
 ghost use Rattle.core_1401.specs.Storage.{least_core_size};
 ghost use Rattle.machine_image.specs.Image.{IsInCore, is_inside};
+ghost use Rattle.cpu_1401.specs.CarryOut.{deposited};
 ghost use Rattle.autocoder_deck.specs.Contents.{card_places, first_from, is_blank, storage_of, with_segments};
 
 use bcd_1401::Cell;
@@ -21,15 +22,23 @@ pub(crate) fn is_blank(cell: Cell) -> bool
     cell.char.code() == 0 && !cell.mark
 }
 
+/// Puts the cells of a segment at their places.
+fn put_segment(storage: &mut [Cell], segment: &Segment)
+    requires { is_inside (length storage.old) segment.now ≡ true }
+    ensures { storage.new ≡ deposited storage.old segment.now.address segment.now.cells }
+{
+    let from = usize::from(segment.address);
+    let cells = segment.cells.as_slice();
+    storage[from..from + cells.len()].copy_from_slice(cells);
+}
+
 /// Puts the cells of segments at their places, in order.
 fn put_segments(storage: &mut [Cell], segments: &[Segment])
     requires { list_all (is_inside (length storage.old)) segments.now ≡ true }
     ensures { storage.new ≡ with_segments storage.old segments.now }
 {
     for segment in segments {
-        let from = usize::from(segment.address);
-        let cells = segment.cells.as_slice();
-        storage[from..from + cells.len()].copy_from_slice(cells);
+        put_segment(storage, segment);
     }
 }
 

@@ -4,9 +4,10 @@ ghost use Rattle.core_1401.specs.Address.{addresses};
 ghost use Rattle.core_1401.specs.Storage.{is_core_size};
 ghost use Rattle.bytes_text.specs.Written.{Adds};
 ghost use Rattle.machine_image.specs.Image.{IsInCore};
-ghost use Rattle.autocoder_deck.specs.Card.{HaveChars, address_text};
+ghost use Rattle.autocoder_deck.specs.Card.{HaveChars};
 ghost use Rattle.autocoder_deck.specs.Contents.{card_places, first_taken, storage_of};
-ghost use Rattle.autocoder_deck.specs.Deck.{AreBrought, IsWhyNoDeck, cards_of, deck_text};
+ghost use Rattle.autocoder_deck.specs.Deck.{AreBrought, IsWhyNoDeck, cards_of, clear_card, deck_text, loader_card};
+ghost use Rattle.autocoder_deck.specs.Deck.{start_card};
 ghost use Rattle.autocoder_deck.specs.Deck.{storage_deck};
 ghost use Rattle.autocoder_deck.specs.Loading.{LoadsItself};
 
@@ -19,27 +20,30 @@ use cpu_1401::fitting_law;
 use machine_image::Image;
 use std::alloc::{AllocError, Global};
 
-/// The card that clears storage down to place 100, and reads the next card, up to the address at which it begins.
-const CLEARS_FROM: &[u8] = b",008015,022029,036040,044051,056060/";
-
-/// What follows that address.
-const CLEARS_ON: &[u8] = b"H039C039062B036/1001099\n";
-
-/// The card that begins the program, up to the entry.
-const BEGINS_AT: &[u8] = b"                                       /";
-
-/// Adds words, an address by its three graphics, and words.
-fn put_around(text: &mut Text, before: &[u8], address: u16, after: &[u8])
-    requires { address < addresses }
-    ensures { Adds text.old text.new (before.now ++ address_text address ++ after.now) }
+/// Adds the card that clears storage of this size from its end down to place 100, and reads the next card.
+#[tactic(auto, unfolding(crate::specs::Deck::clear_card))]
+fn put_clear_card(text: &mut Text, size: u16)
+    requires { size ≤ addresses }
+    ensures { Adds text.old text.new (clear_card size) }
 {
-    text.put(before);
-    put_address(text, address);
-    text.put(after);
+    text.put(b",008015,022029,036040,044051,056060/");
+    put_address(text, size.saturating_sub(1));
+    text.put(b"H039C039062B036/1001099\n");
+}
+
+/// Adds the card that begins the program.
+#[tactic(auto, unfolding(crate::specs::Deck::start_card))]
+fn put_start_card(text: &mut Text, start: u16)
+    requires { start < addresses }
+    ensures { Adds text.old text.new (start_card start) }
+{
+    text.put(b"                                       /");
+    put_address(text, start);
+    text.put(b"080\n");
 }
 
 /// The deck for core storage of this size with these cells from 081 on, and this entry.
-#[tactic(auto, unfolding(crate::specs::Deck::cards_of, crate::specs::Deck::clear_card, crate::specs::Deck::loader_card, crate::specs::Deck::start_card))]
+#[tactic(auto, unfolding(crate::specs::Deck::cards_of, crate::specs::Deck::loader_card))]
 fn cards_of(alloc: Global, size: u16, cells: &[Cell], start: u16) -> Result<Vec<u8>, AllocError>
     requires size { size ≤ addresses }
     requires cells { card_places + length cells.now ≤ addresses }
@@ -48,10 +52,10 @@ fn cards_of(alloc: Global, size: u16, cells: &[Cell], start: u16) -> Result<Vec<
     ensures chars { HaveChars cells.now }
 {
     let mut text = Text::new(alloc);
-    put_around(&mut text, CLEARS_FROM, size.saturating_sub(1), CLEARS_ON);
+    put_clear_card(&mut text, size);
     text.put(b",047055,059063,067071,075079)044056,181L199099)060)081)181/039,0011040\n");
     put_cards(&mut text, CARD_PLACES as u16, cells);
-    put_around(&mut text, BEGINS_AT, start, b"080\n");
+    put_start_card(&mut text, start);
     text.into_bytes()
 }
 

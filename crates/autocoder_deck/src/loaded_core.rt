@@ -2,7 +2,7 @@
 ghost use Rattle.std.specs.Prelude.{◌≡◌, ◌<◌, ◌≤◌, ◌+◌, ◌∷◌, [], ◌++◌, length, take, IfOk, IfErr, OnOk};
 ghost use Rattle.core_1401.specs.Address.{addresses};
 ghost use Rattle.autocoder_deck.specs.Entry.{IsWhyUnloaded, loaded_deck};
-ghost use Rattle.autocoder_deck.specs.LoadedCore.{IsCoreImage, IsLoadedDeck, following, segments_from};
+ghost use Rattle.autocoder_deck.specs.LoadedCore.{IsCoreImage, IsLoadedDeck, following, one_more, segments_from};
 ghost use Rattle.job_runner.specs.Unattended.{with_deck};
 
 use crate::contents::is_blank;
@@ -18,6 +18,14 @@ use std::alloc::{AllocError, Global};
 /// How many cells a segment has after its first.
 const MORE_CELLS: u8 = 39;
 
+/// One cell more, if it isn't a blank with nothing after it.
+fn one_more(is_blank: bool, more: usize) -> usize
+    requires { more < addresses }
+    ensures { result ≡ one_more is_blank more }
+{
+    if is_blank && more == 0 { 0 } else { more + 1 }
+}
+
 /// How many of these cells follow a segment's first cell, which has room for this many.
 fn following(room: u8, cells: &[Cell]) -> usize
     requires { room < 40 }
@@ -31,12 +39,21 @@ fn following(room: u8, cells: &[Cell]) -> usize
     if room == 0 || cell.mark {
         return 0;
     }
-    let more = following(room - 1, beyond);
-    if is_blank(*cell) && more == 0 {
-        0
-    } else {
-        more + 1
-    }
+    one_more(is_blank(*cell), following(room - 1, beyond))
+}
+
+/// Adds the segment of a cell and of those after it.
+fn put_segment(segments: &mut Vec<Segment>, address: u16, cells: &[Cell]) -> Result<(), AllocError>
+    requires some { 1 ≤ length cells.now }
+    requires few { length cells.now ≤ 40 }
+    ensures { OnOk result (segments.new.items
+        ≡ segments.old.items ++ record { address = address; cells = cells.now } ∷ []) }
+{
+    let Some(cells) = Cells::from_slice(cells) else {
+        unreachable!()
+    };
+    segments.push(Segment { address, cells })?;
+    Ok(())
 }
 
 /// Adds the segment that begins with the first of these cells, if it isn't in one already, and isn't blank. Says how
@@ -61,16 +78,8 @@ fn put_next(
         return Ok(0);
     }
     let count = following(MORE_CELLS, beyond);
-    let Some(cells) = Cells::from_slice(&cells[..count + 1]) else {
-        unreachable!()
-    };
-    match segments.push(Segment {
-        address: from,
-        cells,
-    }) {
-        Ok(()) => Ok(count),
-        Err(_) => Err(AllocError),
-    }
+    put_segment(segments, from, &cells[..count + 1])?;
+    Ok(count)
 }
 
 /// The segments of the cells of core storage, by address.

@@ -1,23 +1,21 @@
-//! The listing of an image, whole or written as it is made.
+//! The listing of an image, written as it is made.
 ghost use Rattle.std.specs.Prelude.{◌≡◌, ◌+◌, ◌++◌, ◌<◌, ◌≤◌, ℕ, List, [], length, vec_capacity, IsTrue};
 ghost use Rattle.std.specs.Prelude.{IfOk, OnOk, OnErr};
-ghost use Rattle.std.specs.List.{flat_map};
 ghost use Rattle.std.specs.Io.KnownBytes.{Appends};
 ghost use Rattle.bcd_1401.specs.declared.cell.Cell.{Cell as ACell};
 ghost use Rattle.core_1401.specs.Cells.{most_cells};
 ghost use Rattle.autocoder_placing.specs.Cells.{numbered};
 ghost use Rattle.bytes_streams.specs.Page.{most_in_page, Sent};
 ghost use Rattle.bytes_streams.specs.Sink.{AppendsPart};
-ghost use Rattle.autocoder_deck.specs.ImageListing.{listing_text, marked_line, marked_text, most_in_segment};
-ghost use Rattle.autocoder_deck.specs.ImageListing.{start_line};
-ghost use Rattle.autocoder_deck.specs.Stretches.{built, placed_cells, IsReady};
+ghost use Rattle.autocoder_deck.specs.ImageListing.{listing_text, most_in_segment, start_line};
+ghost use Rattle.autocoder_deck.specs.Stretches.{placed_cells, IsReady};
 ghost use Rattle.autocoder_deck.specs.Writing.{listed, HasRoom};
 
-use crate::image_listing::{put_last, put_segment};
+use crate::image_listing::{put_lines, put_segment, put_start};
 use autocoder_placing::Builder;
 use bytes_streams::{Failed, PAGE, Sink, make_room, put_all};
 use core_1401::MOST_CELLS;
-use machine_image::{Image, LentImage, Segment};
+use machine_image::{LentImage, Segment};
 use std::alloc::{AllocError, Global};
 
 /// The most bytes that the stretches of a segment take: 96 for each of its cells.
@@ -52,7 +50,7 @@ impl ListingRoom {
     }
 }
 
-/// Adds the lines of the stretches of a segment, but for the last stretch, which may go on.
+/// Adds the lines of the stretches of a segment, but for the last stretch, which may go on. There is room for them.
 fn put_in_room(text: &mut Vec<u8>, builder: &mut Builder, segment: &Segment)
     requires ready { IsReady builder.old }
     requires room { length text.old.items + most_in_segment ≤ vec_capacity text.old }
@@ -61,7 +59,10 @@ fn put_in_room(text: &mut Vec<u8>, builder: &mut Builder, segment: &Segment)
     ensures ready { IsReady builder.new }
     ensures capacity { vec_capacity text.old ≤ vec_capacity text.new }
 {
-    put_segment(text, &[], builder, segment);
+    match put_segment(text, &[], builder, segment) {
+        Ok(()) => {},
+        Err(_) => unreachable!(),
+    }
 }
 
 /// Writes the lines of the stretches of an image, but for those that still have room, and for the last stretch.
@@ -90,13 +91,28 @@ fn write_segments<W: Sink>(
     Ok(())
 }
 
-/// Adds the line of the last stretch, and the last line.
-fn put_end(text: &mut Vec<u8>, builder: &mut Builder, start: u16)
+/// Adds the line of the last stretch, and the last line. There is room for them.
+fn put_last(text: &mut Vec<u8>, builder: &mut Builder, start: u16)
     requires ready { IsReady builder.old }
     requires room { length text.old.items + most_in_segment ≤ vec_capacity text.old }
     ensures { text.new.items ≡ listed text.old builder.old [] ++ start_line start }
 {
-    put_last(text, &[], builder, start);
+    match close(text, builder, start) {
+        Ok(()) => {},
+        Err(_) => unreachable!(),
+    }
+}
+
+/// Adds the line of the last stretch, and the last line.
+fn close(text: &mut Vec<u8>, builder: &mut Builder, start: u16) -> Result<(), AllocError>
+    requires { builder.old.done.items ≡ [] }
+    ensures text { OnOk result (text.new.items ≡ listed text.old builder.old [] ++ start_line start) }
+    ensures full { IsReady builder.old
+        → OnErr result (vec_capacity text.old < length text.old.items + most_in_segment) }
+{
+    builder.close()?;
+    put_lines(text, &[], &builder.done)?;
+    put_start(text, start)
 }
 
 /// Writes the lines that are left.
@@ -115,7 +131,7 @@ fn write_last<W: Sink>(
     ensures failed { OnErr result (IsTrue (W.has_failed writer.new)) }
 {
     make_room(text, SEGMENT_BYTES, writer)?;
-    put_end(text, builder, start);
+    put_last(text, builder, start);
     put_all(writer, text.as_slice())
 }
 
@@ -142,46 +158,4 @@ pub fn write_listing<W: Sink>(
     } = room;
     write_segments(&mut text, &mut builder, image, writer)?;
     write_last(&mut text, &mut builder, image.start(), writer)
-}
-
-/// Adds the lines of the stretches of segments, but for the last stretch, and makes room for it and for the last line.
-fn put_segments(
-    text: &mut Vec<u8>,
-    carried: &[bool],
-    builder: &mut Builder,
-    segments: &[Segment],
-) -> Result<(), AllocError>
-    requires { IsReady builder.old }
-    ensures text { OnOk result (text.new.items ++ flat_map (marked_line carried.now) (built builder.new [])
-        ≡ text.old.items ++ flat_map (marked_line carried.now) (built builder.old (placed_cells segments.now))) }
-    ensures ready { OnOk result (IsReady builder.new) }
-    ensures room { OnOk result (length text.new.items + most_in_segment ≤ vec_capacity text.new) }
-{
-    for segment in segments {
-        text.reserve(SEGMENT_BYTES)?;
-        put_segment(text, carried, builder, segment);
-    }
-    text.reserve(SEGMENT_BYTES)
-}
-
-/// The listing of an image: a line for each stretch of cells from a word mark up to the next one, in the order in which
-/// the image has them. A stretch that is an instruction of this machine, of a length that it may have, and that the
-/// assembler makes again of its text, is shown with its address, its characters and its text; any other with its address
-/// and its cells, as the console shows them. An asterisk follows each address at which an instruction was carried out:
-/// those that `carried` says so of, from 000 on. The last line is the entry's.
-///
-/// # Errors
-///
-/// If the memory for the text is refused.
-#[tactic(auto, unfolding(crate::specs::ImageListing::marked_text))]
-pub fn list_marked(alloc: Global, image: &Image, carried: &[bool]) -> Result<Vec<u8>, AllocError>
-    ensures { IfOk result (λ text. text.items ≡ marked_text carried.now image.now) }
-{
-    let ListingRoom {
-        mut text,
-        mut builder,
-    } = ListingRoom::reserve(alloc)?;
-    put_segments(&mut text, carried, &mut builder, image.segments.as_slice())?;
-    put_last(&mut text, carried, &mut builder, image.start);
-    Ok(text)
 }

@@ -2,7 +2,7 @@
 ghost use Rattle.std.specs.Prelude.{◌≡◌, ◌==◌, ◌∷◌, [], length};
 ghost use Rattle.std.specs.List.{list_any};
 ghost use Rattle.autocoder_deck.specs.Assembled.{is_spelled, is_spelling};
-ghost use Rattle.autocoder_deck.specs.WrittenAgain.{is_written_again};
+ghost use Rattle.autocoder_deck.specs.WrittenAgain.{has_form, is_no_operation, is_write, is_written_again};
 ghost use Rattle.machine_notation.specs.InstructionText.{d_in};
 
 use bcd_1401::{Cell, Char};
@@ -40,27 +40,42 @@ fn d_in(beyond: &[Cell]) -> Option<u8>
     }
 }
 
-/// Whether the assembler makes the same cells of an instruction's text, if the machine has the instruction: a write may
-/// have a lozenge, and a no operation a d-character after two addresses.
+/// Whether a write of a line may have these characters after its operation.
+fn is_write(beyond: &[Cell]) -> bool
+    ensures { result ≡ is_write beyond.now }
+{
+    match d_in(beyond) {
+        Some(d) => d == b')',
+        None => true,
+    }
+}
+
+/// Whether a no operation may have this many characters more.
+fn is_no_operation(more: usize) -> bool
+    ensures { result ≡ is_no_operation more }
+{
+    more == 0 || more == 3 || more == 6 || more == 7
+}
+
+/// Whether a language of the assembler has a form of an operation with these characters after it.
+fn has_form(operation: u8, beyond: &[Cell]) -> bool
+    ensures { result ≡ has_form operation beyond.now }
+{
+    if operation == b'2' {
+        return is_write(beyond);
+    }
+    if operation == b'N' {
+        return is_no_operation(beyond.len());
+    }
+    true
+}
+
+/// Whether the assembler makes the same cells of an instruction's text, if the machine has the instruction.
 pub(crate) fn is_written_again(cells: &[Cell]) -> bool
     ensures { result ≡ is_written_again cells.now }
 {
     let [operation, beyond @ ..] = cells else {
         return false;
     };
-    if !is_spelled(beyond) {
-        return false;
-    }
-    let operation = operation.char.graphic();
-    if operation == b'2' {
-        return match d_in(beyond) {
-            Some(d) => d == b')',
-            None => true,
-        };
-    }
-    if operation == b'N' {
-        let more = beyond.len();
-        return more == 0 || more == 3 || more == 6 || more == 7;
-    }
-    true
+    is_spelled(beyond) && has_form(operation.char.graphic(), beyond)
 }

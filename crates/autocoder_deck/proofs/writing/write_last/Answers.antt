@@ -28,7 +28,7 @@ returns-clause-ok g c =
     (sent_before old between c.args.text.now.items c.make_room.new.page.items last c.in_ok-make_room.ensures.sent) in
     on_ok_weaker c.put_all.result
     (λ all. sent_rest old between new _ _ sent
-    (subst (λ text. Appends between new text) (c.as_slice.ensures.value ∙ c.put_end.ensures) all))
+    (subst (λ text. Appends between new text) (c.as_slice.ensures.value ∙ c.put_last.ensures) all))
     c.put_all.ensures.ok
 
 pub returns-clause-part : goal.returns-clause-part
@@ -41,5 +41,5 @@ returns-clause-part g c =
     (sent_before old between c.args.text.now.items c.make_room.new.page.items last c.in_ok-make_room.ensures.sent) in
     on_err_weaker c.put_all.result
     (λ part. sent_part old between new _ _ sent
-    (subst (λ text. AppendsPart between new text) (c.as_slice.ensures.value ∙ c.put_end.ensures) part))
+    (subst (λ text. AppendsPart between new text) (c.as_slice.ensures.value ∙ c.put_last.ensures) part))
     c.put_all.ensures.part
