@@ -1,6 +1,8 @@
 """`./release`, in a copy of the repository in which a gate of its own has been noted: what it makes, and what it
 refuses. That the gate proves the program is for ./check to show."""
+import contextlib
 import gzip
+import io
 import os
 import re
 import shutil
@@ -13,6 +15,7 @@ from releasing.completion import for_bash, for_fish, for_zsh
 from releasing.helps import lesson_page, pages_of
 from releasing.package import compressed
 from releasing.proved import bare, checksum, complete_note, note_of, program_of, sources, write_note
+from tests import installed
 from tests.support import PROGRAM, TOP, ProgramTest, needs, program, repository, run
 from tests.tools.test_launcher import without_toolchain
 
@@ -110,7 +113,7 @@ class Refusals(ReleaseTest):
         self.refuses("nothing printed", "the gate has failed: it printed nothing")
 
     def test_tests_that_failed(self):
-        """The gate alone isn't enough, and a gate that is run again begins anew."""
+        """The gate alone isn't enough; a later gate needs its own."""
         fault = "the tests of the program haven't all passed here; ./check runs them"
         self.prove(checked=None)
         self.refuses("the gate alone", fault)
@@ -269,6 +272,18 @@ class Made(ReleaseTest):
         self.gives_lessons(room / "usr", room / "usr/share/doc/ibm1401/examples/course")
         owners = run(["dpkg-deb", "-c", package]).stdout.decode().splitlines()
         self.same("whose the files are", {line.split()[1] for line in owners}, {"root/root"})
+
+    def test_a_package_that_has_changed_is_not_installed(self):
+        self.made()
+        package = self.folder / "dist" / PACKAGE
+        content = bytearray(package.read_bytes())
+        content[len(content) // 2] ^= 1
+        package.write_bytes(content)
+        root, said = installed.Root(self.folder), io.StringIO()
+        with contextlib.redirect_stdout(said):
+            installed.try_installed(root, package)
+        self.same("it", (root.passed, root.failed), (0, 1))
+        self.same("what it says", said.getvalue(), "FAILED  the package: its checksum: SHA256SUMS has another\n")
 
     @needs("lintian")
     def test_lintian_has_nothing_to_say(self):
