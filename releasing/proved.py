@@ -1,7 +1,7 @@
 """What the gate has proved: `./check` notes it next to the program, and `./release` compares.
 
 The note is crates/ibm1401/out/ibm1401.proved, which no commit has: what the gate printed, the toolchain, and the
-checksums of each source and of the program."""
+checksums of each source and of the program. Once all that ./check runs has passed, its last line is added."""
 import hashlib
 import json
 import os
@@ -13,6 +13,8 @@ from pathlib import Path
 ALONE = "crates.txt", "HANDLES"
 # What a record begins with, as crates/ibm1401/src/version.rt has it.
 RECORD = b"commit "
+# The last line of a gate, and of ./check, if nothing failed.
+PASSED = re.compile(r"\d+ passed, 0 failed")
 # The lines that each run of the gate prints of the same sources, but for what follows in them.
 EACH_RUN = re.compile(r"rt: \w+ (?:proved|is kept|ran, and|ran \(built).*|rt: must-fail .*|rt: ok; .*")
 
@@ -101,14 +103,24 @@ def write_note(top, before, printed, toolchain):
     program_of(top).write_bytes(with_record(program, commit_of(top), toolchain))
 
 
+def complete_note(top, counts):
+    """Adds the last line of a ./check in which nothing failed, tests of the program included, to the gate's note."""
+    if note_of(top).exists():
+        noted = json.loads(note_of(top).read_text())
+        note_of(top).write_text(json.dumps({**noted, "checked": counts}, indent=1))
+
+
 def read_note(top):
-    """The gate's note, if the sources and the program are those that it is about, and are committed."""
+    """The gate's note, if the whole ./check has passed, and the sources and the program are those that it is about,
+    and are committed."""
     if not note_of(top).exists():
         raise Refused("the gate has proved no program here; ./check does")
     noted = json.loads(note_of(top).read_text())
-    last = noted["printed"].splitlines()[-1:]
-    if not last or not last[0].endswith(" passed, 0 failed"):
-        raise Refused(f"the gate has failed: {last[0] if last else 'it printed nothing'}")
+    last = "".join(noted["printed"].splitlines()[-1:]) or "it printed nothing"
+    if not PASSED.fullmatch(last):
+        raise Refused(f"the gate has failed: {last}")
+    if not PASSED.fullmatch(noted.get("checked", "")):
+        raise Refused("the tests of the program haven't all passed here; ./check runs them")
     now = sources(top)
     changed = [name for name in sorted({*now, *noted["sources"]}) if now.get(name) != noted["sources"].get(name)]
     if changed:

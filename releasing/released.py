@@ -1,6 +1,6 @@
 #!/usr/bin/env python3
-"""Names the program of the release in dist/ for the launcher: it is checked and unpacked once, into crates/ibm1401/out
-or, if that can't be written to, into the user's cache.
+"""Names the program of the release in dist/ for the launcher: it is unpacked once, into crates/ibm1401/out or, if that
+can't be written to, into the user's cache. Each start checks all bytes of the release, and those of the program.
 
     releasing/released.py [WORDS]   prints the folder of the program that is to be run for these words
 
@@ -8,7 +8,6 @@ Without the toolchain that is the release's in any case. With the toolchain it i
 nothing is built here and the sources are those of the release. The status is 2 if there is no such program, and 1 if
 the release is refused."""
 import gzip
-import io
 import os
 import shutil
 import sys
@@ -36,17 +35,35 @@ def noted_in(text):
     return {name: each for each, blanks, name in rows if blanks}
 
 
-def program_in(archive, sums, proof):
-    """The program of an archive, if the checksums are those of the release."""
-    content = archive.read_bytes()
-    if sums.get(archive.name) is None:
-        raise Refused(f"dist/{archive.name} isn't of the release that dist/SHA256SUMS names")
-    if checksum(content) != sums[archive.name]:
-        raise Refused(f"dist/{archive.name} is damaged: its checksum is another")
-    with tarfile.open(fileobj=io.BytesIO(content)) as files:
+def whole(dist, archive):
+    """The checksums of the release, if each of its files has the one that SHA256SUMS says, and that has no other byte
+    than ./release writes."""
+    text = (dist / "SHA256SUMS").read_bytes().decode()
+    sums = noted_in(text)
+    for name in archive.name, "PROVED.txt.gz":
+        if name not in sums:
+            raise Refused(f"dist/{name} isn't of the release that dist/SHA256SUMS names")
+    for name, known in sums.items():
+        if not (dist / name).is_file():
+            raise Refused(f"dist/ is damaged: it has no {name}, which dist/SHA256SUMS names")
+        if checksum((dist / name).read_bytes()) != known:
+            raise Refused(f"dist/{name} is damaged: its checksum is another")
+    if text != "".join(f"{sums[name]}  {name}\n" for name in sorted(sums)):
+        raise Refused("dist/SHA256SUMS is damaged: it has other lines than those of the release")
+    return sums
+
+
+def is_program(content, proof):
+    """Whether these bytes are the program of the release."""
+    return f"{checksum(content)}  usr/{PROGRAM}" in proof
+
+
+def program_in(archive, proof):
+    """The program of an archive, if it is that of the release."""
+    with tarfile.open(archive) as files:
         member = next((each for each in files if each.isfile() and each.name.partition("/")[2] == PROGRAM), None)
         program = files.extractfile(member).read() if member else b""
-    if f"{checksum(program)}  usr/{PROGRAM}" not in proof:
+    if not is_program(program, proof):
         raise Refused(f"dist/{archive.name} has another program than dist/PROVED.txt.gz")
     return program
 
@@ -92,16 +109,19 @@ def released(top, words):
     if archive is None or words == ["--build"] or (has_toolchain and program_of(top).exists()):
         return None
     try:
-        sums = noted_in((top / "dist/SHA256SUMS").read_text())
+        sums = whole(top / "dist", archive)
         proof = gzip.decompress((top / "dist/PROVED.txt.gz").read_bytes()).decode()
     except (OSError, EOFError, ValueError) as why:
         raise Refused(f"dist/ is damaged: {why}") from why
-    place = place_of(top, sums.get(archive.name, "unknown"))
+    place = place_of(top, sums[archive.name])
     is_same = is_as_released(top, place, proof) if has_toolchain or not (place / PROGRAM).exists() else True
     if has_toolchain and not is_same:
         return None
-    if not (place / PROGRAM).exists():
-        unpack(program_in(archive, sums, proof), place)
+    if (place / PROGRAM).exists():
+        if not is_program((place / PROGRAM).read_bytes(), proof):
+            raise Refused(f"{place / PROGRAM} is damaged: it isn't the program of the release; remove it")
+    else:
+        unpack(program_in(archive, proof), place)
         first, proved_by = proof.splitlines()[:2]
         changed = "" if is_same else ", from other sources than those here"
         print(f"ibm1401: this is {first}, of dist/{archive.name}, {proved_by}{changed}; to prove it here, install that "

@@ -15,6 +15,8 @@ import tempfile
 import time
 from pathlib import Path
 
+from releasing.proved import checksum
+from releasing.released import noted_in
 from tests.support import REPLY_SECONDS, TOP, Console, a_port, run
 from tests.tools.test_docs import rows_of, shown_job
 from tests.serving.test_unit import words_of
@@ -126,7 +128,12 @@ def try_completion(root):
 
 
 def try_installed(root, package):
-    """Installs a package, tries it, and removes it again."""
+    """Installs a package, tries it, and removes it again; one whose checksum is another isn't installed."""
+    sums = noted_in((Path(package).parent / "SHA256SUMS").read_text())
+    is_whole = checksum(Path(package).read_bytes()) == sums.get(Path(package).name)
+    root.check("its checksum", "" if is_whole else "SHA256SUMS has another")
+    if not is_whole:
+        return
     shutil.copy(package, root.folder / "tmp/ibm1401.deb")
     before = root.files()
     installed = root.run("dpkg", "-i", "/tmp/ibm1401.deb")

@@ -9,6 +9,7 @@ import random
 import re
 import resource
 import select
+import shutil
 import signal
 import socket
 import subprocess
@@ -81,6 +82,16 @@ def end_late(process):
         except subprocess.TimeoutExpired:
             continue
     return None, None
+
+
+def lacks(*commands):
+    """Which of these commands this host hasn't, as a text."""
+    return ", ".join(each for each in commands if shutil.which(each, path=f"{os.environ['PATH']}:/usr/sbin") is None)
+
+
+def needs(*commands):
+    """Leaves a test out, which says so, where this host lacks one of these commands."""
+    return unittest.skipIf(lacks(*commands), f"{lacks(*commands)} isn't installed")
 
 
 def program(*words, lines=b"", **how):

@@ -5,7 +5,7 @@ import subprocess
 import unittest
 
 from tests.peer import image
-from tests.support import EXAMPLES, PROGRAM, SECONDS, ProgramTest, program, wait_until
+from tests.support import EXAMPLES, PROGRAM, SECONDS, ProgramTest, needs, program, wait_until
 from tests.files.test_loaded_decks import HAND_PUNCHED
 from tests.files.test_reel import between, codes
 
@@ -157,15 +157,18 @@ class Outputs(Replaced):
                 self.holds(f"{name}: their file", self.theirs, THEIRS)
                 self.same(f"{name}: nothing is left over", list(self.folder.glob("*.part")), [])
 
+    @needs("cc")
     def test_an_image_and_a_deck(self):
         self.expect_let_be("assemble", SOURCE, "-o")
         self.expect_let_be("assemble", SOURCE, "--deck")
 
+    @needs("cc")
     def test_the_image_of_a_deck_that_is_run(self):
         deck = self.folder / "deck"
         deck.write_text(HAND_PUNCHED)
         self.expect_let_be("run", "--load", deck, "--image")
 
+    @needs("cc")
     def test_the_deck_of_a_reel_and_the_reel_of_a_deck(self):
         self.expect_let_be("reel", self.reel, "--deck")
         deck = self.folder / "deck"

@@ -7,6 +7,8 @@ import tempfile
 import unittest
 from pathlib import Path
 
+from tests.support import needs
+
 TOP = Path(__file__).resolve().parents[2]
 PROGRAM = Path(os.environ.get("IBM1401", TOP / "crates/ibm1401/out/ibm1401")).absolute()
 SECONDS = 300
@@ -135,11 +137,13 @@ class WrittenWholeTest(unittest.TestCase):
         ran = self.program(*words, env={**os.environ, **more})
         return ran, events.read_bytes()
 
+    @needs("cc")
     def test_the_file_and_then_its_folder_are_forced_onto_the_disk(self):
         ran, events = self.preloaded(0, "-o", "out")
         self.assertEqual((ran.returncode, ran.stderr, events), (0, b"", b"wff"))
         self.assertEqual((self.folder / "out").read_bytes(), self.image)
 
+    @needs("cc")
     def test_a_file_that_is_not_forced_onto_the_disk_does_not_take_the_name(self):
         (self.folder / "out").write_text("old")
         ran, events = self.preloaded(1, "-o", "out")
@@ -147,6 +151,7 @@ class WrittenWholeTest(unittest.TestCase):
         self.assertEqual((self.folder / "out").read_text(), "old")
         self.assertEqual([each.name for each in self.folder.glob("*.part")], [])
 
+    @needs("cc")
     def test_a_folder_that_is_not_forced_onto_the_disk_is_let_be(self):
         ran, events = self.preloaded(2, "-o", "out")
         self.assertEqual((ran.returncode, ran.stderr, events), (0, b"", b"wfx"))

@@ -17,7 +17,7 @@ from pathlib import Path
 
 sys.dont_write_bytecode = True
 from tests.chains import DOUBTFUL, SIMH, SOURCE_SIMH
-from tests.support import PORTS_TRIED, SECONDS, at_a_port, free_ports
+from tests.support import PORTS_TRIED, SECONDS, at_a_port, free_ports, needs
 
 TOP = Path(__file__).resolve().parents[2]
 PROGRAM = Path(os.environ.get("IBM1401", TOP / "crates/ibm1401/out/ibm1401"))
@@ -390,6 +390,7 @@ class Options(unittest.TestCase):
         self.assertEqual((status, output, error, [*files]), (0, "", "", ["new"]))
         self.assertEqual(room.run(["run", "--load", "new"])[0], 0)
 
+    @needs("cc")
     def test_sync_forces_each_entry_onto_the_disk(self):
         room = Room(self)
         library = room.path / "refuse_sync.so"

@@ -9,7 +9,7 @@ import unittest
 from pathlib import Path
 
 sys.dont_write_bytecode = True
-from tests.support import TOP, ProgramTest, repository, run
+from tests.support import TOP, ProgramTest, needs, repository, run
 
 sys.path.append(str(TOP / "benches"))
 from histories import ENDED, PERHAPS, Entry, lost_of
@@ -146,6 +146,7 @@ class Table(ProgramTest):
         self.same("a figure has its date or its commit", [row for row in cells if bool(row[2]) != bool(row[5])], [])
 
 
+@needs("git")
 class All(ProgramTest):
     """benches/all in a repository whose benches are mocks."""
 

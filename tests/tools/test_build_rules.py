@@ -9,6 +9,7 @@ from pathlib import Path
 
 sys.dont_write_bytecode = True
 from tests.mock_toolchain import make_toolchain
+from tests.support import needs
 
 TOP = Path(__file__).resolve().parents[2]
 SECONDS = 300
@@ -17,6 +18,7 @@ SECONDS = 300
 CRATES = {"low": "", "left": " low", "right": " low thiserror", "ibm1401": " left right"}
 
 
+@needs("make")
 class BuildRules(unittest.TestCase):
     def setUp(self):
         folder = tempfile.TemporaryDirectory()

@@ -99,8 +99,17 @@ def named_on_paths():
         for file in re.findall(r"`([\w/]+[.]rt)`", cells[1]):
             folder = (TOP / "crates" / file).parent if "/" in file else folder
             files.append(folder / Path(file).name)
-        for name in re.findall(r"`(\w+)`", cells[2]):
+        for name in re.findall(r"`(\w+(?:::\w+)?)`", cells[2]):
             yield files, name
+
+
+def has_name(source, name):
+    """Whether a source has a name, or the function of a type if the name is of one."""
+    holder, _, function = name.rpartition("::")
+    if not holder:
+        return re.search(rf"\b{name}\b", source)
+    parts = re.findall(rf"^impl\b[^{{]*\b{holder}\b[^{{]*\{{\n(.*?)^\}}", source, re.MULTILINE | re.DOTALL)
+    return any(re.search(rf"\bfn {function}\b", part) for part in parts)
 
 
 class Pages(ProgramTest):
@@ -114,7 +123,7 @@ class Pages(ProgramTest):
         named = list(named_on_paths())
         self.assertTrue(named)
         for files, name in named:
-            lacks = "" if any(re.search(rf"\b{name}\b", file.read_text()) for file in files) else f"{files} don't have it"
+            lacks = "" if any(has_name(file.read_text(), name) for file in files) else f"{files} don't have it"
             self.check(name, lacks)
 
     def test_the_map_has_the_crates_and_what_each_needs(self):
@@ -189,14 +198,27 @@ class Names(ProgramTest):
         self.same("the replies", sorted(rows), sorted(texts))
 
     def test_each_test_that_a_page_names_is_there(self):
-        """What is in code and has three underscores or more is a test, unless the sources know the name."""
+        """What is in code and begins with test_ is a module, a class or a test; so is what has three underscores or more,
+        unless the sources know the name."""
         tests, others = known_tests(), known_names()
         for page in [*PAGES, *(TOP / folder / "README.md" for folder in ("benches", "examples", "tests"))]:
             text = re.sub(r"```.*?```", "", page.read_text(), flags=re.DOTALL)
             named = set(re.findall(r"`([a-z0-9]+(?:_[a-z0-9]+){3,})`", text)) - others
-            table = text.partition("| Call | Test |\n")[2].partition("\n\n")[0]
-            named |= set(re.findall(r"^\|.* \| `(\w+)` \|$", table, re.MULTILINE))
+            for code in re.findall(r"`([^`\n]+)`", text):
+                named |= set(re.findall(r"\btest_\w+\b", code))
             self.same(f"{page.relative_to(TOP)}: tests that aren't there", sorted(named - tests), [])
+
+    def test_each_call_and_each_word_of_a_trial_that_failures_names_is_there(self):
+        page = (TOP / "docs/FAILURES.md").read_text()
+        rows = page.partition("\n| Call | Words |\n|---|---|\n")[2].partition("\n\n")[0].splitlines()
+        self.assertTrue(rows)
+        trials = (TOP / "crates/tests_library/src/tables.rt").read_text()
+        words, known = set(re.findall(r'\(\s*"(\w+)",\s*Subject::', trials)), known_names()
+        for row in rows:
+            calls, shown = row.strip("| ").split(" | ")
+            own = calls.partition(";")[0] if shown.startswith("each its own") else ""
+            self.same(f"{calls}: words of no trial", set(re.findall(r"`(\w+)`", own + shown)) - words, set())
+            self.same(f"{calls}: no such call", set(re.findall(r"`(?:\w+::)?(\w+)`", calls)) - known, set())
 
 
 class Features(ProgramTest):

@@ -5,6 +5,7 @@ import unittest
 from pathlib import Path
 
 from tests import words
+from tests.edit_texts import further_crates, further_edits
 
 TOP = Path(__file__).resolve().parents[2]
 DOCS = TOP / "docs"
@@ -137,6 +138,20 @@ class Tree(unittest.TestCase):
         readme = " ".join((TOP / "README.md").read_text().split())
         self.assertIn(f"proves all {counts['ibm1401']} crates; "
                       f"`console` alone needs only {counts['console_program']} crates", readme)
+        self.assertIn(f"a first `./ibm1401 console`, {counts['console_program']} crates",
+                      (TOP / "benches/README.md").read_text())
+
+    def test_pages_say_how_many_wrong_bodies_the_gate_tries(self):
+        tried = sorted((TOP / "crates").glob("*/must-fail/*.edit"))
+        further = sum(len(further_edits(crate)) for crate in further_crates())
+        readme = " ".join((TOP / "README.md").read_text().split())
+        self.assertIn(f"the prover rejects {len(tried)} deliberately wrong functions; "
+                      "a release tries over a thousand more", readme)
+        self.assertGreater(further, 1_000)
+        self.assertIn(f"`crates/*/must-fail/`, {len(tried)} of them", (TOP / "benches/README.md").read_text())
+        crates = {edit.parent.parent.name for edit in tried}
+        section = (DOCS / "CONTRIBUTING.md").read_text().partition("\n## Wrong bodies\n")[2].partition("\n## ")[0]
+        self.assertEqual(set(names_in(section)) & self.crates(), crates)
 
     def test_readme_quotes_a_step_as_the_code_has_it(self):
         """Each paragraph of what it shows of a source or of definitions is in the file that the line above names."""
@@ -160,7 +175,7 @@ class Tree(unittest.TestCase):
     def test_readme_says_how_large_the_whole_is(self):
         """To a tenth, so a change of some lines needs no other figure."""
         readme = " ".join((TOP / "README.md").read_text().split())
-        said = re.search(r"Some ([\d,]+) lines of code have ([\d,]+) of definitions and ([\d,]+) of proofs", readme)
+        said = re.search(r"some ([\d,]+) lines of code, ([\d,]+) of definitions and ([\d,]+) of proofs", readme)
         for number, part in zip(said.groups(), ("src", "specs", "proofs")):
             files = [each for each in (TOP / "crates").glob(f"*/{part}/**/*") if each.suffix in (".rt", ".antt")]
             count = sum(len(each.read_text().splitlines()) for each in files)

@@ -1,4 +1,5 @@
 """The launcher: what it runs, and how it proves and builds what isn't built, with a mock of the toolchain."""
+import json
 import os
 import re
 import select
@@ -7,11 +8,12 @@ import signal
 import subprocess
 import unittest
 
+from releasing import released
 from releasing.package import compressed, write_tar
-from releasing.proved import checksum, sources
+from releasing.proved import Refused, checksum, note_of, sources
 from tests.mock_toolchain import VERSION, make_toolchain
 from tests.support import (
-    LAUNCHER, PROGRAM, REPLY_SECONDS, SECONDS, TOP, ProgramTest, repository, run, wait_until,
+    LAUNCHER, PROGRAM, REPLY_SECONDS, SECONDS, TOP, ProgramTest, needs, repository, run, wait_until,
 )
 
 # The signals that interrupt a launcher.
@@ -65,6 +67,7 @@ class Launched(ProgramTest):
         self.expect("it", run([LAUNCHER, "console", "--bad"]), 2, "", "error: ...")
 
 
+@needs("make")
 class Building(ProgramTest):
     """The launcher in a folder of its own, with crates whose sources are of one size and a toolchain that proves
     nothing."""
@@ -152,6 +155,7 @@ class Building(ProgramTest):
         self.expect("it is run", self.launch("load"), 0, "load\n")
         self.expect("a console is one of it", self.launch("console"), 0, "console\n")
 
+    @needs("git")
     def test_the_record_of_a_build(self):
         """It is at the end of the program, and says which commit was built, and by which toolchain."""
         built = self.folder / "crates/ibm1401/out/ibm1401"
@@ -254,7 +258,7 @@ class One(unittest.TestCase):
         self.assertEqual(run([PROGRAM, "load"]).stdout, b"released load\\n")
 """
 PROGRAM_OF_RELEASE = b'#!/bin/sh\necho released "$@"\n'
-ARCHIVE = "ibm1401-0.9.0-x86_64-linux.tar.gz"
+ARCHIVE, PACKAGE = "ibm1401-0.9.0-x86_64-linux.tar.gz", "ibm1401_0.9.0-1_amd64.deb"
 FIRST = f"ibm1401: this is ibm1401 0.9.0, commit 0123, of dist/{ARCHIVE}, proved by a toolchain"
 REST = "; to prove it here, install that toolchain (README.md, Get it)\n"
 
@@ -271,6 +275,7 @@ def add_release(folder, program=PROGRAM_OF_RELEASE):
     proof = ("ibm1401 0.9.0, commit 0123\nproved by a toolchain\n\n"
              f"{checksum(PROGRAM_OF_RELEASE)}  usr/bin/ibm1401: it\n\nSOURCES\n\n{sums}")
     (dist / "PROVED.txt.gz").write_bytes(compressed(proof.encode()))
+    (dist / PACKAGE).write_bytes(b"a package\n")
     note_sums(dist)
 
 
@@ -331,13 +336,7 @@ class Released(ProgramTest):
 
     def test_check_without_the_toolchain(self):
         """It tests the release's program, and says that no proof was checked; what a merge asks for fails."""
-        copied = "check", ".ci", "page", *(f"tests/{name}.py" for name in ("__init__", "support", "runner", "edit_texts"))
-        for name in copied:
-            copy = shutil.copytree if (TOP / name).is_dir() else shutil.copy
-            copy(TOP / name, self.folder / name)
-        (self.folder / "tests/tools").mkdir()
-        (self.folder / "tests/tools/__init__.py").touch()
-        (self.folder / "tests/tools/test_one.py").write_text(ONE_TEST)
+        lay_out_check(self.folder, ONE_TEST)
         ran = run([self.folder / "check"], env=self.env)
         said = ran.stdout.decode().splitlines()
         self.same("its status", (ran.returncode, ran.stderr), (0, (FIRST + REST).encode()))
@@ -351,37 +350,154 @@ class Released(ProgramTest):
         self.same("without a release", (ran.returncode, ran.stdout.decode().splitlines()[0]),
                   (1, f"{fault}, and dist/ has no release"))
 
+    def refuses(self, name, change, why):
+        """Subtests: a changed release is refused with one line, both before and after its program was unpacked; then it
+        is put back."""
+        dist, made = self.folder / "dist", self.folder / "crates/ibm1401/out"
+        for when in "before it is unpacked", "afterwards":
+            change()
+            ran = self.launch("load")
+            end = "" if why.endswith("...") else "\n"
+            self.expect(f"{name}, {when}", ran, 1, "", f"ibm1401: release refused: {why}{end}")
+            self.same(f"{name}, {when}: how many lines", ran.stderr.count(b"\n"), 1)
+            shutil.rmtree(dist)
+            add_release(self.folder)
+            if when == "before it is unpacked":
+                self.expect(f"{name}: a good one", self.launch("load"), 0, "released load\n", FIRST + REST)
+        self.expect(f"{name}: a good one again", self.launch("load"), 0, "released load\n")
+        shutil.rmtree(made)
+
     def test_what_is_refused(self):
         dist = self.folder / "dist"
+        other = ARCHIVE.replace("0.9.0", "0.9.1")
 
-        def damage():
-            content = bytearray((dist / ARCHIVE).read_bytes())
-            content[-9] ^= 1
-            (dist / ARCHIVE).write_bytes(content)
-
-        def rename():
-            (dist / ARCHIVE).rename(dist / ARCHIVE.replace("0.9.0", "0.9.1"))
+        def damage(name, place=-9):
+            content = bytearray((dist / name).read_bytes())
+            content[place] ^= 1
+            (dist / name).write_bytes(content)
 
         def exchange():
             write_tar(dist / ARCHIVE, {"usr/bin/ibm1401": b"#!/bin/sh\necho another\n"}, "ibm1401-0.9.0", 0)
             note_sums(dist)
 
+        def halve():
+            (dist / "PROVED.txt.gz").write_bytes(compressed(b"proved " * 9)[:20])
+            note_sums(dist)
+
+        for name in ARCHIVE, PACKAGE, "PROVED.txt.gz":
+            self.refuses(f"a byte of {name}", lambda: damage(name), f"dist/{name} is damaged: its checksum is another")
+        for name in ARCHIVE, PACKAGE, "PROVED.txt.gz":
+            at = (dist / "SHA256SUMS").read_text().index(name) - 5
+            self.refuses(f"a checksum of {name}", lambda: damage("SHA256SUMS", at),
+                         f"dist/{name} is damaged: its checksum is another")
         for name, change, why in [
-            ("one byte", damage, f"dist/{ARCHIVE} is damaged: its checksum is another"),
-            ("another name", rename,
-             f"dist/{ARCHIVE.replace('0.9.0', '0.9.1')} isn't of the release that dist/SHA256SUMS names"),
+            ("another name", lambda: (dist / ARCHIVE).rename(dist / other),
+             f"dist/{other} isn't of the release that dist/SHA256SUMS names"),
             ("another program", exchange, f"dist/{ARCHIVE} has another program than dist/PROVED.txt.gz"),
-            ("no proof", (dist / "PROVED.txt.gz").unlink, "dist/ is damaged: ..."),
-            ("half a proof", lambda: (dist / "PROVED.txt.gz").write_bytes(compressed(b"proved " * 9)[:20]),
-             "dist/ is damaged: ..."),
-            ("no checksums", (dist / "SHA256SUMS").unlink, "dist/ is damaged: ..."),
+            ("no proof", lambda: (dist / "PROVED.txt.gz").unlink(),
+             "dist/ is damaged: it has no PROVED.txt.gz, which dist/SHA256SUMS names"),
+            ("half a proof", halve, "dist/ is damaged: ..."),
+            ("no package", lambda: (dist / PACKAGE).unlink(),
+             f"dist/ is damaged: it has no {PACKAGE}, which dist/SHA256SUMS names"),
+            ("no checksums", lambda: (dist / "SHA256SUMS").unlink(), "dist/ is damaged: ..."),
+            ("the end of its last line", lambda: damage("SHA256SUMS", -1),
+             "dist/SHA256SUMS is damaged: it has other lines than those of the release"),
+            ("a line more", lambda: (dist / "SHA256SUMS").write_text(f"{(dist / 'SHA256SUMS').read_text()}\n"),
+             "dist/SHA256SUMS is damaged: it has other lines than those of the release"),
         ]:
-            change()
-            end = "" if why.endswith("...") else "\n"
-            self.expect(name, self.launch("load"), 1, "", f"ibm1401: release refused: {why}{end}")
-            shutil.rmtree(dist)
-            add_release(self.folder)
+            self.refuses(name, change, why)
+
+    def test_any_byte_of_the_checksums(self):
+        """Each byte of SHA256SUMS, changed by one bit, after the program was unpacked."""
         self.expect("a good one", self.launch("load"), 0, "released load\n", FIRST + REST)
+        sums, archive = self.folder / "dist/SHA256SUMS", self.folder / "dist" / ARCHIVE
+        content = sums.read_bytes()
+        for place in range(len(content)):
+            sums.write_bytes(content[:place] + bytes([content[place] ^ 1]) + content[place + 1:])
+            with self.assertRaises((Refused, OSError, ValueError), msg=f"byte {place}"):
+                released.whole(self.folder / "dist", archive)
+
+    def test_a_program_that_has_changed_since_it_was_unpacked(self):
+        """In the folder, and in the user's cache where that can't be written to."""
+        out = self.folder / "crates/ibm1401/out"
+        for name, place in ("the folder", out / "released"), ("the cache", self.folder / "home/.cache/ibm1401"):
+            self.expect(f"{name}: first", self.launch("load"), 0, "released load\n", FIRST + REST)
+            program = next(place.glob("*/bin/ibm1401"))
+            content = program.read_bytes()
+            program.write_bytes(content.replace(b"released", b"relaxed "))
+            why = f"{program} is damaged: it isn't the program of the release; remove it"
+            self.expect(f"{name}: changed", self.launch("load"), 1, "", f"ibm1401: release refused: {why}\n")
+            program.unlink()
+            self.expect(f"{name}: removed", self.launch("load"), 0, "released load\n", FIRST + REST)
+            shutil.rmtree(out)
+            out.mkdir()
+            (out / "released").write_text("no folder\n")
+
+
+# A toolchain whose gate builds programs that do nothing, and prints what its file has.
+GATE = """#!/bin/sh
+[ "$1" != version ] || { echo a toolchain; exit; }
+for name in ibm1401 console_program tests_library; do
+    mkdir -p crates/$name/out
+    printf '#!/bin/sh\\nexit\\n' > crates/$name/out/$name
+    chmod +x crates/$name/out/$name
+done
+cat printed
+grep -q ' 0 failed' printed
+"""
+ONE_THAT_MAY_FAIL = """import unittest
+
+from tests.support import TOP
+
+
+class One(unittest.TestCase):
+    def test_it(self):
+        self.assertFalse((TOP / "fails").exists())
+"""
+
+
+class Checked(ProgramTest):
+    """./check with a mock of the toolchain and one test: what it notes for ./release."""
+
+    def setUp(self):
+        lay_out_check(self.folder, ONE_THAT_MAY_FAIL)
+        shutil.copytree(TOP / "releasing", self.folder / "releasing")
+        for file in ("ibm1401", "crates.txt", "HANDLES", "tests/help.txt"):
+            shutil.copy(TOP / file, self.folder / file)
+        (self.folder / "bin").mkdir()
+        (self.folder / "bin/rt").write_text(GATE)
+        (self.folder / "bin/rt").chmod(0o755)
+        (self.folder / "printed").write_text("3 passed, 0 failed\n")
+
+    def checked(self, name, status, last, noted, **env):
+        """Subtests: ./check ends with this status and this last line, and its note has this."""
+        usual = {each: text for each, text in os.environ.items() if each not in ("IBM1401", "LONE_CONSOLE", "TRIALS")}
+        ran = run([self.folder / "check"], env={**usual, "PATH": f"{self.folder}/bin:{os.environ['PATH']}", **env})
+        said = ran.stdout.decode().splitlines()
+        self.same(name, (ran.returncode, said[-1:], ran.stderr), (status, [last], b""))
+        note = note_of(self.folder)
+        self.same(f"{name}: what is noted", json.loads(note.read_text()).get("checked") if note.exists() else None, noted)
+
+    def test_what_is_noted_for_a_release(self):
+        self.checked("all passed", 0, "4 passed, 0 failed", "4 passed, 0 failed")
+        self.checked("another program is tested", 0, "4 passed, 0 failed", None, IBM1401="/bin/true")
+        (self.folder / "fails").touch()
+        self.checked("a test failed", 1, "3 passed, 1 failed", None)
+        (self.folder / "fails").unlink()
+        (self.folder / "printed").write_text("2 passed, 1 failed\n")
+        self.checked("the gate failed", 1, "3 passed, 1 failed", None)
+        (self.folder / "printed").write_text("3 passed, 0 failed\n")
+        self.checked("all passed again", 0, "4 passed, 0 failed", "4 passed, 0 failed")
+
+
+def lay_out_check(folder, module):
+    """Puts ./check into a folder, with one module of tests."""
+    (folder / "tests/tools").mkdir(parents=True)
+    for name in "check", ".ci", "page", *(f"tests/{name}.py" for name in ("__init__", "support", "runner", "edit_texts")):
+        copy = shutil.copytree if (TOP / name).is_dir() else shutil.copy
+        copy(TOP / name, folder / name)
+    (folder / "tests/tools/__init__.py").touch()
+    (folder / "tests/tools/test_one.py").write_text(module)
 
 
 def without_toolchain():

@@ -9,6 +9,8 @@ import unittest
 from pathlib import Path
 
 sys.dont_write_bytecode = True
+from tests.support import needs
+
 TOP = Path(__file__).resolve().parents[2]
 PROGRAM = Path(os.environ.get("IBM1401", TOP / "crates/ibm1401/out/ibm1401"))
 COMMANDS = ["console", "assemble", "load", "disassemble", "reel", "run", "operate", "serve", "journal", "resume"]
@@ -71,6 +73,7 @@ class FreshClone(unittest.TestCase):
                 self.assertLess(seconds, AT_ONCE)
         self.assertFalse((self.room / "called").exists(), "the toolchain was called")
 
+    @needs("make")
     def test_any_other_call_needs_the_program(self):
         for words in [[], ["help", "nothing"], ["run", "help"], ["console", "--size", "--help"], ["--help", "console"]]:
             with self.subTest(" ".join(words)):

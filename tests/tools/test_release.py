@@ -1,6 +1,8 @@
 """`./release`, in a copy of the repository in which a gate of its own has been noted: what it makes, and what it
 refuses. That the gate proves the program is for ./check to show."""
+import contextlib
 import gzip
+import io
 import os
 import re
 import shutil
@@ -12,12 +14,14 @@ from releasing import released
 from releasing.completion import for_bash, for_fish, for_zsh
 from releasing.helps import lesson_page, pages_of
 from releasing.package import compressed
-from releasing.proved import bare, checksum, note_of, program_of, sources, write_note
-from tests.support import PROGRAM, TOP, ProgramTest, program, repository, run
+from releasing.proved import bare, checksum, complete_note, note_of, program_of, sources, write_note
+from tests import installed
+from tests.support import PROGRAM, TOP, ProgramTest, needs, program, repository, run
 from tests.tools.test_launcher import without_toolchain
 
 COPIED = "release", "releasing", "README.md", "CHANGELOG.md", "docs", "examples", "benches", "crates.txt", "HANDLES"
 PRINTED = "rt: bcd_1401 proved\n3 passed, 0 failed\n"
+CHECKED = "12 passed, 0 failed"
 # What the gate prints of the same sources where it proves all of them, and where an earlier run did; and what of both.
 ANEW = """\
 == core_1401
@@ -58,11 +62,6 @@ NEEDED = "dpkg-deb", "objdump", "git"
 PACKAGE, ARCHIVE = "ibm1401_0.9.0-1_amd64.deb", "ibm1401-0.9.0-x86_64-linux.tar.gz"
 
 
-def lacks(*commands):
-    """What of these commands isn't here."""
-    return ", ".join(each for each in commands if shutil.which(each, path=f"{os.environ['PATH']}:/usr/sbin") is None)
-
-
 class ReleaseTest(ProgramTest):
     """A copy of the repository with one crate, and the program under test as what its gate has built."""
 
@@ -81,18 +80,20 @@ class ReleaseTest(ProgramTest):
         (self.place / "crates/ibm1401/out").mkdir()
         self.prove()
 
-    def prove(self, printed=PRINTED, content=bare(PROGRAM.read_bytes())):
-        """Puts a program in its place, and notes it as what the gate has built."""
+    def prove(self, printed=PRINTED, content=bare(PROGRAM.read_bytes()), checked=CHECKED):
+        """Puts a program in its place, and notes it as what the gate has built and the tests have passed."""
         program_of(self.place).write_bytes(content)
         program_of(self.place).chmod(0o755)
         write_note(self.place, sources(self.place), printed, "a toolchain")
+        if checked:
+            complete_note(self.place, checked)
 
     def release(self, to="dist", **env):
         """A run of ./release into a folder of the test's own."""
         return run([self.place / "release", "--to", self.folder / to], env={**os.environ, **env})
 
 
-@unittest.skipIf(lacks(*NEEDED), f"there is no {lacks(*NEEDED)}")
+@needs(*NEEDED)
 class Refusals(ReleaseTest):
     """What is refused with status 1, and makes nothing."""
 
@@ -110,6 +111,18 @@ class Refusals(ReleaseTest):
         self.refuses("one failed", "the gate has failed: 2 passed, 1 failed")
         self.prove("")
         self.refuses("nothing printed", "the gate has failed: it printed nothing")
+
+    def test_tests_that_failed(self):
+        """The gate alone isn't enough; a later gate needs its own."""
+        fault = "the tests of the program haven't all passed here; ./check runs them"
+        self.prove(checked=None)
+        self.refuses("the gate alone", fault)
+        for counts in "11 passed, 1 failed", "", "12 passed, 0 failed, 1 left":
+            self.prove(checked=counts or " ")
+            self.refuses(repr(counts), fault)
+        self.prove()
+        self.prove(checked=None)
+        self.refuses("a later gate", fault)
 
     def test_another_program(self):
         """As if it were built without the gate."""
@@ -136,6 +149,7 @@ class Refusals(ReleaseTest):
         before = sources(self.place)
         (self.place / "crates.txt").write_text("bcd_1401:\n")
         write_note(self.place, before, PRINTED, "a toolchain")
+        complete_note(self.place, CHECKED)
         self.refuses("it", "the gate has proved no program here; ./check does")
 
     def test_what_no_commit_has(self):
@@ -151,7 +165,7 @@ class Refusals(ReleaseTest):
         self.expect("one", run([self.place / "release", "--now"]), 2, "", "usage: ./release [--to FOLDER]\n")
 
 
-@unittest.skipIf(lacks(*NEEDED), f"there is no {lacks(*NEEDED)}")
+@needs(*NEEDED)
 class Made(ReleaseTest):
     """What a release has."""
 
@@ -213,7 +227,8 @@ class Made(ReleaseTest):
         self.same("how many sources", len(proof.partition("SOURCES\n\n")[2].splitlines()), len(sources(self.place)))
         printed = f"WHAT EACH RUN OF THE GATE PRINTS\n\n{PRINTED}\n"
         self.check("what the gate printed", "" if printed in proof else proof[:500])
-        first = f"ibm1401 0.9.0, commit {self.commit}\nproved by a toolchain\n\n"
+        first = (f"ibm1401 0.9.0, commit {self.commit}\nproved by a toolchain\n\nthe gate: 3 passed, 0 failed\n"
+                 "the gate and the tests of the program, ./check: 12 passed, 0 failed\n\n")
         self.same("its head", proof.encode(), f"{first}{checksum(bare(PROGRAM.read_bytes()))}  the program that...")
 
     def test_the_archive(self):
@@ -258,13 +273,25 @@ class Made(ReleaseTest):
         owners = run(["dpkg-deb", "-c", package]).stdout.decode().splitlines()
         self.same("whose the files are", {line.split()[1] for line in owners}, {"root/root"})
 
-    @unittest.skipIf(lacks("lintian"), "there is no lintian")
+    def test_a_package_that_has_changed_is_not_installed(self):
+        self.made()
+        package = self.folder / "dist" / PACKAGE
+        content = bytearray(package.read_bytes())
+        content[len(content) // 2] ^= 1
+        package.write_bytes(content)
+        root, said = installed.Root(self.folder), io.StringIO()
+        with contextlib.redirect_stdout(said):
+            installed.try_installed(root, package)
+        self.same("it", (root.passed, root.failed), (0, 1))
+        self.same("what it says", said.getvalue(), "FAILED  the package: its checksum: SHA256SUMS has another\n")
+
+    @needs("lintian")
     def test_lintian_has_nothing_to_say(self):
         self.made()
         ran = run(["lintian", "--allow-root", "--tag-display-limit", "0", self.folder / "dist" / PACKAGE])
         self.expect("it", ran, 0, "")
 
-    @unittest.skipIf(lacks("man"), "there is no man")
+    @needs("man")
     def test_the_manual_pages(self):
         """Each is laid out without a warning, and has each option of its call with its help."""
         self.made()
@@ -297,6 +324,7 @@ class InTheTree(ProgramTest):
         self.proof = gzip.decompress((TOP / "dist/PROVED.txt.gz").read_bytes()).decode()
         self.is_of_these_sources = released.noted_in(self.proof.partition("SOURCES\n\n")[2]) == sources(TOP)
 
+    @needs("git")
     def test_a_fresh_clone_runs_it(self):
         """Without the toolchain, and with it before anything is built, if the sources are those of the release."""
         words = "run", "examples/sales.source", "--cards", "examples/sales.cards", "--switches", "A"
@@ -316,7 +344,8 @@ class InTheTree(ProgramTest):
         if not note_of(TOP).exists() or not self.is_of_these_sources:
             self.skipTest("the gate hasn't built the sources of the release here")
         archive = released.archive_in(TOP / "dist")
-        program = released.program_in(archive, released.noted_in((TOP / "dist/SHA256SUMS").read_text()), proof)
+        released.whole(TOP / "dist", archive)
+        program = released.program_in(archive, proof)
         self.check("its bytes", "" if bare(program) == bare(program_of(TOP).read_bytes()) else "they differ")
 
 
@@ -359,7 +388,7 @@ class Completions(ProgramTest):
         first = [name for name, _ in self.pages[0].commands]
         self.same("each call", self.completed("ibm1401 "), first + ["-h", "--help", "-V", "--version"])
 
-    @unittest.skipIf(lacks("fish"), "there is no fish")
+    @needs("fish")
     def test_fish(self):
         (self.folder / "completion").write_text(for_fish(self.pages))
         (self.folder / "sales.source").write_text("")
@@ -375,7 +404,7 @@ class Completions(ProgramTest):
         self.same("the languages", sorted(completed("ibm1401 run --language ")), ["ibm", "plain"])
         self.check("files", "" if "sales.source" in completed("ibm1401 run sal") else "none")
 
-    @unittest.skipIf(lacks("zsh"), "there is no zsh")
+    @needs("zsh")
     def test_zsh(self):
         """It is read without an error, and gives _arguments each option with its help."""
         (self.folder / "_ibm1401").write_text(for_zsh(self.pages))

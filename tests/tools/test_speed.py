@@ -8,7 +8,7 @@ import unittest
 
 from releasing import released
 from releasing.proved import bare, checksum, sources
-from tests.support import PROGRAM, TOP, ProgramTest, repository, run
+from tests.support import PROGRAM, TOP, ProgramTest, needs, repository, run
 
 WORKLOADS = sorted(file.stem for file in (TOP / "benches").glob("*.console"))
 ROW = re.compile(r"^\| speed --count \| (.*), (?:host instructions for each|times as good) "
@@ -65,6 +65,7 @@ class Counts(ProgramTest):
             self.check(name, "" if ran.returncode == 0 else (ran.stdout + ran.stderr).decode())
 
 
+@needs("git")
 class Ruler(ProgramTest):
     """`benches/speed --compare` and `--renew` in a copy, with a mock of valgrind."""
 
