@@ -1,5 +1,5 @@
 -- Sittings that took place.
-use Rattle.std.proofs.Common.{◌≡◌, ℕ, Bool, List, length, Option, Result, Err}
+use Rattle.std.proofs.Common.{◌≡◌, ℕ, Bool, List, length, Option, Result}
 use Rattle.devices_1401.specs.declared.card.Card.{Card}
 use Rattle.operate_program.specs.Known.{Known}
 use Rattle.operate_sitting.specs.Notes.{held, no_notes}

@@ -2,7 +2,6 @@
 use Rattle.std.specs.Prelude.{◌≡◌, ℕ, nat_lt, not, ◌&&◌, Bool, true, if◌then◌else◌, List, length, Option, None, Some}
 use Rattle.std.specs.Prelude.{Result, Ok, Err, IfSome}
 use Rattle.devices_1401.specs.declared.card.Card.{Card}
-use Rattle.room_alone.specs.declared.terminal_fault.SessionFault.{SessionFault}
 use Rattle.room_alone.specs.declared.terminal_fault.SessionFault.TheVariants as session
 use Rattle.room_alone.specs.Kept.{KeptAccount}
 use Rattle.operate_console.specs.Ends.{SourceLeft, failure_in, is_unkept}

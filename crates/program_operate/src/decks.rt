@@ -8,8 +8,7 @@ use devices_1401::MOST_HELD;
 use job_runner::{CardList, Cards, Deck};
 use operate_answers::put_deck;
 use program_run::{RunFault, read_cards};
-use room_alone::{Command, OWN_SEAT, Room, RoomFault};
-use std::alloc::Global;
+use room_alone::{Command, OWN_SEAT, Room};
 use std::rt::Files;
 
 /// A deck, and the name of its file.

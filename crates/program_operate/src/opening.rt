@@ -1,8 +1,5 @@
 //! The program of a file, and the room that it is loaded in.
 ghost use Rattle.std.specs.Prelude.{◌≡◌, ◌≢◌, ◌++◌, false, IfErr, IfOk, OnOk};
-ghost use Rattle.autocoder_listing.specs.Rows.{rows_of};
-ghost use Rattle.autocoder_listing.specs.SymbolTable.{symbols_in};
-ghost use Rattle.autocoder_symbols.specs.Reading.{lines_in};
 ghost use Rattle.console_1401.specs.ImageLoading.{load_entries};
 ghost use Rattle.machine_image.specs.Image.{IsInCore};
 ghost use Rattle.program_call.specs.Sizes.{is_refused};
