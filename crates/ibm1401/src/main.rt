@@ -26,7 +26,7 @@ use program_convert::{
     assemble_file, check_names, check_size, disassemble_deck, disassemble_file, list_reel,
     write_reel, write_reel_deck,
 };
-use program_operate::operate_at;
+use program_operate::{SystemFiles, operate_at};
 use program_rooms::{hold_session, journal_file, machine_of, open_room, open_seats};
 use program_run::{read_cards, run_file};
 use std::fs::File;
@@ -97,7 +97,8 @@ fn operate<
     R: Env + Files<File = File> + Input<Reader = StdinLock<'static>> + Print + Eprint + AllocGlobal,
 >(rt: &R, terminals: Terminals, asked: Operating) -> Result<(), Fault> {
     let mut reader = FromTerminal::new(rt.reader(), terminals.input);
-    operate_at(rt, asked, terminals.ends(rt), &mut reader).map_err(Fault::Operate)
+    let files = SystemFiles::new(rt);
+    operate_at(rt, &files, asked, terminals.ends(rt), &mut reader).map_err(Fault::Operate)
 }
 
 /// Lists what the deck of a file loads.

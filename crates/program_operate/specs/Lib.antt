@@ -1,1 +1,3 @@
+pub mod Beginning
+pub mod Opening
 pub mod Outcome

@@ -3,7 +3,7 @@ use Rattle.std.specs.Prelude.{◌≡◌, ℕ, nat_lt, not, ◌&&◌, Bool, true,
 use Rattle.std.specs.Prelude.{Result, Ok, Err, IfSome}
 use Rattle.devices_1401.specs.declared.card.Card.{Card}
 use Rattle.room_alone.specs.declared.terminal_fault.SessionFault.TheVariants as session
-use Rattle.room_alone.specs.Kept.{KeptAccount}
+use Rattle.room_alone.specs.Account.{Account}
 use Rattle.operate_console.specs.Ends.{SourceLeft, failure_in, is_unkept}
 use Rattle.operate_console.specs.Line.{OperatedBy}
 use Rattle.operate_console.specs.declared.ends.Failure.{Failure}
@@ -51,17 +51,18 @@ pub record Sat (is_typed : Bool) (limit : Option ℕ) (known : Known) (before : 
   pub result_is : result ≡ outcome (nat_lt 0 faults && not is_typed) ended
 
 -- the same at a room, with some cards in hand
-pub record SatAt (is_typed : Bool) (limit : Option ℕ) (known : Known) (room : KeptAccount) (hand : List Card)
+pub record SatAt (is_typed : Bool) (limit : Option ℕ) (known : Known) (room : Account) (hand : List Card)
     (has_failed : Bool) (left : Option (List ℕ)) (result : Result (Unit {0}) OperateFault) : Type 0 where
   pub before : SittingAccount
-  pub account : before.account ≡ room
-  pub notes : before.notes ≡ held hand (no_notes (length room.room.journal))
+  pub account : before.account.room ≡ room
+  pub notes : before.notes ≡ held hand (no_notes (length room.journal))
   pub sat : Sat is_typed limit known before has_failed left result
 
--- the same at a room that was found or made, with what is known of its program
-pub record SatSomewhere (is_typed : Bool) (limit : Option ℕ) (has_failed : Bool) (left : Option (List ℕ))
-    (result : Result (Unit {0}) OperateFault) : Type 0 where
+-- the same at a room that was made or found so, next to what is known of its program
+pub record SatFound (is_found : Account → Known → List Card → Type 0) (is_typed : Bool) (limit : Option ℕ)
+    (has_failed : Bool) (left : Option (List ℕ)) (result : Result (Unit {0}) OperateFault) : Type 0 where
+  pub room : Account
   pub known : Known
-  pub room : KeptAccount
   pub hand : List Card
+  pub found : is_found room known hand
   pub sat : SatAt is_typed limit known room hand has_failed left result

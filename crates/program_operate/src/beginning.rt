@@ -1,10 +1,12 @@
 //! The room at which a person sits down.
-ghost use Rattle.std.specs.Prelude.{◌≢◌, IfErr};
+ghost use Rattle.std.specs.Prelude.{◌≡◌, ◌≢◌, [], IfErr, IfOk, OnOk, option_map, string_bytes};
+ghost use Rattle.program_operate.specs.Beginning.{IsBegun, made_ready, ready_of, switch_names, turned_on};
+ghost use Rattle.program_operate.specs.Opening.{AreLabelsOf, cards_of};
 
-use crate::decks::{NamedDeck, carry};
+use crate::decks::{NamedDeck, carry, deck_of, feed};
 use crate::fault::OperateFault;
+use crate::files::CallFiles;
 use crate::opening::{Opened, Reading, labels_of, open_room};
-use bcd_1401::Graphics;
 use bytes_text::Text;
 use job_runner::CardList;
 use machine_tables::SwitchName;
@@ -13,7 +15,6 @@ use operate_program::Program;
 use program_run::RunFault;
 use room_alone::{Command, Room};
 use std::alloc::Global;
-use std::rt::Files;
 
 /// What there is next to a room.
 #[derive(Drop)]
@@ -28,7 +29,10 @@ pub(crate) struct Around {
 
 impl Around {
     /// No cards in hand, and nothing said yet.
-    fn new(alloc: Global, program: Program) -> Around {
+    fn new(alloc: Global, program: Program) -> Around
+        ensures program { result.program ≡ program }
+        ensures hand { result.hand ≡ [] }
+    {
         Around {
             program,
             hand: CardList::new(alloc),
@@ -59,18 +63,25 @@ const SWITCHES: [SwitchName; 7] = [
 
 /// Turns these sense switches on.
 fn turn_on(room: &mut Room, switches: [bool; 7]) -> Result<(), OperateFault>
-    ensures { IfErr result (λ why. why ≢ OperateFault.Faulty) }
+    ensures turned { OnOk result
+        (room.new.journal ≡ turned_on room.old.size switch_names switches room.old.journal) }
+    ensures size { room.new.size ≡ room.old.size }
+    ensures before { IfErr result (λ why. why ≢ OperateFault.Faulty) }
 {
-    for (switch, on) in SWITCHES.iter().zip(switches.iter()) {
+    let mut names = SWITCHES.as_slice();
+    let mut rest = switches.as_slice();
+    while let [on, beyond @ ..] = rest {
+        let [name, more @ ..] = names else {
+            return Ok(());
+        };
         if *on {
-            carry(
-                room,
-                Command::Switch {
-                    n: *switch,
-                    on: true,
-                },
-            )?;
+            match carry(room, Command::Switch { n: *name, on: true }) {
+                Ok(()) => {}
+                Err(fault) => return Err(fault),
+            }
         }
+        names = more;
+        rest = beyond;
     }
     Ok(())
 }
@@ -95,7 +106,9 @@ fn put_beginning(
     room: &Room,
     name: Option<&[u8]>,
 ) -> Result<(), OperateFault>
-    ensures { IfErr result (λ why. why ≢ OperateFault.Faulty) }
+    ensures program { around.new.program ≡ around.old.program }
+    ensures hand { around.new.hand ≡ around.old.hand }
+    ensures before { IfErr result (λ why. why ≢ OperateFault.Faulty) }
 {
     put_head(
         alloc,
@@ -112,35 +125,32 @@ fn put_beginning(
 }
 
 /// Turns sense switches on, and puts two decks into the hopper; if there is the first, which loads itself, the load key
-/// is pressed. Then the greeting says what is loaded.
+/// is pressed.
+#[tactic(auto, using(crate::proofs::FoundLemmas::is_made_ready))]
 fn make_ready(
-    alloc: Global,
-    begun: &mut Begun,
+    room: &mut Room,
+    around: &mut Around,
     switches: [bool; 7],
     deck: &Option<NamedDeck>,
     beyond: &Option<NamedDeck>,
-    name: &Option<Vec<u8>>,
 ) -> Result<(), OperateFault>
-    ensures { IfErr result (λ why. why ≢ OperateFault.Faulty) }
+    ensures ready { OnOk result (ready_of room.new around.new.hand
+        ≡ made_ready room.old.size switches (cards_of deck.now)
+            (cards_of beyond.now) (ready_of room.old around.old.hand)) }
+    ensures size { room.new.size ≡ room.old.size }
+    ensures program { around.new.program ≡ around.old.program }
+    ensures before { IfErr result (λ why. why ≢ OperateFault.Faulty) }
 {
-    let Begun { room, around } = begun;
     turn_on(room, switches)?;
-    if let Some(deck) = deck {
-        deck.feed(room, around)?;
-    }
-    if let Some(beyond) = beyond {
-        beyond.feed(room, around)?;
-    }
-    if deck.is_some() {
-        carry(room, Command::LoadKey)?;
-    }
-    match name {
-        Some(name) => put_beginning(alloc, around, room, Some(name.as_slice())),
-        None => put_beginning(alloc, around, room, None),
+    feed(deck, room, around)?;
+    feed(beyond, room, around)?;
+    match deck {
+        Some(_) => carry(room, Command::LoadKey),
+        None => Ok(()),
     }
 }
 
-/// A room that is opened, with these sense switches on and its decks in the hopper.
+/// A room that is opened, with these sense switches on and its decks in the hopper. The greeting says what is loaded.
 fn made_ready(
     alloc: Global,
     opened: Opened,
@@ -148,37 +158,29 @@ fn made_ready(
     beyond: Option<NamedDeck>,
     name: Option<Vec<u8>>,
 ) -> Result<Begun, OperateFault>
-    ensures { IfErr result (λ why. why ≢ OperateFault.Faulty) }
+    ensures ready { IfOk result (λ begun. ready_of begun.room begun.around.hand
+        ≡ made_ready opened.room.size switches (cards_of opened.deck)
+            (cards_of beyond) (ready_of opened.room [])) }
+    ensures size { IfOk result (λ begun. begun.room.size ≡ opened.room.size) }
+    ensures program { IfOk result (λ begun. begun.around.program ≡ opened.program) }
+    ensures before { IfErr result (λ why. why ≢ OperateFault.Faulty) }
 {
     let Opened {
         room,
         program,
         deck,
     } = opened;
-    let around = Around::new(alloc, program);
-    let mut begun = Begun { room, around };
-    match make_ready(alloc, &mut begun, switches, &deck, &beyond, &name) {
-        Ok(()) => Ok(begun),
-        Err(fault) => Err(fault),
-    }
-}
-
-/// The same, once the deck of this file is read, if one is named.
-fn begin_at(
-    rt: &(impl Files + Eprint + AllocGlobal),
-    opened: Opened,
-    cards: Option<String>,
-    switches: [bool; 7],
-    decks: Option<Graphics>,
-    name: Option<Vec<u8>>,
-) -> Result<Begun, OperateFault>
-    ensures { IfErr result (λ why. why ≢ OperateFault.Faulty) }
-{
-    let Some(cards) = cards else {
-        return made_ready(rt.alloc(), opened, switches, None, name);
+    let mut room = room;
+    let mut around = Around::new(alloc, program);
+    let name = match &name {
+        Some(name) => Some(name.as_slice()),
+        None => None,
     };
-    match NamedDeck::read(rt, cards, decks) {
-        Ok(beyond) => made_ready(rt.alloc(), opened, switches, Some(beyond), name),
+    match make_ready(&mut room, &mut around, switches, &deck, &beyond) {
+        Ok(()) => match put_beginning(alloc, &mut around, &room, name) {
+            Ok(()) => Ok(Begun { room, around }),
+            Err(fault) => Err(fault),
+        },
         Err(fault) => Err(fault),
     }
 }
@@ -189,19 +191,26 @@ fn begin_at(
 /// # Errors
 ///
 /// `Run` or `Hold`, as `run` and `load` report it.
-pub(crate) fn begin(
-    rt: &(impl Files + Eprint + AllocGlobal),
+#[tactic(auto, using(crate::proofs::FoundLemmas::is_begun))]
+pub(crate) fn begin<R: Eprint + AllocGlobal, D: CallFiles>(
+    rt: &R,
+    files: &D,
     file: Option<String>,
     is_deck: bool,
     cards: Option<String>,
     switches: [bool; 7],
     reading: Reading,
 ) -> Result<Begun, OperateFault>
-    ensures { IfErr result (λ why. why ≢ OperateFault.Faulty) }
+    ensures begun { IfOk result (λ begun. IsBegun (D.has files.now) reading is_deck (option_map string_bytes file)
+        (option_map string_bytes cards) switches begun.room begun.around.program begun.around.hand) }
+    ensures before { IfErr result (λ why. why ≢ OperateFault.Faulty) }
 {
     match name_of(rt.alloc(), &file) {
-        Ok(name) => match open_room(rt, file, is_deck, reading) {
-            Ok(opened) => begin_at(rt, opened, cards, switches, reading.decks, name),
+        Ok(name) => match open_room(rt, files, file, is_deck, reading) {
+            Ok(opened) => match deck_of(files, cards, reading.decks) {
+                Ok(beyond) => made_ready(rt.alloc(), opened, switches, beyond, name),
+                Err(fault) => Err(fault),
+            },
             Err(fault) => Err(fault),
         },
         Err(fault) => Err(fault),
@@ -213,22 +222,21 @@ pub(crate) fn begin(
 /// # Errors
 ///
 /// `Run` or `NoLabels` for the source.
-pub(crate) fn around_again(
-    rt: &(impl Files + Eprint + AllocGlobal),
+pub(crate) fn around_again<R: Eprint + AllocGlobal, D: CallFiles>(
+    rt: &R,
+    files: &D,
     room: &Room,
     name: &str,
     source: Option<String>,
     reading: Reading,
 ) -> Result<Around, OperateFault>
-    ensures { IfErr result (λ why. why ≢ OperateFault.Faulty) }
+    ensures labels { IfOk result (λ around.
+        AreLabelsOf (D.has files.now) reading.language (option_map string_bytes source) around.program) }
+    ensures hand { IfOk result (λ around. around.hand ≡ []) }
+    ensures before { IfErr result (λ why. why ≢ OperateFault.Faulty) }
 {
-    let program = match source {
-        Some(file) => {
-            let size = Some(room.machine().core().size());
-            labels_of(rt, file, Reading { size, ..reading })?
-        }
-        None => Program::without_source(rt.alloc(), reading.language),
-    };
+    let size = Some(room.machine().core().size());
+    let program = labels_of(rt, files, source, Reading { size, ..reading })?;
     let mut around = Around::new(rt.alloc(), program);
     match put_beginning(rt.alloc(), &mut around, room, Some(name.as_bytes())) {
         Ok(()) => Ok(around),

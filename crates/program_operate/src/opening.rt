@@ -1,12 +1,16 @@
 //! The program of a file, and the room that it is loaded in.
-ghost use Rattle.std.specs.Prelude.{◌≡◌, ◌≢◌, ◌++◌, false, IfErr, IfOk, OnOk};
-ghost use Rattle.console_1401.specs.ImageLoading.{load_entries};
+ghost use Rattle.std.specs.Prelude.{◌≡◌, ◌≢◌, ◌++◌, false, IfErr, IfOk, None, OnOk, Ok, option_map, string_bytes};
+ghost use Rattle.autocoder_1401.specs.Assembly.{assembly_in, with_listing};
+ghost use Rattle.console_1401.specs.ImageLoading.{fit_entries, load_entries};
 ghost use Rattle.machine_image.specs.Image.{IsInCore};
-ghost use Rattle.program_call.specs.Sizes.{is_refused};
+ghost use Rattle.program_call.specs.Sizes.{is_refused, size_for};
+ghost use Rattle.program_operate.specs.Opening.{AreLabelsOf, HasFile, HasImage, HasSource, IsBare, IsDeckOf, IsOpened};
+ghost use Rattle.program_operate.specs.Opening.{cards_of, known_of};
 ghost use Rattle.room_alone.specs.Journal.{refusal_of};
 
-use crate::decks::NamedDeck;
+use crate::decks::{NamedDeck, deck_of};
 use crate::fault::{OperateFault, unready};
+use crate::files::CallFiles;
 use autocoder_1401::{AssemblyProgram, PackedImage, assemble_program};
 use autocoder_statements::Language;
 use bcd_1401::{Graphics, Suggestion};
@@ -18,10 +22,9 @@ use machine_tables::Features;
 use operate_program::Program;
 use program_call::{DEFAULT_SIZE, is_refused, size_for};
 use program_rooms::loaded_room;
-use program_run::{RunFault, is_image, read_program_text, report_source};
+use program_run::{RunFault, is_image, report_source};
 use room_alone::{Room, RoomFault};
 use std::alloc::Global;
-use std::rt::Files;
 
 /// How the files of a person are read.
 #[derive(Clone, Copy)]
@@ -52,6 +55,7 @@ pub(crate) struct Opened {
 /// A room with nothing loaded, whose machine is fitted with these features.
 fn bare_room(alloc: Global, size: u16, features: Features) -> Result<Room, OperateFault>
     ensures size { IfOk result (λ room. room.size ≡ size) }
+    ensures fitted { IfOk result (λ room. room.journal ≡ fit_entries features) }
     ensures before { IfErr result (λ why. why ≢ OperateFault.Faulty) }
 {
     let mut room = match Room::power_on(alloc, size) {
@@ -88,6 +92,10 @@ fn assembled(
 ) -> Result<ReadSource, OperateFault>
     requires { is_refused reading.size ≡ false }
     ensures in_core { IfOk result (λ made. IsInCore made.image) }
+    ensures image { IfOk result (λ made.
+        assembly_in reading.language (size_for reading.size reading.language text.items) text.items
+        ≡ Ok (with_listing reading.language text.items made.image)) }
+    ensures program { IfOk result (λ made. made.program ≡ known_of reading.language text.items) }
     ensures before { IfErr result (λ why. why ≢ OperateFault.Faulty) }
 {
     let Reading { language, size, .. } = reading;
@@ -121,6 +129,7 @@ fn put_packed(room: &mut Room, image: &PackedImage) -> Result<(), RoomFault>
     requires size { image.now.size ≡ room.old.size }
     requires in_core { IsInCore image.now }
     ensures loaded { OnOk result (room.new.journal ≡ room.old.journal ++ load_entries image.now) }
+    ensures same { room.new.size ≡ room.old.size }
     ensures fault { IfErr result (λ fault. fault ≡ refusal_of room.new.journal) }
 {
     let mut rest = image.segments();
@@ -136,7 +145,9 @@ fn put_packed(room: &mut Room, image: &PackedImage) -> Result<(), RoomFault>
 /// A room of an image's size whose machine has these features, and the image loaded.
 fn packed_room(alloc: Global, image: &PackedImage, features: Features) -> Result<Room, OperateFault>
     requires { IsInCore image.now }
-    ensures { IfErr result (λ why. why ≢ OperateFault.Faulty) }
+    ensures size { IfOk result (λ room. room.size ≡ image.now.size) }
+    ensures loaded { IfOk result (λ room. room.journal ≡ fit_entries features ++ load_entries image.now) }
+    ensures before { IfErr result (λ why. why ≢ OperateFault.Faulty) }
 {
     let mut room = bare_room(alloc, image.size(), features)?;
     match put_packed(&mut room, image) {
@@ -146,6 +157,7 @@ fn packed_room(alloc: Global, image: &PackedImage, features: Features) -> Result
 }
 
 /// A room at which the program of a source is loaded.
+#[tactic(auto, using(crate::proofs::FoundLemmas::has_source))]
 fn of_source(
     rt: &(impl Eprint + AllocGlobal),
     name: &str,
@@ -154,7 +166,9 @@ fn of_source(
     suggested: Option<Suggestion>,
 ) -> Result<Opened, OperateFault>
     requires { is_refused reading.size ≡ false }
-    ensures { IfErr result (λ why. why ≢ OperateFault.Faulty) }
+    ensures opened { IfOk result (λ opened. HasSource reading text.items opened.room opened.program) }
+    ensures deck { IfOk result (λ opened. cards_of opened.deck ≡ None) }
+    ensures before { IfErr result (λ why. why ≢ OperateFault.Faulty) }
 {
     let ReadSource { image, program } = assembled(rt, name, reading, text, suggested)?;
     match packed_room(rt.alloc(), &image, reading.features) {
@@ -183,17 +197,18 @@ struct ReadFile {
 /// # Errors
 ///
 /// `Run`, as `run` reports it.
-fn read_file(
-    rt: &(impl Files + AllocGlobal),
+fn read_file<D: CallFiles>(
+    files: &D,
     file: String,
     reading: Reading,
 ) -> Result<ReadFile, OperateFault>
-    ensures { IfErr result (λ why. why ≢ OperateFault.Faulty) }
+    ensures text { IfOk result (λ read. D.has files.now (string_bytes file) read.text.items) }
+    ensures before { IfErr result (λ why. why ≢ OperateFault.Faulty) }
 {
     let Ok(name) = file.clone() else {
         return Err(OperateFault::Run(RunFault::Memory));
     };
-    match read_program_text(rt, file, reading.source) {
+    match files.program(file, reading.source) {
         Ok((text, suggested)) => Ok(ReadFile {
             name,
             text,
@@ -204,8 +219,11 @@ fn read_file(
 }
 
 /// A room at which the image of a text is loaded.
+#[tactic(auto, using(crate::proofs::FoundLemmas::has_image))]
 fn of_image(alloc: Global, text: &[u8], reading: Reading) -> Result<Opened, OperateFault>
-    ensures { IfErr result (λ why. why ≢ OperateFault.Faulty) }
+    ensures opened { IfOk result (λ opened. HasImage reading text.now opened.room opened.program) }
+    ensures deck { IfOk result (λ opened. cards_of opened.deck ≡ None) }
+    ensures before { IfErr result (λ why. why ≢ OperateFault.Faulty) }
 {
     match loaded_room(alloc, text, reading.features) {
         Ok(room) => Ok(Opened {
@@ -222,19 +240,24 @@ fn of_image(alloc: Global, text: &[u8], reading: Reading) -> Result<Opened, Oper
 /// # Errors
 ///
 /// `Run` or `Hold`, as `run` and `load` report it.
-fn of_file(
-    rt: &(impl Files + Eprint + AllocGlobal),
+#[tactic(auto, using(crate::proofs::FoundLemmas::file_image, crate::proofs::FoundLemmas::file_source))]
+fn of_file<R: Eprint + AllocGlobal, D: CallFiles>(
+    rt: &R,
+    files: &D,
     file: String,
     reading: Reading,
 ) -> Result<Opened, OperateFault>
     requires { is_refused reading.size ≡ false }
-    ensures { IfErr result (λ why. why ≢ OperateFault.Faulty) }
+    ensures opened { IfOk result (λ opened.
+        HasFile (D.has files.now) reading (string_bytes file) opened.room opened.program) }
+    ensures deck { IfOk result (λ opened. cards_of opened.deck ≡ None) }
+    ensures before { IfErr result (λ why. why ≢ OperateFault.Faulty) }
 {
     let ReadFile {
         name,
         text,
         suggested,
-    } = read_file(rt, file, reading)?;
+    } = read_file(files, file, reading)?;
     if is_image(text.as_slice()) {
         of_image(rt.alloc(), text.as_slice(), reading)
     } else {
@@ -242,18 +265,25 @@ fn of_file(
     }
 }
 
-/// The labels of a source alone, next to a journal.
+/// The labels of a source alone, next to a journal, if one is named.
 ///
 /// # Errors
 ///
 /// `Size`; `Run`, as `run` reports it; `NoLabels` if the file has an image.
-pub(crate) fn labels_of(
-    rt: &(impl Files + Eprint + AllocGlobal),
-    file: String,
+#[tactic(auto, using(crate::proofs::FoundLemmas::are_labels))]
+pub(crate) fn labels_of<R: Eprint + AllocGlobal, D: CallFiles>(
+    rt: &R,
+    files: &D,
+    file: Option<String>,
     reading: Reading,
 ) -> Result<Program, OperateFault>
-    ensures { IfErr result (λ why. why ≢ OperateFault.Faulty) }
+    ensures labels { IfOk result
+        (AreLabelsOf (D.has files.now) reading.language (option_map string_bytes file)) }
+    ensures before { IfErr result (λ why. why ≢ OperateFault.Faulty) }
 {
+    let Some(file) = file else {
+        return Ok(Program::without_source(rt.alloc(), reading.language));
+    };
     if is_refused(reading.size) {
         return Err(OperateFault::Size);
     }
@@ -261,7 +291,7 @@ pub(crate) fn labels_of(
         name,
         text,
         suggested,
-    } = read_file(rt, file, reading)?;
+    } = read_file(files, file, reading)?;
     if is_image(text.as_slice()) {
         return Err(OperateFault::NoLabels(name));
     }
@@ -272,12 +302,15 @@ pub(crate) fn labels_of(
 }
 
 /// A room at power-on, next to this deck, if there is one.
+#[tactic(auto, using(crate::proofs::FoundLemmas::is_bare))]
 fn with_deck(
     alloc: Global,
     deck: Option<NamedDeck>,
     reading: Reading,
 ) -> Result<Opened, OperateFault>
-    ensures { IfErr result (λ why. why ≢ OperateFault.Faulty) }
+    ensures bare { IfOk result (λ opened. IsBare reading opened.room opened.program) }
+    ensures deck { IfOk result (λ opened. opened.deck ≡ deck) }
+    ensures before { IfErr result (λ why. why ≢ OperateFault.Faulty) }
 {
     let size = reading.size.unwrap_or(DEFAULT_SIZE);
     match bare_room(alloc, size, reading.features) {
@@ -290,16 +323,21 @@ fn with_deck(
     }
 }
 
-/// A room at power-on, next to the deck of a file.
-fn of_deck(
-    rt: &(impl Files + Eprint + AllocGlobal),
-    file: String,
+/// A room at power-on, next to the deck of a file, if one is named.
+#[tactic(auto, using(crate::proofs::FoundLemmas::deck_same))]
+fn of_deck<D: CallFiles>(
+    alloc: Global,
+    files: &D,
+    file: Option<String>,
     reading: Reading,
 ) -> Result<Opened, OperateFault>
-    ensures { IfErr result (λ why. why ≢ OperateFault.Faulty) }
+    ensures bare { IfOk result (λ opened. IsBare reading opened.room opened.program) }
+    ensures deck { IfOk result (λ opened. IsDeckOf (D.has files.now) (option_map string_bytes file)
+        (cards_of opened.deck)) }
+    ensures before { IfErr result (λ why. why ≢ OperateFault.Faulty) }
 {
-    match NamedDeck::read(rt, file, reading.decks) {
-        Ok(deck) => with_deck(rt.alloc(), Some(deck), reading),
+    match deck_of(files, file, reading.decks) {
+        Ok(deck) => with_deck(alloc, deck, reading),
         Err(fault) => Err(fault),
     }
 }
@@ -309,13 +347,17 @@ fn of_deck(
 /// # Errors
 ///
 /// `Size`; `Run` or `Hold`, as `run` and `load` report it.
-pub(crate) fn open_room(
-    rt: &(impl Files + Eprint + AllocGlobal),
+#[tactic(auto, using(crate::proofs::FoundLemmas::opened_bare, crate::proofs::FoundLemmas::opened_deck, crate::proofs::FoundLemmas::opened_file))]
+pub(crate) fn open_room<R: Eprint + AllocGlobal, D: CallFiles>(
+    rt: &R,
+    files: &D,
     file: Option<String>,
     is_deck: bool,
     reading: Reading,
 ) -> Result<Opened, OperateFault>
-    ensures { IfErr result (λ why. why ≢ OperateFault.Faulty) }
+    ensures opened { IfOk result (λ opened. IsOpened (D.has files.now) reading is_deck
+        (option_map string_bytes file) opened.room opened.program (cards_of opened.deck)) }
+    ensures before { IfErr result (λ why. why ≢ OperateFault.Faulty) }
 {
     if is_refused(reading.size) {
         return Err(OperateFault::Size);
@@ -323,11 +365,11 @@ pub(crate) fn open_room(
     match file {
         Some(file) => {
             if is_deck {
-                of_deck(rt, file, reading)
+                of_deck(rt.alloc(), files, Some(file), reading)
             } else {
-                of_file(rt, file, reading)
+                of_file(rt, files, file, reading)
             }
         }
-        None => with_deck(rt.alloc(), None, reading),
+        None => of_deck(rt.alloc(), files, None, reading),
     }
 }

@@ -1,11 +1,13 @@
 //! A person's console, from its files to its end.
-ghost use Rattle.std.specs.Prelude.{◌≡◌, ◌≢◌, ◌&&◌, length, nat_lt, not, Err, IfErr, IfOk, OnOk};
+ghost use Rattle.std.specs.Prelude.{◌≡◌, ◌≢◌, ◌&&◌, length, nat_lt, not, Err, IfErr, IfOk, OnOk, option_map, string_bytes};
 ghost use Rattle.operate_sitting.specs.Notes.{held, no_notes};
-ghost use Rattle.program_operate.specs.Outcome.{Sat, SatAt, SatSomewhere, limit_at, outcome};
+ghost use Rattle.program_operate.specs.Beginning.{IsBegun, IsFound, IsJournalOf, IsResumed};
+ghost use Rattle.program_operate.specs.Outcome.{Sat, SatAt, SatFound, limit_at, outcome};
 
 use crate::beginning::{Around, Begun, around_again, begin};
 use crate::desk::{FileDesk, FileKeeper};
 use crate::fault::{OperateFault, ended};
+use crate::files::CallFiles;
 use crate::opening::Reading;
 use bcd_1401::Graphics;
 use bytes_descriptors::{FileFault, read_whole};
@@ -18,10 +20,10 @@ use operate_sitting::{Cutter, Sitting};
 use program_call::{NewJournal, Operating};
 use program_rooms::{HoldFault, durability_of, tell_cut};
 use program_run::RunFault;
-use room_alone::{Keeper, KeptRoom, NoKeeper};
+use room_alone::{Keeper, KeptRoom, NoKeeper, Room};
 use room_files::{
-    Durability, FoundJournal, JournalFile, KeepFault, MadeJournal, TakenUp, create_journal,
-    find_journal, keep_room, take_up_room,
+    FoundJournal, JournalFile, KeepFault, MadeJournal, TakenUp, create_journal, keep_room,
+    take_up_room,
 };
 use std::alloc::Global;
 use std::fs::File;
@@ -185,10 +187,10 @@ fn answer<R: Print + AllocGlobal, K: Keeper + Drop, D: Desk + Cutter<K>, I: Sour
     console: Console,
     reader: &mut I,
 ) -> Result<(), OperateFault>
-    ensures ok { OnOk result (SatAt console.manner.prompts console.manner.limit around.program room around.hand
+    ensures ok { OnOk result (SatAt console.manner.prompts console.manner.limit around.program room.room around.hand
         (I.has_failed reader.new) (I.left reader.new) result) }
     ensures faulty { result ≡ Err OperateFault.Faulty → SatAt console.manner.prompts console.manner.limit
-        around.program room around.hand (I.has_failed reader.new) (I.left reader.new) result }
+        around.program room.room around.hand (I.has_failed reader.new) (I.left reader.new) result }
 {
     let Around {
         program,
@@ -215,21 +217,22 @@ fn answer<R: Print + AllocGlobal, K: Keeper + Drop, D: Desk + Cutter<K>, I: Sour
     }
 }
 
-/// A room whose journal a new file gets from here on, and what there is next to it.
+/// A room whose journal a new file gets from here on.
 ///
 /// # Errors
 ///
 /// `Hold` with `Kept`; then no new file is left.
 fn kept_in_new(
     rt: &(impl Files<File = File> + AllocGlobal),
-    begun: Begun,
+    room: Room,
     journal: NewJournal,
-) -> Result<(KeptRoom<FileKeeper>, Around), OperateFault>
-    ensures { IfErr result (λ why. why ≢ OperateFault.Faulty) }
+) -> Result<KeptRoom<FileKeeper>, OperateFault>
+    ensures room { IfOk result (λ kept. kept.room ≡ room) }
+    ensures before { IfErr result (λ why. why ≢ OperateFault.Faulty) }
 {
     let NewJournal { file, sync } = journal;
     match create_journal(rt, file, durability_of(sync)) {
-        Ok(made) => kept_in(rt, begun, made),
+        Ok(made) => kept_in(rt, room, made),
         Err(fault) => Err(OperateFault::Hold(HoldFault::Kept(fault))),
     }
 }
@@ -237,15 +240,15 @@ fn kept_in_new(
 /// The same with the file that was made.
 fn kept_in(
     rt: &(impl Files<File = File> + AllocGlobal),
-    begun: Begun,
+    room: Room,
     made: MadeJournal,
-) -> Result<(KeptRoom<FileKeeper>, Around), OperateFault>
-    ensures { IfErr result (λ why. why ≢ OperateFault.Faulty) }
+) -> Result<KeptRoom<FileKeeper>, OperateFault>
+    ensures room { IfOk result (λ kept. kept.room ≡ room) }
+    ensures before { IfErr result (λ why. why ≢ OperateFault.Faulty) }
 {
     let MadeJournal { file, name } = made;
-    let Begun { room, around } = begun;
     match keep_room::<Brand, JournalFile>(rt.alloc(), room, file) {
-        Ok(kept) => Ok((kept, around)),
+        Ok(kept) => Ok(kept),
         // The file has no journal.
         Err(fault) => {
             let fault = KeepFault::of_text(name.remove(rt), fault);
@@ -255,7 +258,7 @@ fn kept_in(
 }
 
 /// Keeps a room in a new file, and answers the lines of a person at it.
-#[tactic(auto, using(crate::proofs::SatLemmas::sat_somewhere))]
+#[tactic(auto, using(crate::proofs::SatLemmas::sat_same))]
 fn answer_in_new<R: Files<File = File> + Print + Eprint + AllocGlobal, I: Source + Terminal>(
     rt: &R,
     begun: Begun,
@@ -263,16 +266,17 @@ fn answer_in_new<R: Files<File = File> + Print + Eprint + AllocGlobal, I: Source
     console: Console,
     reader: &mut I,
 ) -> Result<(), OperateFault>
-    ensures ok { OnOk result (SatSomewhere console.manner.prompts console.manner.limit (I.has_failed reader.new)
-        (I.left reader.new) result) }
-    ensures faulty { result ≡ Err OperateFault.Faulty → SatSomewhere console.manner.prompts console.manner.limit
-        (I.has_failed reader.new) (I.left reader.new) result }
+    ensures ok { OnOk result (SatAt console.manner.prompts console.manner.limit begun.around.program begun.room
+        begun.around.hand (I.has_failed reader.new) (I.left reader.new) result) }
+    ensures faulty { result ≡ Err OperateFault.Faulty → SatAt console.manner.prompts console.manner.limit
+        begun.around.program begun.room begun.around.hand (I.has_failed reader.new) (I.left reader.new) result }
 {
     let Ok(label) = journal.file.clone() else {
         return Err(OperateFault::Run(RunFault::Memory));
     };
-    match kept_in_new(rt, begun, journal) {
-        Ok((kept, around)) => {
+    let Begun { room, around } = begun;
+    match kept_in_new(rt, room, journal) {
+        Ok(kept) => {
             let mut desk = FileDesk::new(rt, console.graphics, label.as_str());
             answer(rt, kept, around, &mut desk, console, reader)
         }
@@ -285,19 +289,26 @@ fn answer_in_new<R: Files<File = File> + Print + Eprint + AllocGlobal, I: Source
 /// # Errors
 ///
 /// `Hold` with `Kept`; `Run` or `NoLabels` for the source.
-fn kept_again(
-    rt: &(impl Files<File = File> + Eprint + AllocGlobal),
+#[tactic(auto, using(crate::proofs::SatLemmas::is_resumed))]
+fn kept_again<R: Eprint + AllocGlobal, F: CallFiles>(
+    rt: &R,
+    files: &F,
     file: String,
     label: &str,
     source: Option<String>,
     reading: Reading,
 ) -> Result<(KeptRoom<FileKeeper>, Around), OperateFault>
-    ensures { IfErr result (λ why. why ≢ OperateFault.Faulty) }
+    ensures resumed { IfOk result (λ kept. IsResumed (F.has files.now) reading label.now
+        (option_map string_bytes source) kept.0.room kept.1.program kept.1.hand) }
+    ensures before { IfErr result (λ why. why ≢ OperateFault.Faulty) }
 {
-    match find_journal(rt, file, Durability::System) {
+    match files.journal(file) {
         // If the source is refused, the file is as it was.
-        Ok(found) => match around_again(rt, found.room(), label, source, reading) {
-            Ok(around) => take_up(rt, found, around),
+        Ok(found) => match around_again(rt, files, found.room(), label, source, reading) {
+            Ok(around) => match take_up(rt, files, label, found) {
+                Ok(kept) => Ok((kept, around)),
+                Err(fault) => Err(fault),
+            },
             Err(fault) => Err(fault),
         },
         Err(fault) => Err(OperateFault::Hold(HoldFault::Kept(fault))),
@@ -305,14 +316,17 @@ fn kept_again(
 }
 
 /// The room of a journal that was found, which its file keeps from here on.
-fn take_up(
-    rt: &(impl Eprint + AllocGlobal),
+#[tactic(auto, using(crate::proofs::SatLemmas::is_journal))]
+fn take_up<R: Eprint + AllocGlobal, F: CallFiles>(
+    rt: &R,
+    files: &F,
+    label: &str,
     found: FoundJournal,
-    around: Around,
-) -> Result<(KeptRoom<FileKeeper>, Around), OperateFault>
-    ensures { IfErr result (λ why. why ≢ OperateFault.Faulty) }
+) -> Result<KeptRoom<FileKeeper>, OperateFault>
+    ensures room { IfOk result (λ kept. IsJournalOf (F.has files.now) label.now kept.room) }
+    ensures before { IfErr result (λ why. why ≢ OperateFault.Faulty) }
 {
-    match found.take_up() {
+    match files.take_up(label, found) {
         Ok(
             TakenUp {
                 room,
@@ -323,32 +337,38 @@ fn take_up(
         ) => {
             tell_cut(rt, cut);
             // What the file had before is unknown, and so is what it has.
-            let kept = take_up_room::<Brand, JournalFile>(rt.alloc(), room, file);
-            Ok((kept, around))
+            Ok(take_up_room::<Brand, JournalFile>(rt.alloc(), room, file))
         }
         Err(fault) => Err(OperateFault::Hold(HoldFault::Kept(fault))),
     }
 }
 
 /// Goes on with the journal of a file, in the same file.
-#[tactic(auto, using(crate::proofs::SatLemmas::sat_somewhere))]
-fn go_on<R: Files<File = File> + Print + Eprint + AllocGlobal, I: Source + Terminal>(
+#[tactic(auto, using(crate::proofs::SatLemmas::sat_found))]
+fn go_on<
+    R: Files<File = File> + Print + Eprint + AllocGlobal,
+    F: CallFiles,
+    I: Source + Terminal,
+>(
     rt: &R,
+    files: &F,
     file: String,
     source: Option<String>,
     reading: Reading,
     console: Console,
     reader: &mut I,
 ) -> Result<(), OperateFault>
-    ensures ok { OnOk result (SatSomewhere console.manner.prompts console.manner.limit (I.has_failed reader.new)
-        (I.left reader.new) result) }
-    ensures faulty { result ≡ Err OperateFault.Faulty → SatSomewhere console.manner.prompts console.manner.limit
-        (I.has_failed reader.new) (I.left reader.new) result }
+    ensures ok { OnOk result (SatFound
+        (IsResumed (F.has files.now) reading (string_bytes file) (option_map string_bytes source))
+        console.manner.prompts console.manner.limit (I.has_failed reader.new) (I.left reader.new) result) }
+    ensures faulty { result ≡ Err OperateFault.Faulty → SatFound
+        (IsResumed (F.has files.now) reading (string_bytes file) (option_map string_bytes source))
+        console.manner.prompts console.manner.limit (I.has_failed reader.new) (I.left reader.new) result }
 {
     let Ok(label) = file.clone() else {
         return Err(OperateFault::Run(RunFault::Memory));
     };
-    match kept_again(rt, file, label.as_str(), source, reading) {
+    match kept_again(rt, files, file, label.as_str(), source, reading) {
         Ok((kept, around)) => {
             let mut desk = FileDesk::new(rt, console.graphics, label.as_str());
             answer(rt, kept, around, &mut desk, console, reader)
@@ -358,7 +378,7 @@ fn go_on<R: Files<File = File> + Print + Eprint + AllocGlobal, I: Source + Termi
 }
 
 /// Answers the lines of a person at a room, with a new file for its journal or without one.
-#[tactic(auto, using(crate::proofs::SatLemmas::sat_somewhere))]
+#[tactic(auto, using(crate::proofs::SatLemmas::sat_same))]
 fn answer_begun<R: Files<File = File> + Print + Eprint + AllocGlobal, I: Source + Terminal>(
     rt: &R,
     begun: Begun,
@@ -366,10 +386,10 @@ fn answer_begun<R: Files<File = File> + Print + Eprint + AllocGlobal, I: Source 
     console: Console,
     reader: &mut I,
 ) -> Result<(), OperateFault>
-    ensures ok { OnOk result (SatSomewhere console.manner.prompts console.manner.limit (I.has_failed reader.new)
-        (I.left reader.new) result) }
-    ensures faulty { result ≡ Err OperateFault.Faulty → SatSomewhere console.manner.prompts console.manner.limit
-        (I.has_failed reader.new) (I.left reader.new) result }
+    ensures ok { OnOk result (SatAt console.manner.prompts console.manner.limit begun.around.program begun.room
+        begun.around.hand (I.has_failed reader.new) (I.left reader.new) result) }
+    ensures faulty { result ≡ Err OperateFault.Faulty → SatAt console.manner.prompts console.manner.limit
+        begun.around.program begun.room begun.around.hand (I.has_failed reader.new) (I.left reader.new) result }
 {
     match journal {
         Some(journal) => answer_in_new(rt, begun, journal, console, reader),
@@ -397,35 +417,37 @@ struct New {
     journal: Option<NewJournal>,
 }
 
-/// Answers the lines of a person at a new machine, or at that of the file of a journal.
-fn sit_at<R: Files<File = File> + Print + Eprint + AllocGlobal, I: Source + Terminal>(
+/// Answers the lines of a person at a new machine.
+#[tactic(auto, using(crate::proofs::SatLemmas::sat_found))]
+fn begin_at<
+    R: Files<File = File> + Print + Eprint + AllocGlobal,
+    F: CallFiles,
+    I: Source + Terminal,
+>(
     rt: &R,
+    files: &F,
     file: Option<String>,
-    resumed: Option<String>,
     new: New,
     reading: Reading,
     console: Console,
     reader: &mut I,
 ) -> Result<(), OperateFault>
-    ensures ok { OnOk result (SatSomewhere console.manner.prompts console.manner.limit (I.has_failed reader.new)
-        (I.left reader.new) result) }
-    ensures faulty { result ≡ Err OperateFault.Faulty → SatSomewhere console.manner.prompts console.manner.limit
-        (I.has_failed reader.new) (I.left reader.new) result }
+    ensures ok { OnOk result (SatFound (IsBegun (F.has files.now) reading new.is_deck
+        (option_map string_bytes file) (option_map string_bytes new.cards) new.switches)
+        console.manner.prompts console.manner.limit (I.has_failed reader.new) (I.left reader.new) result) }
+    ensures faulty { result ≡ Err OperateFault.Faulty → SatFound (IsBegun (F.has files.now) reading new.is_deck
+        (option_map string_bytes file) (option_map string_bytes new.cards) new.switches)
+        console.manner.prompts console.manner.limit (I.has_failed reader.new) (I.left reader.new) result }
 {
-    match resumed {
-        Some(resumed) => go_on(rt, resumed, file, reading, console, reader),
-        None => {
-            let New {
-                is_deck,
-                cards,
-                switches,
-                journal,
-            } = new;
-            match begin(rt, file, is_deck, cards, switches, reading) {
-                Ok(begun) => answer_begun(rt, begun, journal, console, reader),
-                Err(fault) => Err(fault),
-            }
-        }
+    let New {
+        is_deck,
+        cards,
+        switches,
+        journal,
+    } = new;
+    match begin(rt, files, file, is_deck, cards, switches, reading) {
+        Ok(begun) => answer_begun(rt, begun, journal, console, reader),
+        Err(fault) => Err(fault),
     }
 }
 
@@ -436,15 +458,20 @@ fn sit_at<R: Files<File = File> + Print + Eprint + AllocGlobal, I: Source + Term
 ///
 /// `Size`; `Irregular`; `Run` or `Hold` as `run` and `console` report it; `NoLabels`; `Faulty`, as above; or
 /// `Transcript` if nothing else is wrong.
-pub fn operate_at<R: Files<File = File> + Print + Eprint + AllocGlobal, I: Source + Terminal>(
+pub fn operate_at<
+    R: Files<File = File> + Print + Eprint + AllocGlobal,
+    F: CallFiles,
+    I: Source + Terminal,
+>(
     rt: &R,
+    files: &F,
     asked: Operating,
     ends: Ends,
     reader: &mut I,
 ) -> Result<(), OperateFault>
-    ensures ok { OnOk result (SatSomewhere ends.is_typed (limit_at ends.is_typed asked.limit)
-        (I.has_failed reader.new) (I.left reader.new) result) }
-    ensures faulty { result ≡ Err OperateFault.Faulty → SatSomewhere ends.is_typed
+    ensures ok { OnOk result (SatFound (IsFound (F.has files.now) asked) ends.is_typed
+        (limit_at ends.is_typed asked.limit) (I.has_failed reader.new) (I.left reader.new) result) }
+    ensures faulty { result ≡ Err OperateFault.Faulty → SatFound (IsFound (F.has files.now) asked) ends.is_typed
         (limit_at ends.is_typed asked.limit) (I.has_failed reader.new) (I.left reader.new) result }
 {
     let Operating {
@@ -484,7 +511,10 @@ pub fn operate_at<R: Files<File = File> + Print + Eprint + AllocGlobal, I: Sourc
                 graphics,
                 first,
             };
-            sit_at(rt, file, resumed, new, reading, console, reader)
+            match resumed {
+                Some(resumed) => go_on(rt, files, resumed, file, reading, console, reader),
+                None => begin_at(rt, files, file, new, reading, console, reader),
+            }
         }
         Err(fault) => Err(fault),
     }
