@@ -71,18 +71,13 @@ const ARGUMENTS: &[Argument] = &[
 ];
 
 /// The subcommand `assemble`.
-static ASSEMBLE: Subcommand = Subcommand {
+pub(crate) static ASSEMBLE: Subcommand = Subcommand {
     name: "assemble",
     whole_name: "ibm1401 assemble",
     about: "Assembles a source, and writes its core image",
     arguments: ARGUMENTS,
     ..PLAIN
 };
-
-/// A reference to it.
-pub(crate) fn assemble() -> &'static Subcommand {
-    &ASSEMBLE
-}
 
 /// What the options of `assemble` name to be written.
 fn product_in(matches: &ArgMatches<'_>) -> Product

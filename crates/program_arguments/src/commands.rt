@@ -1,13 +1,13 @@
 //! The subcommands as `clap` has them.
-use crate::assembling::assemble;
+use crate::assembling::ASSEMBLE;
 use crate::help_texts::HelpTexts;
-use crate::journals::{resume, show_journal};
-use crate::operating::operate;
+use crate::journals::{RESUME, SHOW_JOURNAL};
+use crate::operating::OPERATE;
 use crate::options::{Argument, arg_of};
-use crate::reading::{console, disassemble, load};
-use crate::reeling::reel;
-use crate::running::run;
-use crate::serving::serve;
+use crate::reading::{CONSOLE, DISASSEMBLE, LOAD};
+use crate::reeling::REEL;
+use crate::running::RUN;
+use crate::serving::SERVE;
 use clap::error::ErrorKind;
 use clap::{ArgGroup, Command, Error};
 use std::alloc::{AllocError, Global};
@@ -70,16 +70,16 @@ Lines, each begun by a word that may be shortened; these are some of them:
 /// The subcommands. In the help they have this order.
 fn subcommands() -> [&'static Subcommand; 10] {
     [
-        console(),
-        assemble(),
-        load(),
-        disassemble(),
-        reel(),
-        run(),
-        operate(),
-        serve(),
-        show_journal(),
-        resume(),
+        &CONSOLE,
+        &ASSEMBLE,
+        &LOAD,
+        &DISASSEMBLE,
+        &REEL,
+        &RUN,
+        &OPERATE,
+        &SERVE,
+        &SHOW_JOURNAL,
+        &RESUME,
     ]
 }
 

@@ -68,18 +68,13 @@ const SHOWING: &[Argument] = &[
 ];
 
 /// The subcommand `journal`.
-static SHOW_JOURNAL: Subcommand = Subcommand {
+pub(crate) static SHOW_JOURNAL: Subcommand = Subcommand {
     name: "journal",
     whole_name: "ibm1401 journal",
     about: "Shows a journal: the commands, their seats and their answers",
     arguments: SHOWING,
     ..PLAIN
 };
-
-/// A reference to it.
-pub(crate) fn show_journal() -> &'static Subcommand {
-    &SHOW_JOURNAL
-}
 
 /// The arguments of `resume`: how the journal is taken up, who comes, and the file.
 const RESUMING: &[Argument] = &[
@@ -129,7 +124,7 @@ const RESUMING: &[Argument] = &[
 ];
 
 /// The subcommand `resume`.
-static RESUME: Subcommand = Subcommand {
+pub(crate) static RESUME: Subcommand = Subcommand {
     name: "resume",
     whole_name: "ibm1401 resume",
     about: "Carries out a journal's commands again, then works like console, or like serve with --port or --page",
@@ -137,11 +132,6 @@ static RESUME: Subcommand = Subcommand {
     ports: Some(false),
     arguments: RESUMING,
 };
-
-/// A reference to it.
-pub(crate) fn resume() -> &'static Subcommand {
-    &RESUME
-}
 
 /// The new journal that the options name, if they name one.
 pub(crate) fn new_journal_in(matches: &ArgMatches<'_>, faults: &mut Faults) -> Option<NewJournal>

@@ -73,7 +73,7 @@ const OPERATING: &[Argument] = &[
 ];
 
 /// The subcommand `operate`.
-static OPERATE: Subcommand = Subcommand {
+pub(crate) static OPERATE: Subcommand = Subcommand {
     name: "operate",
     whole_name: "ibm1401 operate",
     about: "A console for a person: labels, breakpoints, steps and their effects, going back",
@@ -81,11 +81,6 @@ static OPERATE: Subcommand = Subcommand {
     arguments: OPERATING,
     ..PLAIN
 };
-
-/// A reference to it.
-pub(crate) fn operate() -> &'static Subcommand {
-    &OPERATE
-}
 
 /// What the options of `operate` ask for.
 pub(crate) fn operate_call(matches: &ArgMatches<'_>, faults: &mut Faults) -> Call

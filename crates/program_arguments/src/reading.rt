@@ -36,7 +36,7 @@ const IMAGE: Argument = Argument {
 };
 
 /// The subcommand `console`.
-static CONSOLE: Subcommand = Subcommand {
+pub(crate) static CONSOLE: Subcommand = Subcommand {
     name: "console",
     whole_name: "ibm1401 console",
     about: "Carries out the lines of standard input, and writes their replies",
@@ -45,13 +45,8 @@ static CONSOLE: Subcommand = Subcommand {
     ..PLAIN
 };
 
-/// A reference to it.
-pub(crate) fn console() -> &'static Subcommand {
-    &CONSOLE
-}
-
 /// The subcommand `load`.
-static LOAD: Subcommand = Subcommand {
+pub(crate) static LOAD: Subcommand = Subcommand {
     name: "load",
     whole_name: "ibm1401 load",
     about: "Loads a core image, then works like console",
@@ -59,11 +54,6 @@ static LOAD: Subcommand = Subcommand {
     arguments: &[JOURNAL, NEW_SYNC, FIT, IMAGE],
     ..PLAIN
 };
-
-/// A reference to it.
-pub(crate) fn load() -> &'static Subcommand {
-    &LOAD
-}
 
 /// The arguments of `disassemble`: whether the file is a deck, and the size of core storage for it.
 const LISTING: &[Argument] = &[
@@ -88,18 +78,13 @@ const LISTING: &[Argument] = &[
 ];
 
 /// The subcommand `disassemble`.
-static DISASSEMBLE: Subcommand = Subcommand {
+pub(crate) static DISASSEMBLE: Subcommand = Subcommand {
     name: "disassemble",
     whole_name: "ibm1401 disassemble",
     about: "Lists the instructions and the data of a core image, or of what a deck loads",
     arguments: LISTING,
     ..PLAIN
 };
-
-/// A reference to it.
-pub(crate) fn disassemble() -> &'static Subcommand {
-    &DISASSEMBLE
-}
 
 /// Reads the command line, the program's own name in front.
 ///

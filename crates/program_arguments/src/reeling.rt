@@ -54,18 +54,13 @@ const ARGUMENTS: &[Argument] = &[
 ];
 
 /// The subcommand `reel`.
-static REEL: Subcommand = Subcommand {
+pub(crate) static REEL: Subcommand = Subcommand {
     name: "reel",
     whole_name: "ibm1401 reel",
     about: "Lists a reel of tape, a .tap file; makes a deck of a reel, and a reel of a deck",
     arguments: ARGUMENTS,
     ..PLAIN
 };
-
-/// A reference to it.
-pub(crate) fn reel() -> &'static Subcommand {
-    &REEL
-}
 
 /// What is done with the file if it is a deck or not, and these names are given.
 fn task_of(is_deck: bool, output: Option<String>, deck: Option<String>) -> ReelTask

@@ -87,18 +87,13 @@ const RUNNING: &[Argument] = &[
 ];
 
 /// The subcommand `run`.
-static RUN: Subcommand = Subcommand {
+pub(crate) static RUN: Subcommand = Subcommand {
     name: "run",
     whole_name: "ibm1401 run",
     about: "Runs a source or an image with a deck, from cards to paper",
     arguments: RUNNING,
     ..PLAIN
 };
-
-/// A reference to it.
-pub(crate) fn run() -> &'static Subcommand {
-    &RUN
-}
 
 /// The most instructions that the options of a subcommand name.
 pub(crate) fn limit_in(matches: &ArgMatches<'_>) -> u32

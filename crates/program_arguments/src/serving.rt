@@ -110,7 +110,7 @@ const ARGUMENTS: &[Argument] = &[
 ];
 
 /// The subcommand `serve`.
-static SERVE: Subcommand = Subcommand {
+pub(crate) static SERVE: Subcommand = Subcommand {
     name: "serve",
     whole_name: "ibm1401 serve",
     about: "Opens a machine to operators, each with a connection or a page of their own",
@@ -118,11 +118,6 @@ static SERVE: Subcommand = Subcommand {
     ports: Some(true),
     arguments: ARGUMENTS,
 };
-
-/// A reference to it.
-pub(crate) fn serve() -> &'static Subcommand {
-    &SERVE
-}
 
 /// The operators that the options name, if they name any.
 pub(crate) fn operators_in(matches: &ArgMatches<'_>) -> Option<Operators>

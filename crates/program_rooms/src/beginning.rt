@@ -58,16 +58,6 @@ pub(crate) enum Before<'a> {
     Journal(&'a Room),
 }
 
-impl<'a> Before<'a> {
-    /// Whether the machine has an image or cards when operators come, and not what others have left in it.
-    pub(crate) fn is_prepared(&self) -> bool {
-        match self {
-            Before::Program(program) => program.image.is_some() || !program.cards.is_empty(),
-            Before::Journal(_) => false,
-        }
-    }
-}
-
 /// Does what is done before operators come.
 ///
 /// # Errors

@@ -1,6 +1,6 @@
 //! The ports at which the operators of a room come.
 ghost use Rattle.std.specs.Prelude.{◌≡◌, ◌<◌, length, option_copied, IfOk};
-ghost use Rattle.program_rooms.specs.Pages.{ArePages, IsAtLoopback, IsOpenFor, IsOutsideAt, IsPageAt, IsPagePort};
+ghost use Rattle.program_rooms.specs.Pages.{ArePages, IsAtLoopback, IsOpenFor, IsPageAt, IsPagePort};
 
 use crate::HoldFault;
 use crate::fault::OpenFault;
@@ -75,25 +75,8 @@ pub(crate) fn open_entrances<R: AllocGlobal + Net<Listener = TcpListener, Stream
     Ok(entrances)
 }
 
-/// Where a proxy brings the page of the seat that is so many places after the first.
-fn outside_at(
-    alloc: Global,
-    origin: Option<&Origin>,
-    places: u8,
-) -> Result<Option<Origin>, OpenFault>
-    ensures { IfOk result (λ outside. IsOutsideAt (option_copied origin.entry) places outside) }
-{
-    let Some(origin) = origin else {
-        return Ok(None);
-    };
-    match origin_after(alloc, origin, places) {
-        Ok(Some(outside)) => Ok(Some(outside)),
-        Ok(None) => Err(OpenFault::Port),
-        Err(_) => Err(OpenFault::Hold(HoldFault::Memory)),
-    }
-}
-
-/// Where the page of the seat is that is so many places after the first; one beyond the last port is refused.
+/// Where the page of the seat is that is so many places after the first, and where a proxy brings it; one beyond the
+/// last port is refused.
 fn site_at(
     alloc: Global,
     first: u16,
@@ -105,9 +88,13 @@ fn site_at(
     let Some(port) = first.checked_add(u16::from(places)) else {
         return Err(OpenFault::Port);
     };
-    let outside = match outside_at(alloc, origin, places) {
-        Ok(outside) => outside,
-        Err(fault) => return Err(fault),
+    let outside = match origin {
+        None => None,
+        Some(origin) => match origin_after(alloc, origin, places) {
+            Ok(Some(outside)) => Some(outside),
+            Ok(None) => return Err(OpenFault::Port),
+            Err(_) => return Err(OpenFault::Hold(HoldFault::Memory)),
+        },
     };
     match Site::new(alloc, port, outside) {
         Ok(site) => Ok(site),

@@ -3,7 +3,7 @@ ghost use Rattle.std.specs.Prelude.{IfOk};
 ghost use Rattle.program_rooms.specs.Choosing.{HasChosen};
 
 use crate::journal_names::last_of;
-use crate::loading::{load_file, loaded_room, read_file};
+use crate::loading::{load, loaded_room, read_file};
 use crate::session_fault::{HoldFault, console_fault, ended};
 use bytes_streams::{FromReader, Sink, Source, ToWriter};
 use console_1401::put_features;
@@ -84,21 +84,6 @@ fn new_room(alloc: Global, size: u16, features: Features) -> Result<Room, HoldFa
     }
 }
 
-/// The room that a session begins with, whose journal is then kept in a new file.
-fn begun_room(
-    rt: &(impl Files<File = File> + AllocGlobal),
-    opening: Opening,
-) -> Result<Room, HoldFault> {
-    match opening {
-        Opening::PowerOn(size, features) => new_room(rt.alloc(), size, features),
-        Opening::Image(file, features) => match read_file(rt, file) {
-            Ok(text) => loaded_room(rt.alloc(), text.as_slice(), features),
-            Err(fault) => Err(fault),
-        },
-        Opening::Journal(asked) => read_chosen(rt, asked),
-    }
-}
-
 /// Holds a session of standard input and output at the console of a room that begins so. Its journal is kept in a new
 /// file, or in that of the journal that it begins with, if all commands of that were asked for; or it isn't kept.
 ///
@@ -123,10 +108,20 @@ pub fn hold_session<R: Files<File = File> + Input + Print + Eprint + AllocGlobal
     let mut writer = ToWriter::new(io::writer(rt));
     match journal {
         None => hold_unkept(rt, opening, &mut reader, &mut writer),
-        Some(journal) => match begun_room(rt, opening) {
-            Ok(room) => keep_in_new(rt, room, journal, &mut reader, &mut writer),
-            Err(fault) => Err(fault),
-        },
+        Some(journal) => {
+            let begun = match opening {
+                Opening::PowerOn(size, features) => new_room(rt.alloc(), size, features),
+                Opening::Image(file, features) => match read_file(rt, file) {
+                    Ok(text) => loaded_room(rt.alloc(), text.as_slice(), features),
+                    Err(fault) => Err(fault),
+                },
+                Opening::Journal(asked) => read_chosen(rt, asked),
+            };
+            match begun {
+                Ok(room) => keep_in_new(rt, room, journal, &mut reader, &mut writer),
+                Err(fault) => Err(fault),
+            }
+        }
     }
 }
 
@@ -139,9 +134,18 @@ fn hold_unkept<R: Source, W: Sink>(
 ) -> Result<(), HoldFault> {
     match opening {
         Opening::PowerOn(size, features) => {
-            hold_console(rt.alloc(), size, features, reader, writer)
+            if features == Features::NONE {
+                return console(rt.alloc(), size, reader, writer).map_err(console_fault);
+            }
+            match new_room(rt.alloc(), size, features) {
+                Ok(room) => look_at(rt.alloc(), room, reader, writer),
+                Err(fault) => Err(fault),
+            }
         }
-        Opening::Image(file, features) => load_file(rt, file, features, reader, writer),
+        Opening::Image(file, features) => match read_file(rt, file) {
+            Ok(text) => load(rt.alloc(), text.as_slice(), features, reader, writer),
+            Err(fault) => Err(fault),
+        },
         Opening::Journal(asked) => match asked.until {
             None => go_on(rt, asked.file, durability_of(asked.sync), reader, writer),
             Some(_) => match read_chosen(rt, asked) {
@@ -149,23 +153,6 @@ fn hold_unkept<R: Source, W: Sink>(
                 Err(fault) => Err(fault),
             },
         },
-    }
-}
-
-/// Holds a session at the console of a new room, whose machine has these features.
-fn hold_console<R: Source, W: Sink>(
-    alloc: Global,
-    size: u16,
-    features: Features,
-    reader: &mut R,
-    writer: &mut W,
-) -> Result<(), HoldFault> {
-    if features == Features::NONE {
-        return console(alloc, size, reader, writer).map_err(console_fault);
-    }
-    match new_room(alloc, size, features) {
-        Ok(room) => look_at(alloc, room, reader, writer),
-        Err(fault) => Err(fault),
     }
 }
 

@@ -30,24 +30,6 @@ pub fn read_file(rt: &(impl Files + AllocGlobal), name: String) -> Result<Vec<u8
     }
 }
 
-/// One session at the console of a machine with these features and the image of a file loaded.
-///
-/// # Errors
-///
-/// `Unread` if the file can't be read, and what `load` fails by.
-pub(crate) fn load_file<R: Source, W: Sink>(
-    rt: &(impl Files + AllocGlobal),
-    file: String,
-    features: Features,
-    reader: &mut R,
-    writer: &mut W,
-) -> Result<(), HoldFault> {
-    match read_file(rt, file) {
-        Ok(text) => load(rt.alloc(), text.as_slice(), features, reader, writer),
-        Err(fault) => Err(fault),
-    }
-}
-
 /// One session at the console of a new room whose machine has these features, and the image of this text loaded.
 ///
 /// # Errors

@@ -38,7 +38,8 @@ fn expect_seats(entries: &[Entry], least: u8, most: u8) -> Result<(), OpenFault>
     }
 }
 
-/// Opens a room whose seats give the commands of a journal again first, and those that follow it.
+/// Opens a room whose seats give the commands of a journal again first, and those that follow it. It goes on in the
+/// file of that journal, or begins with another journal than its own.
 pub(crate) fn resume_seats<
     R: Threads
         + Wait
@@ -62,43 +63,20 @@ pub(crate) fn resume_seats<
         Ok(asked) if journals.is_none() && asked.until.is_none() => {
             go_on(rt, asked.file, asked.sync, seats, minutes, entrances)
         }
-        Ok(asked) => begin_again(rt, asked, journals, seats, minutes, entrances),
+        Ok(asked) => match room_of(rt, asked, seats) {
+            Ok(room) => {
+                let rooms = Rooms {
+                    size: room.machine().core().size(),
+                    seats,
+                    before: fitted_alike(&room),
+                    journals,
+                    minutes,
+                };
+                serve_rooms(rt, &rooms, &Before::Journal(&room), entrances)
+            }
+            Err(fault) => Err(fault),
+        },
         Err(fault) => Err(not_kept(fault)),
-    }
-}
-
-/// Opens a room that begins with another journal than its own, and those that follow it.
-fn begin_again<
-    R: Threads
-        + Wait
-        + Sync
-        + Clock
-        + RandomSource
-        + Input<Reader = StdinLock<'static>>
-        + Print
-        + Eprint
-        + AllocGlobal
-        + Files<File = File>,
->(
-    rt: &R,
-    asked: Resuming,
-    journals: Option<NamedJournals<'_, R>>,
-    seats: u8,
-    minutes: Option<u16>,
-    entrances: &Entrances,
-) -> Result<(), OpenFault> {
-    match room_of(rt, asked, seats) {
-        Ok(room) => {
-            let rooms = Rooms {
-                size: room.machine().core().size(),
-                seats,
-                before: fitted_alike(&room),
-                journals,
-                minutes,
-            };
-            serve_rooms(rt, &rooms, &Before::Journal(&room), entrances)
-        }
-        Err(fault) => Err(fault),
     }
 }
 

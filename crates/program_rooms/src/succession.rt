@@ -61,7 +61,12 @@ pub(crate) struct Rooms<'a, M: Drop> {
 impl<'a, M: Drop> Rooms<'a, M> {
     /// What a room comes to that begins with this.
     fn watch(&self, before: &Before<'_>) -> Watch {
-        Watch::new(self.minutes, before.is_prepared())
+        // Whether the machine has an image or cards when operators come, and not what others have left in it.
+        let is_prepared = match before {
+            Before::Program(program) => program.image.is_some() || !program.cards.is_empty(),
+            Before::Journal(_) => false,
+        };
+        Watch::new(self.minutes, is_prepared)
     }
 }
 

@@ -122,7 +122,8 @@ where
     Ok(true)
 }
 
-/// Reads the request of a connection, has it answered, and sends the answer.
+/// Reads the request of a connection, has it answered, here if it is about the room and else at the page's seat, and
+/// sends the answer.
 fn attend_arrival<J, R>(
     page: &PageOfRoom<'_, J, R>,
     stream: &TcpStream,
@@ -145,7 +146,11 @@ where
         refuse(stream);
         return;
     }
-    let Some(answer) = answer_to(page, request, asked) else {
+    let answer = match page.answer(&request) {
+        Answered::Here(answer) => answer,
+        Answered::AtSeat => ask(rt, request, asked),
+    };
+    let Some(answer) = answer else {
         return;
     };
     let _open = crowd.go_on(rt, number, Stage::Writing);
@@ -154,18 +159,6 @@ where
     }
     let _open = crowd.go_on(rt, number, Stage::Lingering);
     linger(rt, stream);
-}
-
-/// The answer to a request: here if it is about the room, and else at the page's seat.
-fn answer_to<J: RoomId, R: Wait + Clock + AllocGlobal + RandomSource>(
-    page: &PageOfRoom<'_, J, R>,
-    request: WholeRequest,
-    asked: Sender<Asked>,
-) -> Option<Vec<u8>> {
-    match page.answer(&request) {
-        Answered::Here(answer) => answer,
-        Answered::AtSeat => ask(page.serving.rt, request, asked),
-    }
 }
 
 /// Has a request answered; there is no answer if the room is being closed, or if memory was refused.

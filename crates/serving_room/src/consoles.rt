@@ -1,6 +1,5 @@
 //! The consoles of a service: a connection has the lowest free seat, and a thread of its own.
-ghost use Rattle.std.specs.Prelude.{◌≡◌, ◌<◌, ◌≤◌};
-ghost use Rattle.serving_room.specs.Places.{IsAdmission};
+ghost use Rattle.std.specs.Prelude.{◌<◌, ◌≤◌};
 
 use crate::desk::Admission;
 use crate::service::SeatService;
@@ -9,7 +8,7 @@ use crate::while_open::WhileOpen;
 use bytes_descriptors::linger;
 use bytes_streams::{FromReader, ToWriter, put_all};
 use console_1401::{Door, ahead_of, attend};
-use room_1401::{Keeper, RoomId, Seat, SharedRoom};
+use room_1401::{Keeper, RoomId, SharedRoom};
 use std::alloc::Global;
 use std::net::{TcpListener, TcpStream};
 use std::sync::Wait;
@@ -50,18 +49,26 @@ where
         let Some(stream) = service.accept(rt, listener) else {
             return;
         };
-        match admit(rt, service) {
+        let admission = service.desk.lock(rt).admit();
+        match admission {
             Admission::Given(number) => {
                 let arrival = Arrival { stream, number };
                 start_console(scope, alloc, rt, room, service, arrival, door);
             }
-            Admission::Full => refuse(&stream),
+            Admission::Full => {
+                // The write doesn't wait for the peer.
+                if stream.set_nonblocking(true).is_ok() {
+                    let _sent = put_all(&mut ToWriter::new(&stream), b"FULL\n");
+                }
+            }
             Admission::Closing => return,
         }
     }
 }
 
-/// Attends the console of a connection at its seat.
+/// Attends the console of a connection at its seat until its input ends, or the service closes. Then the seat is put
+/// back, and the connection ended. The peer sees its end only when the seat is free; but if many connections are ending,
+/// the seat is kept as long as this one is.
 fn attend_connection<J: RoomId, H: Wait + Drop, K: Keeper + Drop, R: Wait + Clock, D: Door>(
     alloc: Global,
     rt: &R,
@@ -75,44 +82,20 @@ fn attend_connection<J: RoomId, H: Wait + Drop, K: Keeper + Drop, R: Wait + Cloc
     let Some(seat) = service.desk.lock(rt).take_seat(arrival.number) else {
         return;
     };
-    let seat = attend_stream(alloc, rt, room, service, seat, &arrival.stream, door);
-    end_connection(rt, service, seat, &arrival.stream);
-}
+    let stream = &arrival.stream;
 
-/// Attends the console of a stream until its input ends, or the service closes.
-fn attend_stream<J: RoomId, H: Wait + Drop, K: Keeper + Drop, R: Wait, D: Door>(
-    alloc: Global,
-    rt: &R,
-    room: &SharedRoom<J, H, K>,
-    service: &SeatService<J>,
-    seat: Seat<J>,
-    stream: &TcpStream,
-    door: &D,
-) -> Seat<J>
-    ensures { result.number ≡ seat.number }
-{
     // Replies are sent at once. If the system refuses this, they only come later.
     let _sent_at_once = stream.set_nodelay(true);
-    let Ok(open) = WhileOpen::new(stream, &service.is_closing, &service.is_over) else {
-        return seat;
+    let seat = match WhileOpen::new(stream, &service.is_closing, &service.is_over) {
+        Ok(open) => {
+            let source = FromReader::new(ahead_of(alloc, open));
+            let mut reader = UntilClosing::new(source, &service.is_closing);
+            let mut writer = ToWriter::new(open);
+            let (seat, _) = attend(alloc, rt, room, seat, &mut reader, &mut writer, door);
+            seat
+        }
+        Err(_) => seat,
     };
-    let source = FromReader::new(ahead_of(alloc, open));
-    let mut reader = UntilClosing::new(source, &service.is_closing);
-    let mut writer = ToWriter::new(open);
-    let (seat, _) = attend(alloc, rt, room, seat, &mut reader, &mut writer, door);
-    seat
-}
-
-/// Puts the seat of a connection back, and ends the connection. The peer sees its end only when the seat is free; but
-/// if many connections are ending, the seat is kept as long as this one is.
-fn end_connection<J: RoomId, R: Wait + Clock>(
-    rt: &R,
-    service: &SeatService<J>,
-    seat: Seat<J>,
-    stream: &TcpStream,
-)
-    requires { (0 < seat.number) × (seat.number ≤ J.seats) }
-{
     let are_many = service.ending.fetch_add(1, SeqCst) >= MOST_ENDING;
     if are_many {
         linger(rt, stream);
@@ -122,13 +105,6 @@ fn end_connection<J: RoomId, R: Wait + Clock>(
         linger(rt, stream);
     }
     service.ending.fetch_sub(1, SeqCst);
-}
-
-/// Gives a connection the lowest free seat, unless the room is being closed.
-fn admit<J: RoomId, R: Wait>(rt: &R, service: &SeatService<J>) -> Admission
-    ensures { IsAdmission J.seats result }
-{
-    service.desk.lock(rt).admit()
 }
 
 /// Starts the thread of a connection's console; if it is refused, the seat is free again.
@@ -157,12 +133,5 @@ where
     );
     if started.is_err() {
         service.desk.lock(rt).go_without_thread(number);
-    }
-}
-
-/// Tells a connection that no seat is free. The write doesn't wait for the peer.
-fn refuse(stream: &TcpStream) {
-    if stream.set_nonblocking(true).is_ok() {
-        let _told = put_all(&mut ToWriter::new(stream), b"FULL\n");
     }
 }

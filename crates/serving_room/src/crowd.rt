@@ -33,18 +33,6 @@ pub(crate) enum Stage {
     Lingering,
 }
 
-impl Stage {
-    /// Whether nothing is lost if the connection is closed.
-    fn is_idle(self) -> bool {
-        match self {
-            Stage::Reading => true,
-            Stage::Asking => false,
-            Stage::Writing => false,
-            Stage::Lingering => true,
-        }
-    }
-}
-
 /// A connection that has a thread.
 #[derive(Drop)]
 struct Visitor {
@@ -58,20 +46,16 @@ struct Visitor {
 }
 
 impl Visitor {
-    /// Whether it has had the time that a request takes to come, if a time is said.
-    fn is_old(&self, now: Option<Instant>) -> bool {
-        match (self.since, now) {
+    /// Whether it may be closed for another one. It has had the time that a request takes to come, if a time is said; and
+    /// nothing that it has sent waits to be read, or else its thread may just not have run yet.
+    fn may_go(&self, now: Option<Instant>) -> bool {
+        let is_unread = self.stage == Stage::Reading && has_unread(&self.stream);
+        let is_old = match (self.since, now) {
             (Some(since), Some(now)) => now.saturating_duration_since(since)
                 >= Duration::from_millis(GRACE),
             _ => true,
-        }
-    }
-
-    /// Whether it may be closed for another one. It has had its time; and nothing that it has sent waits to be read, or
-    /// else its thread may just not have run yet.
-    fn may_go(&self, now: Option<Instant>) -> bool {
-        let is_unread = self.stage == Stage::Reading && has_unread(&self.stream);
-        self.is_old(now) && !is_unread
+        };
+        is_old && !is_unread
     }
 
     /// Closes the connection, so that its thread waits no more. One whose request comes is closed for reading alone: if
@@ -126,7 +110,8 @@ impl Crowd {
             .is_ok()
     }
 
-    /// Waits until a place is free, for which a connection is closed, and looks so many times.
+    /// Waits until a place is free, for which a connection is closed, and looks so many times. It is the oldest whose
+    /// answer was sent; or else the oldest whose request comes, or whose answer is being sent, if it has had some time.
     fn wait_for_place<R: Wait + Clock>(
         &self,
         rt: &R,
@@ -137,7 +122,11 @@ impl Crowd {
             if visitors.len() < MOST_INSIDE {
                 return Some(visitors);
             }
-            if close_oldest(&mut visitors, Instant::now(rt).ok()) {
+            let now = Instant::now(rt).ok();
+            if close_first(&mut visitors, Stage::Lingering, None)
+                || close_first(&mut visitors, Stage::Reading, now)
+                || close_first(&mut visitors, Stage::Writing, now)
+            {
                 return Some(
                     self.left
                         .wait_while(rt, visitors, |visitors| visitors.len() >= MOST_INSIDE),
@@ -172,19 +161,12 @@ impl Crowd {
     pub(crate) fn close_idle<R: Wait>(&self, rt: &R) {
         let mut visitors = self.visitors.lock(rt);
         for visitor in visitors.iter_mut() {
-            if visitor.stage.is_idle() {
-                visitor.close();
+            match visitor.stage {
+                Stage::Reading | Stage::Lingering => visitor.close(),
+                Stage::Asking | Stage::Writing => {}
             }
         }
     }
-}
-
-/// Closes the oldest connection whose answer was sent; or else the oldest whose request comes, or whose answer is being
-/// sent, if it has had some time. Returns whether there was one.
-fn close_oldest(visitors: &mut [Visitor], now: Option<Instant>) -> bool {
-    close_first(visitors, Stage::Lingering, None)
-        || close_first(visitors, Stage::Reading, now)
-        || close_first(visitors, Stage::Writing, now)
 }
 
 /// Closes the first connection at a stage, if it is old enough by then, and returns whether there was one.

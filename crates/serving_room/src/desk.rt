@@ -5,7 +5,7 @@ ghost use Rattle.std.specs.List.{list_all};
 ghost use Rattle.console_1401.specs.Served.{AreAllSeats, numbers_of};
 ghost use Rattle.serving_room.specs.declared.fault.SeatsFault.TheVariants.{Thread};
 ghost use Rattle.serving_room.specs.Places.{AreBack, IsAdmission, IsOneMissing, admission_at, after_admission};
-ghost use Rattle.serving_room.specs.Places.{after_input, closed, free_place, free_seat, given, has_seat};
+ghost use Rattle.serving_room.specs.Places.{closed, free_place, free_seat, given, has_seat};
 ghost use Rattle.serving_room.specs.Places.{lowest_free as lowest_free_in, noted, numbers_in, place_at, taken_back};
 ghost use Rattle.serving_room.specs.Places.{taken_in};
 ghost use Rattle.serving_room.specs.Places.{with_place, with_seat, without_free_seat, without_seat};
@@ -199,18 +199,11 @@ impl<J: RoomId> Desk<J> {
     pub(crate) fn close(&mut self, end: InputEnd)
         ensures { self.new ≡ closed end self.old }
     {
-        self.note_input(end);
-        self.is_closing = true;
-    }
-
-    /// Notes how the input ended that closes the room.
-    fn note_input(&mut self, end: InputEnd)
-        ensures { self.new ≡ after_input end self.old }
-    {
         match end {
             InputEnd::Quit | InputEnd::End => {}
             InputEnd::Failed => self.note(SeatsFault::Input),
         }
+        self.is_closing = true;
     }
 
     /// All seats, if they are back, and what went wrong first.

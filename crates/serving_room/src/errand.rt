@@ -1,7 +1,7 @@
 //! What a request about a room comes to: it is about a new room, or about a hold of the machine.
 ghost use Rattle.std.specs.Prelude.{◌≡◌};
 ghost use Rattle.http.specs.Request.{head_of};
-ghost use Rattle.serving_room.specs.Errands.{about_hold, about_renewal, brings_lines, errand_of, for_page, posted};
+ghost use Rattle.serving_room.specs.Errands.{about_renewal, brings_lines, errand_of, for_page, posted};
 
 use crate::hold::{Hold, is_kept_off};
 use bytes::Bytes;
@@ -90,16 +90,6 @@ fn about_renewal(
     posted(request, site, name, errand)
 }
 
-/// What a request about the hold comes to.
-fn about_hold(request: &Request<Bytes>, site: &Site, name: &[u8]) -> Errand
-    ensures { result ≡ about_hold (head_of request.now) site.now name.now }
-{
-    if request.method().as_str() == "GET" {
-        return Errand::LookForHold;
-    }
-    posted(request, site, name, Errand::TakeHold)
-}
-
 /// What a request about the room comes to: it has to be for this site, and to say nothing twice.
 fn for_page(request: &Request<Bytes>, site: &Site, errand: Errand) -> Errand
     ensures { result ≡ for_page (head_of request.now) site.now errand }
@@ -127,7 +117,11 @@ pub(crate) fn errand_of(
     let errand = if path == "/renewal" {
         about_renewal(request, site, name, seat, hold)
     } else if path == "/hold" {
-        about_hold(request, site, name)
+        if request.method().as_str() == "GET" {
+            Errand::LookForHold
+        } else {
+            posted(request, site, name, Errand::TakeHold)
+        }
     } else if path == "/release" {
         posted(request, site, name, Errand::EndHold)
     } else if is_kept_off(hold, seat) && brings_lines(route_of(request.method().as_str(), path)) {

@@ -1,7 +1,7 @@
 //! The text that says who holds a machine, what was last done at it, who sits where, and how its room was begun.
 ghost use Rattle.std.specs.Prelude.{◌≡◌, IfOk};
 ghost use Rattle.bytes_text.specs.Written.{Adds};
-ghost use Rattle.serving_room.specs.Holds.{beginning_line, hold_line, last_line, numbers_text, taken_line};
+ghost use Rattle.serving_room.specs.Holds.{hold_line, last_line, numbers_text, taken_line};
 ghost use Rattle.serving_room.specs.Errands.{said_of};
 
 use crate::hold::{Hold, seconds_held};
@@ -67,17 +67,6 @@ fn put_taken(text: &mut Text, taken: &[u8])
     text.put(b"\n");
 }
 
-/// Adds the line that says whether the room was begun with an image or with cards.
-fn put_beginning(text: &mut Text, is_prepared: bool)
-    ensures { Adds text.old text.new (beginning_line is_prepared) }
-{
-    if is_prepared {
-        text.put(b"BEGAN PREPARED\n");
-    } else {
-        text.put(b"BEGAN PLAIN\n");
-    }
-}
-
 /// Who holds the machine, what was last done at it, at which seats somebody sits, and how the room was begun.
 ///
 /// # Errors
@@ -94,6 +83,10 @@ pub(crate) fn hold_text(
     put_hold(&mut text, room.hold, room.time);
     put_last(&mut text, room.last);
     put_taken(&mut text, taken);
-    put_beginning(&mut text, room.is_prepared);
+    if room.is_prepared {
+        text.put(b"BEGAN PREPARED\n");
+    } else {
+        text.put(b"BEGAN PLAIN\n");
+    }
     text.into_bytes()
 }

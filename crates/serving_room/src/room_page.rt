@@ -34,23 +34,16 @@ pub(crate) struct RoomPage<'a> {
 }
 
 impl RoomPage<'_> {
-    /// The text that says in how many seconds a new room follows, if that is known.
-    fn renewal_text(&self, left: Option<u64>) -> Result<String, AllocError> {
-        if !self.renews {
-            return format!(in self.alloc; "RENEWAL OFF\n");
-        }
-        match left {
-            None => format!(in self.alloc; "RENEWAL ON\n"),
-            Some(left) => format!(in self.alloc; "RENEWAL IN {left}\n"),
-        }
-    }
-
     /// Answers in how many seconds a new room follows, if that is known.
     fn put_renewal(&self, left: Option<u64>, response: &mut Response) -> Result<(), AllocError>
         requires { IsBlank response.old }
         ensures { OnOk result ((text : List ℕ) × IsText text response.new) }
     {
-        let text = self.renewal_text(left)?;
+        let text = match left {
+            _ if !self.renews => format!(in self.alloc; "RENEWAL OFF\n"),
+            None => format!(in self.alloc; "RENEWAL ON\n"),
+            Some(left) => format!(in self.alloc; "RENEWAL IN {left}\n"),
+        }?;
         begin_text(response)?;
         end_with(response, text.as_str().as_bytes());
         Ok(())

@@ -87,11 +87,13 @@ impl<'a, J: RoomId, R: Wait + Clock + AllocGlobal + RandomSource> PageOfRoom<'a,
     {
         let rt = self.serving.rt;
         let watch = self.serving.watch;
+        let time = rt.monotonic().ok()?.as_secs();
+        let last = *watch.last_given.lock(rt);
         Some(RoomState {
             seat: self.port.seat,
-            time: rt.monotonic().ok()?.as_secs(),
-            last: watch.last(rt),
-            is_prepared: watch.is_prepared(),
+            time,
+            last,
+            is_prepared: watch.is_prepared,
             hold,
             asks: false,
             passes: false,

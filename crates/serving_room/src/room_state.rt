@@ -2,7 +2,7 @@
 ghost use Rattle.std.specs.Prelude.{◌≡◌, ◌-◌, ◌≤◌, IfSome};
 ghost use Rattle.http.specs.Request.{head_of};
 ghost use Rattle.serving_http.specs.Visiting.{is_visit};
-ghost use Rattle.serving_room.specs.Errands.{after_errand, errand_in, held_off, seen_at, with_hold};
+ghost use Rattle.serving_room.specs.Errands.{after_errand, errand_in, held_off, seen_at};
 
 use crate::errand::{Errand, errand_of};
 use crate::hold::{Hold, ended_by, going_on, held_by, is_kept_off, seen_by};
@@ -30,21 +30,6 @@ pub(crate) struct RoomState {
     pub passes: bool,
 }
 
-/// The same with another hold.
-fn with_hold(room: &RoomState, hold: Option<Hold>) -> RoomState
-    ensures { result ≡ with_hold room.now hold }
-{
-    RoomState {
-        seat: room.seat,
-        time: room.time,
-        last: room.last,
-        is_prepared: room.is_prepared,
-        hold,
-        asks: room.asks,
-        passes: room.passes,
-    }
-}
-
 /// The room when a request has come: a hold that is over has ended, and one of the page has seen it, if the request is a
 /// visit.
 fn seen_at(room: &RoomState, visit: bool) -> RoomState
@@ -53,12 +38,12 @@ fn seen_at(room: &RoomState, visit: bool) -> RoomState
     // No hold outlasts 60 seconds.
     ensures ends { IfSome result.hold (λ hold. (hold.since ≤ room.now.time) × (room.now.time - hold.since ≤ 59)) }
 {
-    let hold = going_on(room.hold, room.time);
+    let mut seen = *room;
+    seen.hold = going_on(room.hold, room.time);
     if visit {
-        with_hold(room, seen_by(hold, room.seat, room.time))
-    } else {
-        with_hold(room, hold)
+        seen.hold = seen_by(seen.hold, room.seat, room.time);
     }
+    seen
 }
 
 /// The room after what a request comes to.

@@ -34,7 +34,7 @@ pub(crate) struct SeatService<J: RoomId> {
     // Whether it has been so for a second.
     pub(crate) is_over: AtomicBool,
     // Whether a port was closed, since no connection could be accepted there.
-    has_closed_port: AtomicBool,
+    pub(crate) has_closed_port: AtomicBool,
     // How many connections of consoles are ending.
     pub(crate) ending: AtomicU64,
     pub(crate) desk: Mutex<Desk<J>>,
@@ -118,11 +118,6 @@ impl<J: RoomId> SeatService<J> {
     pub(crate) fn give_up<R: Wait>(&self, rt: &R, listener: &TcpListener, fault: SeatsFault) {
         shut_down(listener);
         self.note(rt, fault);
-    }
-
-    /// Whether a port was closed, since no connection could be accepted there.
-    pub(crate) fn has_closed_port(&self) -> bool {
-        self.has_closed_port.load(SeqCst)
     }
 
     /// Takes the seat of a number for its page, if the seat is there and no console sits at it.

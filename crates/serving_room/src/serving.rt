@@ -20,6 +20,7 @@ use room_1401::{Keeper, Room, RoomId, Seat, SharedRoom};
 use std::alloc::AllocGlobal;
 use std::random::RandomSource;
 use std::sync::Wait;
+use std::sync::atomic::Ordering::SeqCst;
 use std::thread;
 use std::thread::{Scope, Threads};
 use std::time::{Clock, Duration};
@@ -224,11 +225,11 @@ fn report_troubles<J: RoomId, R: Wait + Clock + Eprint>(serving: &Serving<'_, J,
     let mut is_port_told = false;
     let mut is_loss_told = false;
     for _ in rt.forever() {
-        if !is_port_told && service.has_closed_port() {
+        if !is_port_told && service.has_closed_port.load(SeqCst) {
             is_port_told = true;
             let _reported = eprintln!(rt; "ibm1401: a port was closed; the room goes on");
         }
-        if !is_loss_told && serving.watch.has_lost() {
+        if !is_loss_told && serving.watch.has_lost.load(SeqCst) {
             is_loss_told = true;
             let _reported = eprintln!(rt;
                 "ibm1401: the journal cannot be written; no command is carried out any more"

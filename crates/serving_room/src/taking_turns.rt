@@ -60,17 +60,14 @@ impl<'r, R: Clock> TakingTurns<'r, R> {
         Some(nanos.max(1))
     }
 
-    /// Whether a line that was begun by then isn't answered yet, and may be waiting for the machine.
-    fn is_asked(&self, then: u64) -> bool {
-        self.begun
-            .iter()
-            .any(|begun| waits(begun.load(SeqCst), then))
-    }
-
-    /// Sleeps until those have had their turn who wait for the machine since then.
+    /// Sleeps until no line waits for the machine that was begun by then.
     fn let_others_go(&self, then: u64) {
         for _ in 0..NAPS {
-            if !self.is_asked(then) {
+            if !self
+                .begun
+                .iter()
+                .any(|begun| waits(begun.load(SeqCst), then))
+            {
                 return;
             }
             thread::sleep(self.clock, Duration::from_micros(NAP));

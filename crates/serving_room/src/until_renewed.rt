@@ -11,36 +11,6 @@ const STANDARD_INPUT: i32 = 0;
 /// After how long it looks again whether the room's time is up, in milliseconds.
 const LOOK: i32 = 100;
 
-/// What comes from standard input.
-enum Typed {
-    /// A byte.
-    Byte(u8),
-    /// Nothing so far.
-    Nothing,
-    /// Its end.
-    End,
-    /// A read failed.
-    Failed,
-}
-
-/// Waits a little for a byte of standard input.
-fn await_typed() -> Typed {
-    let mut waits = [libc::types::pollfd {
-        fd: STANDARD_INPUT,
-        events: libc::net::POLLIN,
-        revents: 0,
-    }];
-    if libc::net::poll(&mut waits, LOOK) < 1 {
-        return Typed::Nothing;
-    }
-    let mut byte = [0u8];
-    match libc::read(STANDARD_INPUT, &mut byte) {
-        1 => Typed::Byte(byte[0]),
-        0 => Typed::End,
-        _ => Typed::Failed,
-    }
-}
-
 /// The bytes of standard input until the room's time is up, and then the end. Nothing is read ahead, so the room that
 /// follows reads on from there.
 #[derive(Drop)]
@@ -76,13 +46,17 @@ impl<R: Clock> Source for UntilRenewed<'_, R> {
             if self.watch.is_up(self.clock) {
                 return Ok(None);
             }
-            match await_typed() {
-                Typed::Byte(byte) => return Ok(Some(byte)),
-                Typed::Nothing => {}
-                Typed::End => return Ok(None),
-                Typed::Failed => {
-                    self.failed = true;
-                    return Err(Failed);
+            let mut waits = [libc::types::pollfd {
+                fd: STANDARD_INPUT,
+                events: libc::net::POLLIN,
+                revents: 0,
+            }];
+            if libc::net::poll(&mut waits, LOOK) > 0 {
+                let mut byte = [0u8];
+                match libc::read(STANDARD_INPUT, &mut byte) {
+                    1 => return Ok(Some(byte[0])),
+                    0 => return Ok(None),
+                    _ => break,
                 }
             }
         }

@@ -21,12 +21,12 @@ pub struct Watch {
     // After how many seconds without a command a new room follows; without a value none does.
     idle: Option<u64>,
     // The room was begun with an image or with cards.
-    is_prepared: bool,
+    pub(crate) is_prepared: bool,
     // How many entries the journal has, and how many it had when operators came.
     entries: AtomicU64,
     before: AtomicU64,
     // The last command, and the seat that gave it.
-    last_given: Mutex<Option<Last>>,
+    pub(crate) last_given: Mutex<Option<Last>>,
     // When the last command was given, and when a notice ends, in seconds of the clock; 0 without one.
     last: AtomicU64,
     ends: AtomicU64,
@@ -34,7 +34,7 @@ pub struct Watch {
     // The room ends, or has ended, for a new one.
     is_over: AtomicBool,
     // An entry wasn't kept.
-    has_lost: AtomicBool,
+    pub(crate) has_lost: AtomicBool,
 }
 
 /// How many seconds a room still has, if a new one follows it then: none if one was asked for, or if some commands were
@@ -83,11 +83,6 @@ impl Watch {
         self.idle.is_some()
     }
 
-    /// Whether the room was begun with an image or with cards.
-    pub(crate) fn is_prepared(&self) -> bool {
-        self.is_prepared
-    }
-
     /// Notes that operators come: what was given before isn't theirs.
     pub fn open(&self) {
         self.before.store(self.entries.load(SeqCst), SeqCst);
@@ -108,33 +103,9 @@ impl Watch {
         }
     }
 
-    /// The last command, with the seat that gave it.
-    pub(crate) fn last<R: Wait>(&self, rt: &R) -> Option<Last> {
-        *self.last_given.lock(rt)
-    }
-
-    /// Whether an entry wasn't kept.
-    pub(crate) fn has_lost(&self) -> bool {
-        self.has_lost.load(SeqCst)
-    }
-
     /// Asks for a new room.
     pub(crate) fn ask(&self) {
         self.is_asked.store(true, SeqCst);
-    }
-
-    /// How many seconds of the notice are left, if there is one.
-    fn notice_left(&self, now: u64) -> Option<u64> {
-        match self.ends.load(SeqCst) {
-            0 => None,
-            ends => Some(ends.saturating_sub(now)),
-        }
-    }
-
-    /// How many of the commands were given since operators came.
-    fn given(&self) -> u64 {
-        let before = self.before.load(SeqCst);
-        self.entries.load(SeqCst).saturating_sub(before)
     }
 
     /// How many seconds the room still has, if it is known by now that a new one follows it.
@@ -143,7 +114,15 @@ impl Watch {
         let now = now(clock);
         let since = now.saturating_sub(self.last.load(SeqCst));
         let asked = self.is_asked.load(SeqCst);
-        seconds_left(asked, self.given(), since, idle, self.notice_left(now))
+
+        // What was given before operators came isn't theirs.
+        let before = self.before.load(SeqCst);
+        let given = self.entries.load(SeqCst).saturating_sub(before);
+        let notice = match self.ends.load(SeqCst) {
+            0 => None,
+            ends => Some(ends.saturating_sub(now)),
+        };
+        seconds_left(asked, given, since, idle, notice)
     }
 
     /// Whether the room's time is up, which is noted.
