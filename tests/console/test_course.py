@@ -477,7 +477,7 @@ class Teaching(CourseTest):
             self.same(f"{name}: printed", printed, wanted)
 
     def test_the_lessons_of_the_page(self):
-        """It has the decks and the sources, the lines that load them, and their steps in each language."""
+        """It has the decks and the listings, the lines that load them, and their steps in each language."""
         script = (TOP / "page/script/lessons.js").read_text()
         loaded = re.findall(r"^\| \d \| `RUN (\d+)` \|", self.page, re.MULTILINE)
         self.same("the lines", re.search(r"LESSON_STEPS = \[(.*)\]", script)[1].split(", "), loaded)
@@ -489,7 +489,8 @@ class Teaching(CourseTest):
             found = [[re.sub(r"~([D-Z])", lambda blanks: " " * (ord(blanks[1]) - 65), text) for text in texts]
                      for texts in ([programs[f"lesson{number}"]["source"]], programs[f"lesson{number}"]["cards"])]
             cards = [card.rstrip() for card in (lesson / "broken.deck").read_text().splitlines()]
-            self.same(lesson.name, found, [[(lesson / "broken.source").read_text()], cards])
+            listed = program("assemble", "--language", "ibm", "--list", lesson / "broken.source").stdout.decode()
+            self.same(lesson.name, found, [["".join(f"{line[5:]}\n" for line in listed.splitlines())], cards])
 
     def test_a_class_takes_turns(self):
         """Each seat holds the machine for its deck, and takes the paper; the journal says who did what."""
